@@ -1,0 +1,4 @@
+mod Counts
+mod Cuts
+mod Prefixes
+mod Asked

@@ -1,0 +1,4 @@
+pub mod Words
+pub mod Condition
+pub mod Refusal
+pub mod AxesRun

@@ -1,0 +1,94 @@
+//! Why a command was refused.
+
+ghost use Rattle.std.specs.Prelude.{◌≡◌, IfOk, string_bytes};
+ghost use Rattle.fisca.specs.Refusal.{number_of, status_of, reason_of, line_of};
+
+use fisca_grid::{AxesFault, RunFault};
+use std::alloc::{AllocError, Global};
+use std::convert::Infallible;
+use thiserror::Error;
+
+/// Why a command was refused, by the stage that refused it.
+#[derive(Clone, Copy, Debug, PartialEq, Eq, Error)]
+#[error("{}", self.reason())]
+pub enum Refusal {
+    /// 6: the axes make no grid.
+    Axes(AxesFault),
+    /// 7: a word describes no axis.
+    BadWord,
+    /// 8: a text states no condition on an axis.
+    BadCondition,
+    /// 9: the run stopped. The rows of axes are never faults.
+    Run(RunFault<Infallible>),
+    /// 12: memory was refused outside the run.
+    Memory,
+}
+
+impl From<AllocError> for Refusal {
+    ghost use Rattle.fisca.specs.declared.refusal.Refusal.TheVariants.{Memory};
+
+    ghost from_gives = { λ _ refusal. refusal ≡ Memory };
+
+    fn from(_error: AllocError) -> Refusal {
+        Refusal::Memory
+    }
+}
+
+impl Refusal {
+    /// The number of the refusal's stage, from 1 to 13.
+    pub fn number(&self) -> u8
+        ensures { result ≡ number_of self.now }
+    {
+        match self {
+            Refusal::Axes(_) => 6,
+            Refusal::BadWord => 7,
+            Refusal::BadCondition => 8,
+            Refusal::Run(_) => 9,
+            Refusal::Memory => 12,
+        }
+    }
+
+    /// The exit status of the program: 3 where a word, the axes, the condition or the position is refused, 4 after an
+    /// evaluation fault, 5 after a failed write, 6 for want of memory.
+    pub fn status(&self) -> u8
+        ensures { result ≡ status_of self.now }
+    {
+        match self {
+            Refusal::Axes(AxesFault::Memory) => 6,
+            Refusal::Axes(_) | Refusal::BadWord | Refusal::BadCondition => 3,
+            Refusal::Run(RunFault::BadPosition) => 3,
+            Refusal::Run(RunFault::Eval { .. }) => 4,
+            Refusal::Run(RunFault::Write { .. }) => 5,
+            Refusal::Run(RunFault::Memory { .. }) => 6,
+            Refusal::Memory => 6,
+        }
+    }
+
+    /// What the line on standard error says behind the program's name.
+    pub fn reason(&self) -> &'static str
+        ensures { result.now ≡ reason_of self.now }
+    {
+        match self {
+            Refusal::Axes(AxesFault::Memory) => "out of memory",
+            Refusal::Axes(fault) => fault.name(),
+            Refusal::BadWord => "BadWord",
+            Refusal::BadCondition => "BadCondition",
+            Refusal::Run(RunFault::BadPosition) => "BadPosition",
+            Refusal::Run(RunFault::Eval { fault, .. }) => match *fault {},
+            Refusal::Run(RunFault::Write { .. }) => "write failed",
+            Refusal::Run(RunFault::Memory { .. }) => "out of memory",
+            Refusal::Memory => "out of memory",
+        }
+    }
+
+    /// The line on standard error, without its line feed. `path` names the run or test file; no refusal of `axes`
+    /// speaks of one. Memory is its only error.
+    pub fn line(&self, alloc: Global, _path: &str) -> Result<String, AllocError>
+        ensures { IfOk result (λ line. string_bytes line ≡ line_of self.now) }
+    {
+        let mut line = String::new(alloc);
+        line.push_str("fisca: ")?;
+        line.push_str(self.reason())?;
+        Ok(line)
+    }
+}

@@ -1,0 +1,10 @@
+pub mod Grown
+pub mod Walk
+pub mod Progress
+pub mod Worked
+pub mod Remaining
+pub mod Rising
+pub mod Integers
+pub mod Steps
+pub mod Groups
+pub mod Positions

@@ -1,0 +1,10 @@
+-- The plain names of the faults of axes.
+use Rattle.std.specs.Prelude.{ℕ, List, codes}
+use Rattle.fisca_grid.specs.declared.axes.AxesFault.{AxesFault}
+use Rattle.fisca_grid.specs.declared.axes.AxesFault.TheVariants.{NoAxes, BadCount, BadBound, Memory}
+
+abbrev pub name_of : AxesFault → List ℕ
+name_of NoAxes = codes "NoAxes"
+name_of BadCount = codes "BadCount"
+name_of BadBound = codes "BadBound"
+name_of Memory = codes "Memory"

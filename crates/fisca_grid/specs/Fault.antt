@@ -1,0 +1,11 @@
+-- The names of the faults of a run.
+use Rattle.std.specs.Prelude.{ℕ, List, codes}
+use Rattle.fisca_grid.specs.declared.fault.RunFault.{RunFault}
+use Rattle.fisca_grid.specs.declared.fault.RunFault.TheVariants as fault
+
+-- the plain name of a fault
+abbrev pub name_of : {F : Type 0} → RunFault F → List ℕ
+name_of fault.BadPosition = codes "BadPosition"
+name_of (fault.Eval position x) = codes "Eval"
+name_of (fault.Write position) = codes "Write"
+name_of (fault.Memory position) = codes "Memory"

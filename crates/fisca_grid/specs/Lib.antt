@@ -1,0 +1,8 @@
+pub mod Row
+pub mod Lines
+pub mod Sink
+pub mod Run
+pub mod Continued
+pub mod Fault
+pub mod Axes
+pub mod AxesFault

@@ -1,0 +1,241 @@
+//! The axes of a grid.
+
+ghost use Rattle.std.specs.Prelude.{◌≡◌, ◌≢◌, ℕ, [], ◌∷◌, ◌≤◌, ◌<◌, ◌*◌, ◌+◌, ◌^◌, ◌+ℤ◌, ◌-ℤ◌, ◌*ℤ◌, pos, unsigned_abs, length, sum, IfOk, IfErr, IfSome, Some, None, Ok, true, slice_get};
+ghost use Rattle.std.specs.Option.{ForSome};
+ghost use Rattle.fisca_num.specs.Operations.{number_of};
+ghost use Rattle.fisca_grid.specs.Axes.{axes_fault, axis_fault, is_bound, step_of, size_of, IsLine};
+
+use fisca_num::Fraction;
+use std::alloc::{AllocError, AllocFailed, Global};
+use std::marker::Model;
+use thiserror::Error;
+
+/// An axis as it is asked for: so many values, from `min` to `max` in equal steps.
+#[derive(Clone, Copy, Debug, PartialEq, Eq)]
+pub struct AxisSpec {
+    /// The number of values, 1 to 1,048,576.
+    pub count: u64,
+    /// The first value, of size at most 10^9 with at most three decimals.
+    pub min: Fraction,
+    /// The last value, with the same limits.
+    pub max: Fraction,
+}
+
+/// Why axes make no grid. This project's own limits.
+#[derive(Clone, Copy, Debug, PartialEq, Eq, Error)]
+#[error("{}", self.name())]
+pub enum AxesFault {
+    /// 1: there is no axis, or a group has none.
+    NoAxes = 1,
+    /// 3: a count is outside 1 to 1,048,576.
+    BadCount = 3,
+    /// 9: a bound's size is above 10^9, or it has more than three decimals.
+    BadBound = 9,
+    /// 10: memory was refused.
+    Memory = 10,
+}
+
+impl AxesFault {
+    ghost use Rattle.fisca_grid.specs.AxesFault.{name_of};
+
+    /// The plain name of the fault, as `BadCount`.
+    pub fn name(self) -> &'static str
+        ensures { result.now ≡ name_of self }
+    {
+        match self {
+            AxesFault::NoAxes => "NoAxes",
+            AxesFault::BadCount => "BadCount",
+            AxesFault::BadBound => "BadBound",
+            AxesFault::Memory => "Memory",
+        }
+    }
+}
+
+impl From<AllocError> for AxesFault {
+    ghost use Rattle.fisca_grid.specs.declared.axes.AxesFault.TheVariants.{Memory};
+
+    ghost from_gives = { λ _ fault. fault ≡ Memory };
+
+    fn from(_error: AllocError) -> AxesFault {
+        AxesFault::Memory
+    }
+}
+
+impl<T: Drop> From<AllocFailed<T>> for AxesFault {
+    ghost use Rattle.fisca_grid.specs.declared.axes.AxesFault.TheVariants.{Memory};
+
+    ghost from_gives = { λ _ fault. fault ≡ Memory };
+
+    fn from(_error: AllocFailed<T>) -> AxesFault {
+        AxesFault::Memory
+    }
+}
+
+/// Whether a bound has a size of at most 10^9 and at most three decimals.
+fn is_bound(bound: Fraction) -> bool
+    ensures { result ≡ is_bound bound }
+{
+    1000 % bound.denominator() == 0
+        && bound.numerator().unsigned_abs() <= 1_000_000_000 * bound.denominator()
+}
+
+/// A product of words that is a word.
+fn times(a: i64, by: u64) -> i64
+    requires few { by < 2 ^ 63 }
+    requires within { unsigned_abs a * by < 2 ^ 63 }
+    ensures value { result ≡ a *ℤ pos by }
+    ensures size { unsigned_abs result ≡ unsigned_abs a * by }
+{
+    a * by as i64
+}
+
+/// The difference of two words whose sizes are at most 10^12.
+fn way(from: i64, to: i64) -> i64
+    requires from { unsigned_abs from ≤ 1000000000000 }
+    requires to { unsigned_abs to ≤ 1000000000000 }
+    ensures value { result ≡ to -ℤ from }
+    ensures size { unsigned_abs result ≤ 2000000000000 }
+{
+    to - from
+}
+
+/// A bound in thousandths.
+fn thousandths(bound: Fraction) -> i64
+    requires { is_bound bound ≡ true }
+    ensures value { result *ℤ pos bound.denominator ≡ bound.numerator *ℤ pos 1000 }
+    ensures size { unsigned_abs result ≤ 1000000000000 }
+{
+    times(bound.numerator(), 1000 / bound.denominator())
+}
+
+/// An axis whose values are (first + place * increment) / denominator.
+#[derive(Clone, Copy, Debug)]
+struct Axis {
+    spec: AxisSpec,
+    first: i64,
+    increment: i64,
+    denominator: u64,
+    ghost line: { IsLine spec first increment denominator },
+}
+
+impl Axis {
+    ghost use Rattle.fisca_grid.specs.Axes.{axis_fault};
+
+    /// The axis, where its count and its bounds are within the limits.
+    fn new(spec: AxisSpec) -> Result<Axis, AxesFault>
+        ensures ok { IfOk result (λ axis. (axis.spec ≡ spec) × (axis_fault spec ≡ None)) }
+        ensures err { IfErr result (λ fault. axis_fault spec ≡ Some fault) }
+    {
+        if spec.count == 0 || spec.count > 1_048_576 {
+            return Err(AxesFault::BadCount);
+        }
+        if !is_bound(spec.min) || !is_bound(spec.max) {
+            return Err(AxesFault::BadBound);
+        }
+        let steps = (spec.count - 1).max(1);
+        let first = thousandths(spec.min);
+        let last = thousandths(spec.max);
+        Ok(Axis {
+            spec,
+            first: times(first, steps),
+            increment: way(first, last),
+            denominator: 1000 * steps,
+        })
+    }
+
+    /// The value at a place.
+    fn value(&self, place: u64) -> Fraction
+        requires { place < self.now.spec.count }
+        ensures { step_of self.now.spec place ≡ Ok result }
+    {
+        fraction(along(self.first, self.increment, place), self.denominator)
+    }
+}
+
+/// How far a line has come from its first number after so many increments.
+fn along(first: i64, increment: i64, count: u64) -> i64
+    requires few { count < 2 ^ 63 }
+    requires within { unsigned_abs first + count * unsigned_abs increment < 2 ^ 63 }
+    ensures { result ≡ first +ℤ pos count *ℤ increment }
+{
+    first + times(increment, count)
+}
+
+/// A fraction of words, which always is a number.
+#[tactic(auto, unfolding(fisca_num::specs::Operations::number_over))]
+fn fraction(numerator: i64, denominator: u64) -> Fraction
+    requires some { 0 < denominator }
+    requires small { denominator < 2 ^ 63 }
+    requires within { unsigned_abs numerator < 2 ^ 63 }
+    ensures { number_of (record { numerator = numerator; denominator = denominator }) ≡ Ok result }
+{
+    match Fraction::new(numerator, denominator as i64) {
+        Ok(value) => value,
+        Err(_) => unreachable!(),
+    }
+}
+
+/// The axes of a grid, at present one. Contracts see the list of what was asked for.
+#[derive(Debug, Drop)]
+pub struct Axes {
+    axes: Vec<Axis>,
+}
+
+impl Model for Axes {
+    ghost use Rattle.std.specs.Prelude.{List, map, ◌≤◌, vec_len};
+    ghost use Rattle.fisca_grid.specs.declared.axes.AxisSpec.{AxisSpec};
+
+    ghost Value = { List AxisSpec };
+
+    ghost view = { λ a. map (λ axis. axis.spec) a.axes.items };
+}
+
+impl Axes {
+    /// The grid of these axes, in groups of these lengths: at present of one axis in one group.
+    ///
+    /// The faults in order: `NoAxes` where there is no group or a group is empty; then `BadCount` and `BadBound` of the
+    /// axis. `Memory` only where memory was refused.
+    pub fn build(alloc: Global, specs: &[AxisSpec], groups: &[u32]) -> Result<Axes, AxesFault>
+        requires one_axis { length specs.now ≤ 1 }
+        requires one_group { length groups.now ≤ 1 }
+        requires grouped { sum groups.now ≡ length specs.now }
+        ensures ok { IfOk result (λ axes. (axes ≡ specs.now) × (axes_fault specs.now groups.now ≡ None)) }
+        ensures err { IfErr result (λ fault. fault ≢ AxesFault.Memory → axes_fault specs.now groups.now ≡ Some fault) }
+    {
+        match specs.first() {
+            Some(spec) => Axes::of_one(alloc, *spec),
+            None => Err(AxesFault::NoAxes),
+        }
+    }
+
+    /// The grid of one axis.
+    fn of_one(alloc: Global, spec: AxisSpec) -> Result<Axes, AxesFault>
+        ensures ok { IfOk result (λ axes. (axes ≡ spec ∷ []) × (axis_fault spec ≡ None)) }
+        ensures err { IfErr result (λ fault. fault ≢ AxesFault.Memory → axis_fault spec ≡ Some fault) }
+    {
+        let axis = Axis::new(spec)?;
+        let mut axes = Vec::with_capacity(alloc, 1)?;
+        axes.push(axis)?;
+        Ok(Axes { axes })
+    }
+
+    /// The number of positions, 1 to 2^32.
+    pub fn size(&self) -> u64
+        ensures { result ≡ size_of self.now }
+    {
+        match self.axes.first() {
+            Some(axis) => axis.spec.count,
+            None => 0,
+        }
+    }
+
+    /// The exact value of an axis at a position of the grid: `min + position * (max - min) / (count - 1)`, and `min`
+    /// where the count is 1.
+    pub fn step(&self, axis: usize, position: u64) -> Fraction
+        requires axis { axis < length self.now }
+        requires position { ForSome (slice_get self.now axis) (λ spec. position < spec.count) }
+        ensures { IfSome (slice_get self.now axis) (λ spec. step_of spec position ≡ Ok result) }
+    {
+        self.axes[axis].value(position)
+    }
+}

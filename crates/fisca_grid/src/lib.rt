@@ -1,0 +1,22 @@
+//! Grids of axes, and the lines of a run over a grid.
+#![tactic(auto)]
+
+mod axes;
+mod cursor;
+mod fault;
+mod law;
+mod memory_sink;
+mod rows;
+mod run;
+mod sink;
+mod stream_sink;
+
+pub use axes::{Axes, AxesFault, AxisSpec};
+pub use cursor::GridCursor;
+pub use fault::{RowFault, RunEnd, RunFault};
+pub use law::{positions_rise, runs_continue};
+pub use memory_sink::MemorySink;
+pub use rows::{Rows, Selection};
+pub use run::write_lines;
+pub use sink::{RowSink, SinkFault};
+pub use stream_sink::StreamSink;

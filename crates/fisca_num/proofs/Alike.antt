@@ -1,0 +1,53 @@
+-- Rationals that are the same give the same number.
+use Rattle.std.proofs.Common.{◌≡◌, ℕ, zero, suc, ◌+◌, ◌*◌, ◌<◌, ◌≤◌, ◌^◌, ℤ, pos, neg_ℤ, ◌*ℤ◌, unsigned_abs, Bool, true, false, arith, ap, sym, ◌∙◌, refl, Result, Ok, Err}
+use borrow.Author.Differences.{up, down, product_is, same_in}
+use Rattle.std.proofs.lemmas.Int.{ints, unsigned_abs-mul}
+use Rattle.std.proofs.Math.Nat.{eq_of_mul-eq-mul_left, mul-le-mul_left}
+use Rattle.fisca_num.specs.declared.faults.NumFault.{NumFault}
+use Rattle.fisca_num.specs.declared.faults.NumFault.TheVariants.{TooWide, ZeroDivisor, NotANumber, Memory}
+use Rattle.fisca_num.specs.Rational.{Ratio, IsSame, Reduces, IsTooWide, IsWithin, signed}
+use Rattle.fisca_num.specs.Reduced.{neg_times}
+use Rattle.fisca_num.specs.Number.{Number, ratio_of}
+use Rattle.fisca_num.specs.Value.{IsNumberOf}
+use Rattle.fisca_num.specs.Operations.{number_of, is_number_of, only_number_of}
+
+sides : (x y : ℤ) (d e : ℕ) → x *ℤ pos d ≡ y *ℤ pos e → up x * d + down y * e ≡ up y * e + down x * d
+sides x y d e h = omega (arith, product_is x (pos d), product_is y (pos e), ap up h, ap down h)
+
+from_sides : (x y : ℤ) (d e : ℕ) → up x * d + down y * e ≡ up y * e + down x * d → x *ℤ pos d ≡ y *ℤ pos e
+from_sides x y d e h = same_in (x *ℤ pos d) (y *ℤ pos e) (omega (arith, product_is x (pos d), product_is y (pos e), h))
+
+through : (a a' b b' c c' p q r : ℕ) → 0 < q → a * q + b' * p ≡ b * p + a' * q → b * r + c' * q ≡ c * q + b' * r → a * r + c' * p ≡ c * p + a' * r
+through a a' b b' c c' p q r some h k = eq_of_mul-eq-mul_left q some _ _ (omega (arith, ap (λ z. z * r) h, ap (λ z. z * p) k))
+
+pub same_through : (p q r : Ratio) → 0 < q.denominator → IsSame p q → IsSame q r → IsSame p r
+same_through p q r some h k = from_sides p.numerator r.numerator r.denominator p.denominator
+    (through _ _ _ _ _ _ p.denominator q.denominator r.denominator some (sides p.numerator q.numerator q.denominator p.denominator h) (sides q.numerator r.numerator r.denominator q.denominator k))
+
+carried : (r s : Ratio) → 0 < r.denominator → 0 < s.denominator → IsSame r s → (o : Result Number NumFault) → IsNumberOf r o → IsNumberOf s o
+carried r s rs ss same (Ok v) x = record { some = ss; same = same_through (ratio_of v) r s rs x.same same; lowest = x.lowest }
+carried r s rs ss same (Err TooWide) x = record {
+  some = ss;
+  wide = λ v y. x.wide v (record { some = rs; same = same_through v s r ss y.same (sym same); lowest = y.lowest });
+}
+carried r s rs ss same (Err ZeroDivisor) x = absurd (omega arith)
+carried r s rs ss same (Err NotANumber) x = x
+carried r s rs ss same (Err Memory) x = x
+
+pub number_of_same : (r s : Ratio) → 0 < r.denominator → 0 < s.denominator → IsSame r s → number_of r ≡ number_of s
+number_of_same r s rs ss same = only_number_of s (number_of r) (carried r s rs ss same (number_of r) (is_number_of r))
+
+pub signed_same : (b : Bool) (m n d e : ℕ) → m * d ≡ n * e → signed b m *ℤ pos d ≡ signed b n *ℤ pos e
+signed_same true m n d e h = neg_times m d ∙ ap (λ z. neg_ℤ (pos z)) h ∙ sym (neg_times n e)
+signed_same false m n d e h = ap pos h
+
+-- a value of 2 ^ 63 and more is too wide
+pub wide_value : (r : Ratio) → 0 < r.denominator → 2 ^ 63 * r.denominator ≤ unsigned_abs r.numerator → Err TooWide ≡ number_of r
+wide_value r some h = only_number_of r (Err TooWide) (record { some = some; wide = λ v x w. beyond v x w })
+  where
+    beyond : (v : Ratio) → Reduces r v → IsWithin v.numerator v.denominator → ⊥
+    beyond v x w =
+        let sizes : unsigned_abs v.numerator * r.denominator ≡ unsigned_abs r.numerator * v.denominator = sym (unsigned_abs-mul v.numerator (pos r.denominator)) ∙ ap unsigned_abs x.same ∙ unsigned_abs-mul r.numerator (pos v.denominator) in
+        let positive : 0 < v.denominator = x.lowest.positive in
+        let above : unsigned_abs v.numerator < 2 ^ 63 = w.above in
+        omega (arith, sizes, mul-le-mul_left (unsigned_abs r.numerator) positive, mul-le-mul_left r.denominator above)

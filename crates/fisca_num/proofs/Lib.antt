@@ -1,0 +1,9 @@
+pub mod Alike
+pub mod Cut
+pub mod Division
+pub mod Forms
+pub mod Places
+pub mod Powers
+pub mod Reading
+pub mod Spelled
+pub mod Written

@@ -1,0 +1,16 @@
+pub mod Answer
+pub mod Digits
+pub mod Faults
+pub mod Literal
+pub mod Lowest
+pub mod Number
+pub mod Numeral
+pub mod Operations
+pub mod Order
+pub mod Part
+pub mod Rational
+pub mod Reduced
+pub mod Tens
+pub mod Text
+pub mod TextAnswer
+pub mod Value

@@ -239,3 +239,6 @@ impl Axes {
         self.axes[axis].value(position)
     }
 }
+
+#[cfg(test)]
+mod tests;

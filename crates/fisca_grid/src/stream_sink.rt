@@ -8,6 +8,7 @@ use super::sink::{FailureCount, RowSink, SinkFault};
 use std::io::{ErrorKind, Write};
 
 /// Passes the bytes on to a writer. It tells its bytes where the writer does.
+#[derive(Drop)]
 pub struct StreamSink<W: Write> {
     writer: W,
     failed: FailureCount,

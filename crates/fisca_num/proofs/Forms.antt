@@ -42,11 +42,11 @@ trimmed_same negative ws ds number count few x h =
     let ten : 10 ^ length ds ≡ 10 ^ count * 10 ^ length (drop 18 ds) = ap (λ k. 10 ^ k) size ∙ pow-add 10 count (length (drop 18 ds)) in
     let zeros : digits_value 10 (drop 18 ds) ≡ 0 = value-zeros (drop 18 ds) (sym x.few_is ∙ h) in
     let places : digits_value 10 ds ≡ number * 10 ^ length (drop 18 ds) =
-      ap (digits_value 10) (sym (take-append-drop 18 ds)) ∙ value-append (take 18 ds) (drop 18 ds) ∙ omega (arith, zeros, ap (λ z. z * 10 ^ length (drop 18 ds)) x.number_is) in
+    ap (digits_value 10) (sym (take-append-drop 18 ds)) ∙ value-append (take 18 ds) (drop 18 ds) ∙ omega (arith, zeros, ap (λ z. z * 10 ^ length (drop 18 ds)) x.number_is) in
     let all : digits_value 10 (ws ++ ds) ≡ digits_value 10 ws * (10 ^ count * 10 ^ length (drop 18 ds)) + digits_value 10 ds = value-append ws ds ∙ omega (arith, ap (λ z. digits_value 10 ws * z) ten) in
     number_of_same _ (digits_ratio negative ws ds) (ten_pos count) (ten_pos (length ds))
-      (signed_same negative (digits_value 10 ws * 10 ^ count + number) (digits_value 10 (ws ++ ds)) (10 ^ length ds) (10 ^ count)
-        (rw ten (trimmed (digits_value 10 ws) number (digits_value 10 (ws ++ ds)) (digits_value 10 ds) (10 ^ count) (10 ^ length (drop 18 ds)) places all)))
+    (signed_same negative (digits_value 10 ws * 10 ^ count + number) (digits_value 10 (ws ++ ds)) (10 ^ length ds) (10 ^ count)
+    (rw ten (trimmed (digits_value 10 ws) number (digits_value 10 (ws ++ ds)) (digits_value 10 ds) (10 ^ count) (10 ^ length (drop 18 ds)) places all)))
 
 size_signed : (b : Bool) (n : ℕ) → unsigned_abs (signed b n) ≡ n
 size_signed true n = omega (arith, ints)
@@ -102,9 +102,9 @@ few_or_not false = inr refl
 
 pub too_wide : (b : Bool) (ws ps : List ℕ) → AreParts ws ps → 2 ^ 63 ≤ digits_value 10 (digits_in ws) → Err TooWide ≡ number_of_parts b ws ps
 too_wide b ws ps x h = elim (few_or_not (are_few (digits_in ps))) [
-      | inl few ↦ wide_digits b (digits_in ws) (digits_in ps) h ∙ valued b ws ps x few
-      | inr many ↦ too_long b ws ps x many
-    ]
+  | inl few ↦ wide_digits b (digits_in ws) (digits_in ps) h ∙ valued b ws ps x few
+  | inr many ↦ too_long b ws ps x many
+]
 
 pub value_read : (b : Bool) (ws ps : List ℕ) (whole number count : ℕ) (few : Bool) → AreParts ws ps → whole ≡ min (10 ^ 19) (digits_value 10 (digits_in ws)) → whole < 2 ^ 63 → IsRead (digits_in ps) number count few → few ≡ true →
     number_of (record { numerator = signed b (whole * 10 ^ count + number); denominator = 10 ^ count }) ≡ number_of_parts b ws ps

@@ -97,9 +97,9 @@ least_of d twos fives rest x one =
     record {
       covers = rw (whole, ten) (mul-dvd-mul (2 ^ twos) (5 ^ fives) (power_divides 2 twos k (omega arith)) (power_divides 5 fives k (omega arith)));
       least = λ j e h.
-        let two : twos ≤ j = two_le twos j (dvd_trans (2 ^ twos) (rw (← whole) at (dvd-mul_right (2 ^ twos) (5 ^ fives))) h) in
-        let five : fives ≤ j = five_le fives j (dvd_trans (5 ^ fives) (rw (← whole) at (dvd-mul_left (5 ^ fives) (2 ^ twos))) h) in
-        omega arith;
+          let two : twos ≤ j = two_le twos j (dvd_trans (2 ^ twos) (rw (← whole) at (dvd-mul_right (2 ^ twos) (5 ^ fives))) h) in
+          let five : fives ≤ j = five_le fives j (dvd_trans (5 ^ fives) (rw (← whole) at (dvd-mul_left (5 ^ fives) (2 ^ twos))) h) in
+          omega arith;
     }
 
 -- another factor, and no power of ten is covered

@@ -69,7 +69,7 @@ digit_ahead n c cs h = ap (digits_value_after 10 n) (in_digit c cs h) ∙ after_
 pub value_digit : (xs : List ℕ) (i cap n m v : ℕ) → i < length xs → is_ascii_digit (get_or xs i 0) ≡ true → m ≡ min cap (10 * n + (get_or xs i 0 - 48)) → min cap (digits_value_after 10 n (digits_in (drop i xs))) ≡ v → min cap (digits_value_after 10 m (digits_in (drop (i + 1) xs))) ≡ v
 value_digit xs i cap n m v h is e f =
     let step : digits_value_after 10 n (digits_in (drop i xs)) ≡ digits_value_after 10 (10 * n + (get_or xs i 0 - 48)) (digits_in (drop (i + 1) xs)) =
-      ap (λ l. digits_value_after 10 n (digits_in l)) (front xs i h) ∙ digit_ahead n (get_or xs i 0) (drop (i + 1) xs) is in
+    ap (λ l. digits_value_after 10 n (digits_in l)) (front xs i h) ∙ digit_ahead n (get_or xs i 0) (drop (i + 1) xs) is in
     rw (e, capped cap (10 * n + (get_or xs i 0 - 48)) (digits_in (drop (i + 1) xs))) (sym (ap (λ z. min cap z) step) ∙ f)
 
 pub value_bar : (xs : List ℕ) (i cap n v : ℕ) → i < length xs → get_or xs i 0 ≡ 95 → min cap (digits_value_after 10 n (digits_in (drop i xs))) ≡ v → min cap (digits_value_after 10 n (digits_in (drop (i + 1) xs))) ≡ v
@@ -123,4 +123,4 @@ pub no_zero_in_front : (xs : List ℕ) → 0 < length xs → (length xs ≡ 1) �
 no_zero_in_front [] h e = absurd (omega arith)
 no_zero_in_front (x ∷ xs) h e = and_true (are_digits (x ∷ xs)) (has_no_leading_zero (digits_in (x ∷ xs))) (λ t.
     let digit : is_ascii_digit x ≡ true = (and_parts (is_ascii_digit x) (may_follow_digit xs) t).0 in
-    ap has_no_leading_zero (in_digit x xs digit) ∙ other_first x xs (elim e [ | inl p ↦ inl (omega arith) | inr p ↦ inr p ]))
+    ap has_no_leading_zero (in_digit x xs digit) ∙ other_first x xs (elim e [ inl p ↦ inl (omega arith) | inr p ↦ inr p ]))

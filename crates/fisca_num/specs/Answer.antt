@@ -32,9 +32,9 @@ by_gcd : (r : Ratio) (g : ℕ) → IsGcd (unsigned_abs r.numerator) r.denominato
 by_gcd r g h some =
     elim (cases_lt (unsigned_abs r.numerator / g) (2 ^ 63)) [
       | inl above ↦ elim (cases_lt (r.denominator / g) (2 ^ 63)) [
-          | inl below ↦ number_by_gcd r g h some above below
-          | inr le ↦ wide_answer r g h some (λ p q. omega arith)
-        ]
+        | inl below ↦ number_by_gcd r g h some above below
+        | inr le ↦ wide_answer r g h some (λ p q. omega arith)
+      ]
       | inr le ↦ wide_answer r g h some (λ p q. omega arith)
     ]
 

@@ -64,9 +64,9 @@ place_same a b x y p hx hy h =
     elim (cases_lt a b) [
       | inl lt ↦ absurd (omega (arith, mul-le-mul_left p lt))
       | inr le ↦ elim (cases_lt b a) [
-          | inl lt ↦ absurd (omega (arith, mul-le-mul_left p lt))
-          | inr ge ↦ let e : a ≡ b = omega arith in (e, let f : b * p + x ≡ b * p + y = rw e at h in omega arith)
-        ]
+        | inl lt ↦ absurd (omega (arith, mul-le-mul_left p lt))
+        | inr ge ↦ let e : a ≡ b = omega arith in (e, let f : b * p + x ≡ b * p + y = rw e at h in omega arith)
+      ]
     ]
 
 -- digits of one length that write one number are the same

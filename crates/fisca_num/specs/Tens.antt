@@ -71,9 +71,9 @@ stripped d (suc n) r h s =
     let some : 0 < r = s.some in
     elim (cases_lt 0 (r % 2)) [
       | inl odd ↦ elim (cases_lt 0 (r % 5)) [
-          | inl five ↦ record { rest = r; strips = s; odd = λ e. omega arith; no_five = λ e. omega arith }
-          | inr e ↦ stripped d n (r / 5) (omega arith) (strip 5 2 d r refl (omega arith) s)
-        ]
+        | inl five ↦ record { rest = r; strips = s; odd = λ e. omega arith; no_five = λ e. omega arith }
+        | inr e ↦ stripped d n (r / 5) (omega arith) (strip 5 2 d r refl (omega arith) s)
+      ]
       | inr e ↦ stripped d n (r / 2) (omega arith) (strip 2 5 d r refl (omega arith) s)
     ]
 
@@ -91,12 +91,12 @@ least_power d zero h = record { power = zero; is = record { covers = h; least = 
 least_power d (suc k) h =
     elim (cases_lt 0 (10 ^ k % d)) [
       | inl some ↦ record {
-          power = suc k;
-          is = record {
-            covers = h;
-            least = λ j e p. let same : j ≡ k = omega arith in let none : 10 ^ k % d ≡ 0 = rw same at (mod-eq-zero_of_dvd d p) in omega arith;
-          };
-        }
+        power = suc k;
+        is = record {
+          covers = h;
+          least = λ j e p. let same : j ≡ k = omega arith in let none : 10 ^ k % d ≡ 0 = rw same at (mod-eq-zero_of_dvd d p) in omega arith;
+        };
+      }
       | inr none ↦ least_power d k (dvd_of_mod-eq-zero d (omega arith))
     ]
 

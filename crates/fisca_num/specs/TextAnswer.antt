@@ -51,7 +51,7 @@ same_count : (n d j k l m : ℕ) → 0 < d → Places n d j l → Places n d k m
 same_count n d j k l m some x y =
     elim (cases_lt j k) [
       | inl h ↦ absurd (not_more n d j k l m some x y h)
-      | inr h ↦ elim (cases_lt k j) [ | inl g ↦ absurd (not_more n d k j m l some y x g) | inr g ↦ omega arith ]
+      | inr h ↦ elim (cases_lt k j) [ inl g ↦ absurd (not_more n d k j m l some y x g) | inr g ↦ omega arith ]
     ]
 
 same_number_of : (n d j k l m : ℕ) → 0 < d → j ≡ k → Places n d j l → Places n d k m → l ≡ m

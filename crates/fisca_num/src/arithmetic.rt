@@ -77,6 +77,10 @@ fn quotient(numerator: i128, denominator: i128) -> Result<Fraction, NumFault>
     requires denominator { unsigned_abs denominator < 2 ^ 126 }
     ensures { result ≡ number_of (over numerator denominator) }
 {
-    let signed = if denominator < 0 { -numerator } else { numerator };
+    let signed = if denominator < 0 {
+        -numerator
+    } else {
+        numerator
+    };
     reduce(signed, denominator.unsigned_abs())
 }

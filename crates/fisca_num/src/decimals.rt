@@ -20,5 +20,9 @@ pub(crate) fn decimal_places(denominator: u64) -> Option<u32>
         rest /= 5;
         fives += 1;
     }
-    if rest == 1 { Some(twos.max(fives)) } else { None }
+    if rest == 1 {
+        Some(twos.max(fives))
+    } else {
+        None
+    }
 }

@@ -12,17 +12,14 @@ ghost use Rattle.fisca_num.specs.Value.{IsNumberOf};
 /// says why there is none.
 pub fn number_of_is_the_number()
     ensures { (r : Ratio) → (answer : Result Number NumFault) → IsNumberOf r answer ↔ (answer ≡ number_of r) }
-{
-}
+{}
 
 /// Law: a number has one numeral at most.
 pub fn numerals_are_unique()
     ensures { (v : Number) → (s t : List ℕ) → IsNumeralOf s v → IsNumeralOf t v → s ≡ t }
-{
-}
+{}
 
 /// Law: of all texts, `text_of v` is the numeral of v where there is one, else `n/d`.
 pub fn text_of_is_the_text()
     ensures { (v : Number) → (text : List ℕ) → IsTextOf text v ↔ (text ≡ text_of v) }
-{
-}
+{}

@@ -90,7 +90,11 @@ fn split_at_point(text: &[u8]) -> (&[u8], &[u8])
     ensures places { result.1.now ≡ after_first is_point text.now }
 {
     let index = point_of(text);
-    if index < text.len() { (&text[..index], &text[index + 1..]) } else { (text, &[]) }
+    if index < text.len() {
+        (&text[..index], &text[index + 1..])
+    } else {
+        (text, &[])
+    }
 }
 
 /// The place of the first point, or the end of the text.
@@ -137,7 +141,11 @@ fn next_capped(number: u64, digit: u8) -> u64
     requires number { number ≤ 10 ^ 19 }
     ensures { result ≡ min (10 ^ 19) (10 * number + digit) }
 {
-    if number < TENTH_OF_CAP { 10 * number + u64::from(digit) } else { 10 * TENTH_OF_CAP }
+    if number < TENTH_OF_CAP {
+        10 * number + u64::from(digit)
+    } else {
+        10 * TENTH_OF_CAP
+    }
 }
 
 /// The digits after the point.
@@ -164,7 +172,11 @@ fn read_places(text: &[u8]) -> Option<Places>
             return None;
         }
     }
-    if digit { Some(Places { number, count, few }) } else { None }
+    if digit {
+        Some(Places { number, count, few })
+    } else {
+        None
+    }
 }
 
 /// The value of `whole` and `count` places.

@@ -18,7 +18,11 @@ pub(crate) fn reduce(numerator: i128, denominator: u128) -> Result<Fraction, Num
 }
 
 /// The number that `size / denominator` is, or its opposite.
-pub(crate) fn reduce_size(negative: bool, size: u128, denominator: u128) -> Result<Fraction, NumFault>
+pub(crate) fn reduce_size(
+    negative: bool,
+    size: u128,
+    denominator: u128,
+) -> Result<Fraction, NumFault>
     ensures { result ≡ number_of (record { numerator = signed negative size; denominator = denominator }) }
 {
     if denominator == 0 {

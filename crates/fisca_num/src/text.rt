@@ -13,7 +13,6 @@ use crate::fractions::Fraction;
 use crate::spelling::{put_byte, put_division, put_number, put_places};
 use std::alloc::{AllocError, Global};
 
-
 /// Room for the longest text: a sign, 19 digits, a point and 62 places.
 const ROOM: usize = 84;
 
@@ -95,7 +94,11 @@ fn put_sign(buffer: &mut [u8], end: usize, number: i64) -> usize
     ensures start { result ≤ end }
     ensures text { drop result buffer.new ≡ sign_of number ++ drop end buffer.old }
 {
-    if number < 0 { put_byte(buffer, end, b'-') } else { end }
+    if number < 0 {
+        put_byte(buffer, end, b'-')
+    } else {
+        end
+    }
 }
 
 /// Writes the point and the places of `rest / denominator` into the end of the buffer, if it has any, and gives their
@@ -115,7 +118,12 @@ fn put_part(buffer: &mut [u8], rest: u64, denominator: u64, count: u32) -> usize
     }
     let start = buffer.len() - count as usize;
     if count <= WORD_PLACES {
-        put_places(buffer, buffer.len(), rest * (10u64.pow(count) / denominator), count as usize);
+        put_places(
+            buffer,
+            buffer.len(),
+            rest * (10u64.pow(count) / denominator),
+            count as usize,
+        );
     } else {
         put_division(buffer, start, rest, denominator);
     }

@@ -5,6 +5,7 @@ ghost use Rattle.fisca_grid.specs.Row.{Nothing, Line, Fault};
 use super::*;
 use crate::memory_sink::MemorySink;
 use crate::sink::SinkFault;
+use crate::stream_sink::StreamSink;
 
 /// The value at a position is 500 times the position. The positions from `first` on are kept, and at
 /// `broken` stands a fault.
@@ -193,4 +194,38 @@ fn a_sink_that_fails_at_any_call_has_the_text_up_to_it(rt: HostRuntime) {
             assert_eq!(rt; sink.failed, 1);
         }
     }
+}
+
+#[test]
+fn a_refused_growth_leaves_a_run_that_can_be_resumed(rt: HostRuntime) {
+    let mut sink = MemorySink::new(rt.alloc());
+    match write_lines(rt.alloc(), &mut make_salaries(0, 9), 0, None, &mut sink) {
+        Err(RunFault::Memory { position }) => {
+            let rest = write_lines(
+                rt.alloc(),
+                &mut make_salaries(0, 9),
+                position,
+                None,
+                &mut sink,
+            );
+            assert_eq!(rt; rest, Ok(RunEnd::End));
+            assert_eq!(rt; sink.bytes(), ALL);
+        }
+        Err(RunFault::Write { position }) => {
+            assert!(rt; position < 5 && ALL.starts_with(sink.bytes()));
+            assert_eq!(rt; sink.failures(), 1);
+        }
+        answer => {
+            assert_eq!(rt; answer, Ok(RunEnd::End));
+            assert_eq!(rt; sink.bytes(), ALL);
+        }
+    }
+}
+
+#[test]
+fn lines_pass_through_a_stream(rt: HostRuntime) {
+    let mut sink = StreamSink::new(Vec::new(rt.alloc()));
+    let answer = write_lines(rt.alloc(), &mut make_salaries(0, 9), 0, Some(2), &mut sink);
+    assert_eq!(rt; answer, Ok(RunEnd::More(2)));
+    assert_eq!(rt; sink.writer().as_slice(), b"0\t0\n1\t500\n".as_slice());
 }

@@ -37,7 +37,7 @@ loop-byte-preserved c = elim c.if-is_ascii_digit.branch [
         read = rw (next_read c.args.text.now c.loop-byte.byte-index c.loop-byte-test.true is, w.number-is, w.count-is, w.few-is) (read_past_zero _ _ _ _ _ w.if-count-lt-MOST_PLACES.false w.if-byte-ne48.false c.loop-byte.invariant.read);
       }
   | else-is_ascii_digit+then-digit+then-byte-eq95 w ↦ record {
-      form = rw w.digit-is (form_bar c.args.text.now _ _ c.loop-byte-test.true w.if-byte-eq95.true (rw w.if-digit.true at c.loop-byte.invariant.form));
-      read = rw (next_skipped c.args.text.now c.loop-byte.byte-index c.loop-byte-test.true w.if-byte-eq95.true, w.number-is, w.count-is, w.few-is) c.loop-byte.invariant.read;
-    }
+    form = rw w.digit-is (form_bar c.args.text.now _ _ c.loop-byte-test.true w.if-byte-eq95.true (rw w.if-digit.true at c.loop-byte.invariant.form));
+    read = rw (next_skipped c.args.text.now c.loop-byte.byte-index c.loop-byte-test.true w.if-byte-eq95.true, w.number-is, w.count-is, w.few-is) c.loop-byte.invariant.read;
+  }
 ]

@@ -17,8 +17,8 @@ loop-byte-preserved c = elim c.if-is_ascii_digit.branch [
         value = rw w.number-is (value_digit c.args.text.now _ _ _ _ _ c.loop-byte-test.true is w.next_capped-number.ensures c.loop-byte.invariant.value);
       }
   | else-is_ascii_digit+then-digit+then-byte-eq95 w ↦ record {
-      small = omega (arith, w.number-is);
-      form = rw w.digit-is (form_bar c.args.text.now _ _ c.loop-byte-test.true w.if-byte-eq95.true (rw w.if-digit.true at c.loop-byte.invariant.form));
-      value = rw w.number-is (value_bar c.args.text.now _ _ _ _ c.loop-byte-test.true w.if-byte-eq95.true c.loop-byte.invariant.value);
-    }
+    small = omega (arith, w.number-is);
+    form = rw w.digit-is (form_bar c.args.text.now _ _ c.loop-byte-test.true w.if-byte-eq95.true (rw w.if-digit.true at c.loop-byte.invariant.form));
+    value = rw w.number-is (value_bar c.args.text.now _ _ _ _ c.loop-byte-test.true w.if-byte-eq95.true c.loop-byte.invariant.value);
+  }
 ]

@@ -18,9 +18,9 @@ returns-in_default-read_places c = no_places _ _ _ c.in-Some.ensures.0 c.in_defa
 pub returns-then-number-gt-LIMIT : goal.returns-then-number-gt-LIMIT
 returns-then-number-gt-LIMIT c =
     let some : (length c.args.whole.now ≡ 0 → ⊥) ⊎ (length c.args.places.now ≡ 0 → ⊥) = elim c.else-is_empty.branch [
-        | else-is_empty-via-then-is_empty+else-is_empty-2 w ↦ inr (eqb-false _ 0 (sym w.is_empty-then-is_empty.ensures ∙ w.if-is_empty-2.false))
-        | else-is_empty-via-else-is_empty w ↦ inl (eqb-false _ 0 (sym c.is_empty.ensures ∙ w.if-is_empty.false))
-      ] in
+      | else-is_empty-via-then-is_empty+else-is_empty-2 w ↦ inr (eqb-false _ 0 (sym w.is_empty-then-is_empty.ensures ∙ w.if-is_empty-2.false))
+      | else-is_empty-via-else-is_empty w ↦ inl (eqb-false _ 0 (sym c.is_empty.ensures ∙ w.if-is_empty.false))
+    ] in
     let parts : AreParts c.args.whole.now c.args.places.now = record { some = some; whole = c.in-Some.ensures.0; places = c.in-Some-read_places.ensures.0 } in
     let capped : c.in-Some.number ≡ min (10 ^ 19) (digits_value 10 (digits_in c.args.whole.now)) = c.in-Some.ensures.1 in
     elim c.then-number-gt-LIMIT.branch [
@@ -31,9 +31,9 @@ returns-then-number-gt-LIMIT c =
 pub returns : goal.returns
 returns c =
     let some : (length c.args.whole.now ≡ 0 → ⊥) ⊎ (length c.args.places.now ≡ 0 → ⊥) = elim c.else-is_empty.branch [
-        | else-is_empty-via-then-is_empty+else-is_empty-2 w ↦ inr (eqb-false _ 0 (sym w.is_empty-then-is_empty.ensures ∙ w.if-is_empty-2.false))
-        | else-is_empty-via-else-is_empty w ↦ inl (eqb-false _ 0 (sym c.is_empty.ensures ∙ w.if-is_empty.false))
-      ] in
+      | else-is_empty-via-then-is_empty+else-is_empty-2 w ↦ inr (eqb-false _ 0 (sym w.is_empty-then-is_empty.ensures ∙ w.if-is_empty-2.false))
+      | else-is_empty-via-else-is_empty w ↦ inl (eqb-false _ 0 (sym c.is_empty.ensures ∙ w.if-is_empty.false))
+    ] in
     let parts : AreParts c.args.whole.now c.args.places.now = record { some = some; whole = c.in-Some.ensures.0; places = c.in-Some-read_places.ensures.0 } in
     let capped : c.in-Some.number ≡ min (10 ^ 19) (digits_value 10 (digits_in c.args.whole.now)) = c.in-Some.ensures.1 in
     c.decimal.ensures ∙ value_read _ _ _ c.in-Some.number _ _ _ parts capped (omega arith) c.in-Some-read_places.ensures.1 (is_few _ c.if-not-read.false)

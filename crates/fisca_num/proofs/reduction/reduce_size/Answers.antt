@@ -20,19 +20,19 @@ nonzero_div-least_denominator c = gcd_pos _ _ _ c.gcd-divisor.ensures (omega ari
 pub returns-then-least_size-gt-LIMIT : goal.returns-then-least_size-gt-LIMIT
 returns-then-least_size-gt-LIMIT c = only_number_of _ (Err TooWide)
     (wide_cut (signed c.args.negative c.args.size) c.args.denominator c.gcd-divisor.result c.args.size (size-signed c.args.negative c.args.size) c.gcd-divisor.ensures (omega arith) (λ p q.
-      elim c.then-least_size-gt-LIMIT.branch [
-        | then-least_size-gt-LIMIT-via-then-least_size-gt-LIMIT w ↦ omega (arith, w.if-least_size-gt-LIMIT)
-        | then-least_size-gt-LIMIT-via-else-least_size-gt-LIMIT+then-least_denominator-gt-LIMIT w ↦ omega (arith, w.if-least_denominator-gt-LIMIT)
-      ]))
+    elim c.then-least_size-gt-LIMIT.branch [
+      | then-least_size-gt-LIMIT-via-then-least_size-gt-LIMIT w ↦ omega (arith, w.if-least_size-gt-LIMIT)
+      | then-least_size-gt-LIMIT-via-else-least_size-gt-LIMIT+then-least_denominator-gt-LIMIT w ↦ omega (arith, w.if-least_denominator-gt-LIMIT)
+    ]))
 
 pub invariant_of-result : goal.invariant_of-result
 invariant_of-result c =
     let x = signed_cut c.args.negative (to_z w64 (of_z w64 c.with_sign-numerator.result)) c.with_sign-numerator.result c.args.denominator c.gcd-divisor.result c.args.size
-      c.gcd-divisor.ensures (omega arith) (omega (arith, ints)) c.with_sign-numerator.ensures in
+    c.gcd-divisor.ensures (omega arith) (omega (arith, ints)) c.with_sign-numerator.ensures in
     (lowest_cut _ _ _ _ _ x, (within_cut _ _ _ _ _ x (omega arith) (omega arith), tt))
 
 pub returns : goal.returns
 returns c =
     let x = signed_cut c.args.negative (to_z w64 (of_z w64 c.with_sign-numerator.result)) c.with_sign-numerator.result c.args.denominator c.gcd-divisor.result c.args.size
-      c.gcd-divisor.ensures (omega arith) (omega (arith, ints)) c.with_sign-numerator.ensures in
+    c.gcd-divisor.ensures (omega arith) (omega (arith, ints)) c.with_sign-numerator.ensures in
     only_number_of _ (Ok _) (reduces_cut _ _ _ _ _ x)

@@ -14,13 +14,13 @@ put_division-requires-clause-ends c =
 
 places : (c : goal.After-slice_known-2-1) → IsPlaces c.args.rest c.args.denominator c.args.count (drop (length c.args.buffer.now - c.args.count) c.if-count-le-WORD_PLACES.buffer)
 places c = elim c.if-count-le-WORD_PLACES.branch [
-      | then-count-le-WORD_PLACES w ↦
-          let start : w.put_places.result ≡ length c.args.buffer.now - c.args.count = omega (arith, w.put_places.ensures.start) in
-          places_as_word _ _ _ w.pow.result (length c.args.buffer.now) _ c.args.buffer.now c.requires.fraction c.requires.ends w.pow.ensures (omega arith) (rw (w.buffer-is, ← start) w.put_places.ensures.text)
-      | else-count-le-WORD_PLACES w ↦
-          let count : length c.args.buffer.now - (length c.args.buffer.now - c.args.count) ≡ c.args.count = omega arith in
-          record { digits = rw w.buffer-is w.put_division.ensures.digits; value = rw w.buffer-is (rw count at w.put_division.ensures.value) }
-    ]
+  | then-count-le-WORD_PLACES w ↦
+      let start : w.put_places.result ≡ length c.args.buffer.now - c.args.count = omega (arith, w.put_places.ensures.start) in
+      places_as_word _ _ _ w.pow.result (length c.args.buffer.now) _ c.args.buffer.now c.requires.fraction c.requires.ends w.pow.ensures (omega arith) (rw (w.buffer-is, ← start) w.put_places.ensures.text)
+  | else-count-le-WORD_PLACES w ↦
+      let count : length c.args.buffer.now - (length c.args.buffer.now - c.args.count) ≡ c.args.count = omega arith in
+      record { digits = rw w.buffer-is w.put_division.ensures.digits; value = rw w.buffer-is (rw count at w.put_division.ensures.value) }
+]
 
 pub returns-clause-part : goal.returns-clause-part
 returns-clause-part c =

@@ -1,5 +1,5 @@
 -- What `fisca axes` answers and writes.
-use Rattle.std.specs.Prelude.{◌≡◌, ◌⊎◌, Bool, false, ℕ, List, [], ◌∷◌, ◌++◌, Option, Some, None, Result, Ok, Err, if◌then◌else◌}
+use Rattle.std.specs.Prelude.{◌≡◌, ◌≤◌, ◌⊎◌, Bool, false, ℕ, List, [], ◌∷◌, ◌++◌, Option, Some, None, Result, Ok, Err, if◌then◌else◌}
 use Rattle.std.specs.Fmt.{decimal}
 use Rattle.std.specs.Io.KnownBytes.{Keeps}
 use Rattle.std.specs.declared.convert.Infallible.{Infallible}
@@ -69,9 +69,9 @@ asked [] keep = Err (Axes NoAxes)
 asked (word ∷ []) keep = read (axis_of word) keep
 asked (word ∷ other ∷ words) keep = Err BadWord
 
--- what a run over the axis answers, and what a sink that held `old` then holds
+-- what a run over the axis answers, and what a sink that held `old` then holds. A start above the size is never accepted
 abbrev pub IsAxesRun : Asked → ℕ → Option ℕ → Option (List ℕ) → Option (List ℕ) → Result RunEnd Refusal → Type 0
-IsAxesRun run from limit old new (Ok end) = IsRun (axes_row run.axes run.keep) (size_of run.axes) from limit old new (Ok end)
+IsAxesRun run from limit old new (Ok end) = (from ≤ size_of run.axes) × IsRun (axes_row run.axes run.keep) (size_of run.axes) from limit old new (Ok end)
 IsAxesRun run from limit old new (Err (Run fault)) = IsRun (axes_row run.axes run.keep) (size_of run.axes) from limit old new (Err fault)
 IsAxesRun run from limit old new (Err other) = (other ≡ Memory) × Keeps old new
 

@@ -184,3 +184,6 @@ pub fn axes_words<S: RowSink>(
         Err(fault) => Err(Refusal::Run(fault)),
     }
 }
+
+#[cfg(test)]
+mod tests;

@@ -22,26 +22,47 @@ const USAGE: u8 = 2;
 /// The status of a failed write of the last line.
 const WRITE_FAILED: u8 = 5;
 
-/// What is told where memory was refused.
-const OUT_OF_MEMORY: &str = "fisca: out of memory";
-
 /// The status for want of memory.
 const NO_MEMORY: u8 = 6;
 
-fn main(rt: HostRuntime) -> io::Result<ExitCode> {
-    let Ok(words) = env::args(&rt).and_then(|args| Ok(args.collect::<Vec<String>>(rt.alloc())?))
-    else {
-        return Ok(ExitCode::from(USAGE));
-    };
-    match read_task(rt.alloc(), words.as_slice()) {
-        Ok(task) => Ok(ExitCode::from(run_task(&rt, task))),
-        Err(error) if error.kind() == ErrorKind::OutOfMemory => {
-            Ok(ExitCode::from(tell(&rt, OUT_OF_MEMORY, NO_MEMORY)))
+/// What is told where the command line is no text, in `clap`'s words.
+const NO_TEXT: &str = "error: invalid UTF-8 was detected in one or more arguments";
+
+/// What is told where memory was refused.
+const OUT_OF_MEMORY: &str = "fisca: out of memory";
+
+/// What is told where standard output could not be written.
+const NOT_WRITTEN: &str = "fisca: write failed";
+
+fn main(rt: HostRuntime) -> ExitCode {
+    let words = env::args(&rt).and_then(|args| Ok(args.collect::<Vec<String>>(rt.alloc())?));
+    ExitCode::from(match words {
+        Ok(words) => run_words(&rt, words.as_slice()),
+        Err(error) if error.kind() == io::ErrorKind::OutOfMemory => {
+            tell(&rt, OUT_OF_MEMORY, NO_MEMORY)
         }
-        Err(error) => {
-            error.print(&rt)?;
-            Ok(ExitCode::from(if error.use_stderr() { USAGE } else { 0 }))
-        }
+        Err(_) => tell(&rt, NO_TEXT, USAGE),
+    })
+}
+
+/// Runs what the words ask for, and answers the exit status.
+fn run_words(rt: &HostRuntime, words: &[String]) -> u8 {
+    match read_task(rt.alloc(), words) {
+        Ok(task) => run_task(rt, task),
+        Err(error) => print_text(rt, &error),
+    }
+}
+
+/// Prints `clap`'s text: the help that was asked for, or on standard error why the command line is wrong. That
+/// standard error can't be written changes no status.
+fn print_text(rt: &HostRuntime, error: &clap::Error) -> u8 {
+    if error.kind() == ErrorKind::OutOfMemory {
+        return tell(rt, OUT_OF_MEMORY, NO_MEMORY);
+    }
+    match error.print(rt) {
+        _ if error.use_stderr() => USAGE,
+        Ok(()) => 0,
+        Err(_) => tell(rt, NOT_WRITTEN, WRITE_FAILED),
     }
 }
 
@@ -74,14 +95,14 @@ fn end_run<W: Write + Drop>(rt: &HostRuntime, end: RunEnd, mut writer: W) -> u8 
     };
     match told.and_then(|()| writer.flush()) {
         Ok(()) => 0,
-        Err(_) => tell(rt, "fisca: write failed", WRITE_FAILED),
+        Err(_) => tell(rt, NOT_WRITTEN, WRITE_FAILED),
     }
 }
 
 /// Hands over the lines before a refusal, and tells it.
 fn refuse<W: Write + Drop>(rt: &HostRuntime, refusal: Refusal, mut writer: W) -> u8 {
     if writer.flush().is_err() {
-        return tell(rt, "fisca: write failed", WRITE_FAILED);
+        return tell(rt, NOT_WRITTEN, WRITE_FAILED);
     }
     match refusal.line(rt.alloc(), "") {
         Ok(line) => tell(rt, line.as_str(), refusal.status()),
@@ -94,3 +115,6 @@ fn tell(rt: &HostRuntime, line: &str, status: u8) -> u8 {
     let _ = eprintln!(rt; "{line}");
     status
 }
+
+#[cfg(test)]
+mod tests;

@@ -15,37 +15,71 @@ pub enum Task<'a> {
     },
 }
 
-const ABOUT: &str = "Runs OpenFisca rules with exact fractions";
+const ABOUT: &str = "Run OpenFisca rules with exact fractions";
 
 const STATUSES: &str = "Exit status:
   0  done
   2  the command line is wrong
-  3  an AXIS word, the axes, the condition or the position is refused
+  3  an axis, the condition or the position is refused
   5  the output could not be written
-  6  out of memory";
+  6  out of memory
 
-const AXES_ABOUT: &str = "Lists the values of an axis, one line a position: POSITION<TAB>VALUE";
+'fisca help COMMAND' says more of a command.";
 
-const AXES_LONG: &str = "Lists the values of an axis, one line a position: POSITION<TAB>VALUE.
+const AXES_ABOUT: &str = "List the values of an axis";
 
-The values are exact: position I of NAME=MIN..MAX/COUNT has MIN + I*(MAX-MIN)/(COUNT-1), and a count
-of 1 has MIN. A value prints as a decimal where it has one, else as a fraction such as 1/3.
-The last line is `end`, or `more P` where --rows stopped the run: --from P lists the rest.";
+const AXES_LONG: &str =
+    "List the values of an axis, one line a position: the position, a tab, the value.
+
+The axis NAME=MIN..MAX/COUNT has the positions 0 to COUNT-1. The value at position I is exactly
+MIN + I * (MAX - MIN) / (COUNT - 1), and MIN where COUNT is 1. It is printed as a decimal where
+it has one, such as 0.5, and else as a fraction, such as 1/3.
+
+The last line is 'end' where no position is left, and 'more P' where --rows ended the list: the
+same command with --from P lists the rest.";
 
 const AXES_EXAMPLE: &str = "Example:
   fisca axes salary=0..2000/5 --keep \"salary>=500\" --rows 2";
 
-const AXIS_HELP: &str =
-    "An axis, as salary=0..2000/5: NAME=MIN..MAX/COUNT. NAME is letters, digits and _; MIN and MAX \
-are decimal numbers of size at most 10^9 with at most 3 places; COUNT is 1 to 1048576";
+const AXES_EXAMPLES: &str = "Examples:
+  fisca axes salary=0..2000/5
+      lists 0, 500, 1000, 1500 and 2000
+  fisca axes salary=0..2000/5 --keep \"salary>=500\" --rows 2
+      lists 500 and 1000, and ends with 'more 3'
+  fisca axes salary=0..2000/5 --keep \"salary>=500\" --from 3
+      lists the rest, 1500 and 2000
 
-const KEEP_HELP: &str =
-    "Keep only the positions that meet the condition, as \"salary>=500\": the axis's name, one of \
->= <= == != > < and a decimal number";
+Exit status:
+  0  done
+  2  the command line is wrong
+  3  refused: BadWord (no axis of that form), BadCount, BadBound, BadCondition or BadPosition
+  5  the output could not be written
+  6  out of memory";
 
-const FROM_HELP: &str = "Begin at this position, counted from 0 [default: 0]";
+const AXIS_HELP: &str = "The axis, NAME=MIN..MAX/COUNT";
 
-const ROWS_HELP: &str = "Stop after this many lines [default: no limit]";
+const AXIS_LONG: &str =
+    "The axis, NAME=MIN..MAX/COUNT, such as salary=0..2000/5 (at present just one)
+
+NAME   ASCII letters, digits and '_', of which the first is no digit
+MIN    the first value, a decimal number such as -0.5
+MAX    the last value
+COUNT  the number of values, 1 to 1048576
+
+MIN and MAX are at most 10^9 in size, with at most 3 decimals.";
+
+const KEEP_HELP: &str = "List only values that meet a condition, such as \"salary>=500\"";
+
+const KEEP_LONG: &str = "List only values that meet a condition, such as \"salary>=500\"
+
+It is the axis's name, one of >= <= == != > < and a decimal number. Spaces may stand
+around the comparison alone. Quote it, or the shell takes > and < for redirections.";
+
+const FROM_HELP: &str = "Begin at this position [default: 0]";
+
+const FROM_LONG: &str = "Begin at this position, from 0 up to the number of positions [default: 0]";
+
+const ROWS_HELP: &str = "End after this many lines [default: no limit]";
 
 /// An option with a whole number from 0 to 2^64-1.
 fn number<'a>(alloc: Global, id: &'a str, value: &'a str, help: &'a str) -> Arg<'a> {
@@ -62,18 +96,21 @@ fn axes_command<'a>(alloc: Global) -> Result<Command<'a>, AllocError> {
         .required(true)
         .action(ArgAction::Append)
         .num_args(1..)
-        .help(AXIS_HELP);
+        .help(AXIS_HELP)
+        .long_help(AXIS_LONG);
     let keep = Arg::new(alloc, "keep")
         .long("keep")
         .value_name("COND")
-        .help(KEEP_HELP);
+        .help(KEEP_HELP)
+        .long_help(KEEP_LONG);
     Command::new(alloc, "axes")
         .about(AXES_ABOUT)
         .long_about(AXES_LONG)
         .after_help(AXES_EXAMPLE)
+        .after_long_help(AXES_EXAMPLES)
         .arg(axis)?
         .arg(keep)?
-        .arg(number(alloc, "from", "P", FROM_HELP))?
+        .arg(number(alloc, "from", "P", FROM_HELP).long_help(FROM_LONG))?
         .arg(number(alloc, "rows", "N", ROWS_HELP))
 }
 
@@ -84,6 +121,7 @@ fn command<'a>(alloc: Global) -> Result<Command<'a>, AllocError> {
         .version("0.1.0")
         .after_help(STATUSES)
         .subcommand_required(true)
+        .arg_required_else_help(true)
         .subcommand(axes_command(alloc)?)
 }
 
@@ -117,3 +155,6 @@ pub fn read_task<'a>(alloc: Global, words: &'a [String]) -> Result<Task<'a>, Err
         }),
     }
 }
+
+#[cfg(test)]
+mod tests;

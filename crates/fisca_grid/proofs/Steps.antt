@@ -1,8 +1,8 @@
 -- The value of an axis at a place, as a fraction of two words.
-use Rattle.std.proofs.Common.{◌≡◌, ℕ, zero, suc, ◌+◌, ◌*◌, ◌-◌, ◌/◌, ◌%◌, ◌<◌, ◌≤◌, ◌^◌, ℤ, pos, negsuc, neg_ℤ, ◌+ℤ◌, ◌-ℤ◌, ◌*ℤ◌, unsigned_abs, Result, Ok, Err, arith, ap, ap₂, sym, ◌∙◌, refl, mul_comm, mul_assoc, mul_left_comm, mul-pos, true}
+use Rattle.std.proofs.Common.{◌≤ℤ◌, ◌<ℤ◌, ◌≡◌, ℕ, zero, suc, ◌+◌, ◌*◌, ◌-◌, ◌/◌, ◌%◌, ◌<◌, ◌≤◌, ◌^◌, ℤ, pos, negsuc, neg_ℤ, ◌+ℤ◌, ◌-ℤ◌, ◌*ℤ◌, unsigned_abs, Result, Ok, Err, arith, ap, ap₂, sym, ◌∙◌, refl, mul_comm, mul_assoc, mul_left_comm, mul-pos, true}
 use Rattle.std.proofs.lemmas.Int.{ints, unsigned_abs-mul}
 use Rattle.std.proofs.lemmas.Nat.{mul-le}
-use Rattle.std.proofs.Math.IntN.{*ℤ_comm}
+use Rattle.std.proofs.Math.IntN.{*ℤ_comm, zero-*ℤ}
 use Rattle.fisca_num.specs.declared.faults.NumFault.{NumFault}
 use Rattle.fisca_num.specs.declared.faults.NumFault.TheVariants.{TooWide, ZeroDivisor, NotANumber, Memory}
 use Rattle.fisca_num.specs.Rational.{Ratio, Reduces, IsTooWide, IsSame, IsWithin, over}
@@ -11,7 +11,9 @@ use Rattle.fisca_num.specs.Value.{IsNumberOf, IsFaultOf}
 use Rattle.fisca_num.specs.Operations.{number_of, is_number_of, only_number_of}
 use Rattle.fisca_num.specs.Lowest.{Divisor, divisor_of}
 use Rattle.fisca_num.specs.Reduced.{cancel_right, divided, reduces_by_gcd, size-signed_like}
-use Rattle.std.proofs.Math.Nat.{div-le_self, mul-le-mul_right}
+use Rattle.std.specs.Int.{◌∣◌, IsGcd}
+use Rattle.std.proofs.lemmas.Nat.Gcd.{dvd_trans}
+use Rattle.std.proofs.Math.Nat.{eq-zero_of_zero-dvd, zero-mul, div-le_self, div-mul_cancel, mul-le-mul_left, mul-le-mul_right}
 use Rattle.fisca_grid.specs.declared.axes.AxisSpec.{AxisSpec}
 use Rattle.fisca_grid.specs.Axes.{steps_of, way_of, step_ratio, step_of, IsLine, is_bound}
 use Rattle.std.proofs.lemmas.Bool.Decides.{nat_tests}
@@ -141,3 +143,66 @@ on_line axis a c few at_min at_max size way = record {
   rises = line_rises a c axis.min.numerator axis.max.numerator axis.min.denominator axis.max.denominator (steps_of axis) at_min at_max;
   within = near (unsigned_abs a) (unsigned_abs (c -ℤ a)) axis.count (steps_of axis) (unsigned_abs (a *ℤ pos (steps_of axis))) (omega arith) few size way (unsigned_abs-mul a (pos (steps_of axis)));
 }
+
+-- a line without a common factor of its numbers is the same line
+pub line-divided : (axis : AxisSpec) (first increment : ℤ) (denominator : ℕ) (f t : ℤ) (g : ℕ) → IsLine axis first increment denominator → 0 < g → g ∣ denominator
+    → f *ℤ pos g ≡ first → t *ℤ pos g ≡ increment → IsLine axis f t (denominator / g)
+line-divided axis first increment denominator f t g line some divides first_is increment_is =
+    let first_size : unsigned_abs f * g ≡ unsigned_abs first = sym (unsigned_abs-mul f (pos g)) ∙ ap unsigned_abs first_is in
+    let increment_size : unsigned_abs t * g ≡ unsigned_abs increment = sym (unsigned_abs-mul t (pos g)) ∙ ap unsigned_abs increment_is in
+    let back : denominator / g * g ≡ denominator = div-mul_cancel g divides in
+    let smaller : denominator / g ≤ denominator = div-le_self denominator g in
+    record {
+      few = line.few;
+      positive = some_part (denominator / g) g denominator back line.positive;
+      small = omega (arith, line.small);
+      starts = over axis.min.denominator first f axis.min.numerator denominator g some back first_is line.starts;
+      rises = over (steps_of axis * (way_of axis).denominator) increment t (way_of axis).numerator denominator g some back increment_is line.rises;
+      within = nearer (unsigned_abs f) (unsigned_abs first) (unsigned_abs t) (unsigned_abs increment) axis.count g some first_size increment_size line.within;
+    }
+  where
+    over : (k : ℕ) (whole quotient n : ℤ) (d g : ℕ) → 0 < g → d / g * g ≡ d → quotient *ℤ pos g ≡ whole → whole *ℤ pos k ≡ n *ℤ pos d → quotient *ℤ pos k ≡ n *ℤ pos (d / g)
+    over k whole quotient n d g some back is same =
+        cancel_right g some (quotient *ℤ pos k) (n *ℤ pos (d / g))
+        (times_swap quotient (pos k) (pos g) ∙ (ap (λ z. z *ℤ pos k) is ∙ (same ∙ (ap (λ m. n *ℤ pos m) (sym back) ∙ sym (times_pos n (d / g) g)))))
+
+    some_part : (q g d : ℕ) → q * g ≡ d → 0 < d → 0 < q
+    some_part zero g d is some = absurd (omega (arith, zero-mul g))
+    some_part (suc q) g d is some = omega arith
+
+    no_more : (a b g : ℕ) → 0 < g → a * g ≡ b → a ≤ b
+    no_more a b g some is = let e : a * 1 ≤ a * g = mul-le-mul_left a some in omega arith
+
+    nearer : (f first t increment count g : ℕ) → 0 < g → f * g ≡ first → t * g ≡ increment → first + count * increment < 2 ^ 63 → f + count * t < 2 ^ 63
+    nearer f first t increment count g some first_is increment_is within =
+        let less : f ≤ first = no_more f first g some first_is in
+        let slower : count * t ≤ count * increment = mul-le-mul_left count (no_more t increment g some increment_is) in
+        omega arith
+
+-- a number from its size divided by a divisor
+pub back_above : (a : ℤ) (size g : ℕ) → size ≡ unsigned_abs a → g ∣ size → pos 0 ≤ℤ a → pos (size / g) *ℤ pos g ≡ a
+back_above a size g is divides above =
+    let whole : pos (unsigned_abs a) ≡ a = omega (arith, ints) in
+    ap pos (div-mul_cancel g divides ∙ is) ∙ whole
+
+pub back_below : (a : ℤ) (size g : ℕ) → size ≡ unsigned_abs a → g ∣ size → a <ℤ pos 0 → (pos 0 -ℤ pos (size / g)) *ℤ pos g ≡ a
+back_below a size g is divides below =
+    let whole : pos 0 -ℤ pos (unsigned_abs a) ≡ a = omega (arith, ints) in
+    difference-times (pos 0) (pos (size / g)) (pos g)
+    ∙ (ap (λ z. z -ℤ pos (size / g * g)) (zero-*ℤ (pos g)) ∙ (ap (λ n. pos 0 -ℤ pos n) (div-mul_cancel g divides ∙ is) ∙ whole))
+
+-- a divisor of two numbers' common divisor divides both
+pub dvd-common : (a b shared g : ℕ) → IsGcd a b shared → g ∣ shared → (g ∣ a) × (g ∣ b)
+dvd-common a b shared g is divides = (dvd_trans g divides is.0, dvd_trans g divides is.1)
+
+-- a divisor of a number that is not 0 is not 0
+pub some_divisor : (g d : ℕ) → g ∣ d → 0 < d → 0 < g
+some_divisor zero d divides some = let none = eq-zero_of_zero-dvd divides in absurd (omega arith)
+some_divisor (suc g) d divides some = omega arith
+
+-- the increment of a line with a value is a word
+pub increment_within : (axis : AxisSpec) (first increment : ℤ) (denominator : ℕ) → 0 < axis.count → IsLine axis first increment denominator → unsigned_abs increment < 2 ^ 63
+increment_within axis first increment denominator some line = below (unsigned_abs first) axis.count (unsigned_abs increment) some line.within
+  where
+    below : (a count b : ℕ) → 0 < count → a + count * b < 2 ^ 63 → b < 2 ^ 63
+    below a count b some within = let e : b * 1 ≤ b * count = mul-le-mul_left b some in omega (arith, mul_comm b count)

@@ -1,6 +1,7 @@
 //! The axes of a grid.
 
 ghost use Rattle.std.specs.Prelude.{◌≡◌, ◌≢◌, ℕ, [], ◌∷◌, ◌≤◌, ◌<◌, ◌*◌, ◌+◌, ◌^◌, ◌+ℤ◌, ◌-ℤ◌, ◌*ℤ◌, pos, unsigned_abs, length, sum, IfOk, IfErr, IfSome, Some, None, Ok, true, slice_get};
+ghost use Rattle.std.specs.Int.{◌∣◌, IsGcd};
 ghost use Rattle.std.specs.Option.{ForSome};
 ghost use Rattle.fisca_num.specs.Operations.{number_of};
 ghost use Rattle.fisca_grid.specs.Axes.{axes_fault, axis_fault, is_bound, step_of, size_of, IsLine};
@@ -135,12 +136,24 @@ impl Axis {
         let steps = (spec.count - 1).max(1);
         let first = thousandths(spec.min);
         let last = thousandths(spec.max);
-        Ok(Axis {
+        let increment = way(first, last);
+        Ok(Axis::on_line(spec, times(first, steps), increment, 1000 * steps))
+    }
+
+    /// The axis on this line of rationals, without a factor that all three numbers have in common.
+    fn on_line(spec: AxisSpec, first: i64, increment: i64, denominator: u64) -> Axis
+        requires some { 0 < spec.count }
+        requires line { IsLine spec first increment denominator }
+        ensures { result.spec ≡ spec }
+    {
+        let shared = common_divisor(first.unsigned_abs(), increment.unsigned_abs());
+        let factor = common_divisor(shared, denominator);
+        Axis {
             spec,
-            first: times(first, steps),
-            increment: way(first, last),
-            denominator: 1000 * steps,
-        })
+            first: divided(first, factor),
+            increment: divided(increment, factor),
+            denominator: denominator / factor,
+        }
     }
 
     /// The value at a place.
@@ -150,6 +163,31 @@ impl Axis {
     {
         fraction(along(self.first, self.increment, place), self.denominator)
     }
+}
+
+/// A divisor of both numbers, the greatest.
+fn common_divisor(a: u64, b: u64) -> u64
+    ensures { IsGcd a b result }
+{
+    let mut x = a;
+    let mut y = b;
+    while y != 0 {
+        let rest = x % y;
+        x = y;
+        y = rest;
+    }
+    x
+}
+
+/// The quotient by a divisor.
+fn divided(a: i64, by: u64) -> i64
+    requires some { 0 < by }
+    requires divides { by ∣ unsigned_abs a }
+    requires within { unsigned_abs a < 2 ^ 63 }
+    ensures { result *ℤ pos by ≡ a }
+{
+    let size = (a.unsigned_abs() / by) as i64;
+    if a < 0 { -size } else { size }
 }
 
 /// How far a line has come from its first number after so many increments.

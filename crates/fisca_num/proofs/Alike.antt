@@ -14,7 +14,7 @@ use Rattle.fisca_num.specs.Operations.{number_of, is_number_of, only_number_of}
 sides : (x y : ℤ) (d e : ℕ) → x *ℤ pos d ≡ y *ℤ pos e → up x * d + down y * e ≡ up y * e + down x * d
 sides x y d e h = omega (arith, product_is x (pos d), product_is y (pos e), ap up h, ap down h)
 
-from_sides : (x y : ℤ) (d e : ℕ) → up x * d + down y * e ≡ up y * e + down x * d → x *ℤ pos d ≡ y *ℤ pos e
+pub from_sides : (x y : ℤ) (d e : ℕ) → up x * d + down y * e ≡ up y * e + down x * d → x *ℤ pos d ≡ y *ℤ pos e
 from_sides x y d e h = same_in (x *ℤ pos d) (y *ℤ pos e) (omega (arith, product_is x (pos d), product_is y (pos e), h))
 
 through : (a a' b b' c c' p q r : ℕ) → 0 < q → a * q + b' * p ≡ b * p + a' * q → b * r + c' * q ≡ c * q + b' * r → a * r + c' * p ≡ c * p + a' * r

@@ -1,46 +1,45 @@
--- What `reduce` makes: size is the size of n, and g the greatest common divisor of it and d.
-use Rattle.std.proofs.Common.{◌≡◌, ℕ, ◌/◌, ◌<◌, ◌^◌, ℤ, unsigned_abs, neg_ℤ, arith, ◌∙◌, refl, ap, sym, zero, suc, pos, Bool, true, false}
-use Rattle.std.proofs.Math.Nat.{zero-div}
+-- Parts divided by their greatest common divisor.
+use Rattle.std.proofs.Common.{◌≡◌, ℕ, ◌/◌, ◌*◌, ◌<◌, ◌^◌, ℤ, pos, neg_ℤ, unsigned_abs, Bool, true, false, arith, refl, ap, sym, ◌∙◌, Err}
 use Rattle.std.specs.Int.{IsGcd}
 use Rattle.std.proofs.lemmas.Int.{ints}
-use Rattle.fisca_num.specs.Rational.{Ratio, signed, IsLowest, IsWithin, Reduces, IsTooWide}
+use Rattle.fisca_num.specs.declared.faults.NumFault.TheVariants.{TooWide}
+use Rattle.fisca_num.specs.Rational.{Ratio, IsLowest, IsWithin, Reduces, IsTooWide, signed}
 use Rattle.fisca_num.specs.Number.{lowest-neg, within-neg}
-use Rattle.fisca_num.specs.Reduced.{signed_like, size-signed_like, lowest_by_gcd, reduces_by_gcd, too_wide_by_gcd}
+use Rattle.fisca_num.specs.Lowest.{IsCoprime, coprime_from_gcd}
+use Rattle.fisca_num.specs.Reduced.{divides_alike, quotient_pos, reduces_once}
+use Rattle.fisca_num.specs.Operations.{number_of, only_number_of}
+use Rattle.fisca_num.proofs.Alike.{number_of_same, signed_same}
 
-pub record IsCut (n v : ℤ) (d g size : ℕ) : Type 0 where
-  pub size_is : size ≡ unsigned_abs n
-  pub gcd : IsGcd size d g
-  pub some : 0 < d
-  pub same : v ≡ signed_like n (size / g)
-
-pub size-signed : (b : Bool) (n : ℕ) → n ≡ unsigned_abs (signed b n)
+pub size-signed : (b : Bool) (n : ℕ) → unsigned_abs (signed b n) ≡ n
 size-signed true n = omega (arith, ints)
 size-signed false n = refl
 
-like-signed : (b : Bool) (n m : ℕ) → (n ≡ 0 → m ≡ 0) → signed b m ≡ signed_like (signed b n) m
-like-signed true zero m h = ap (λ x. neg_ℤ (pos x)) (h refl) ∙ ap pos (sym (h refl))
-like-signed true (suc n) m h = refl
-like-signed false n m h = refl
+pub lowest_of : (b : Bool) (size d : ℕ) → 0 < d → IsCoprime size d → IsLowest (signed b size) d
+lowest_of b size d some co = record { positive = some; coprime = rw (size-signed b size) co }
 
-pub signed_cut : (b : Bool) (v r : ℤ) (d g size : ℕ) → IsGcd size d g → 0 < d → v ≡ r → r ≡ signed b (size / g) → IsCut (signed b size) v d g size
-signed_cut b v r d g size h some same s = record {
-  size_is = size-signed b size;
-  gcd = h;
-  some = some;
-  same = same ∙ s ∙ like-signed b size (size / g) (λ e. rw e (zero-div g));
-}
+pub cut_lowest : (b : Bool) (size d g : ℕ) → IsGcd size d g → 0 < d → IsLowest (signed b (size / g)) (d / g)
+cut_lowest b size d g h some = lowest_of b (size / g) (d / g) (quotient_pos size d g h some) (coprime_from_gcd size d g h some)
 
-pub lowest_cut : (n v : ℤ) (d g size : ℕ) → IsCut n v d g size → IsLowest v (d / g)
-lowest_cut n v d g size x = rw (x.same, x.size_is) (lowest_by_gcd (record { numerator = n; denominator = d }) g (rw x.size_is at x.gcd) x.some)
+pub cut_same : (b : Bool) (size d g : ℕ) → IsGcd size d g → 0 < d → number_of (record { numerator = signed b (size / g); denominator = d / g }) ≡ number_of (record { numerator = signed b size; denominator = d })
+cut_same b size d g h some = number_of_same _ _ (quotient_pos size d g h some) some (signed_same b (size / g) size d (d / g) (divides_alike size d g h some))
 
-pub within_cut : (n v : ℤ) (d g size : ℕ) → IsCut n v d g size → size / g < 2 ^ 63 → d / g < 2 ^ 63 → IsWithin v (d / g)
-within_cut n v d g size x p q = record { above = rw (x.same, size-signed_like n (size / g)) p; below = q }
+-- ---- parts in lowest terms
 
-pub reduces_cut : (n v : ℤ) (d g size : ℕ) → IsCut n v d g size → Reduces (record { numerator = n; denominator = d }) (record { numerator = v; denominator = d / g })
-reduces_cut n v d g size x = rw (x.same, x.size_is) (reduces_by_gcd (record { numerator = n; denominator = d }) g (rw x.size_is at x.gcd) x.some)
+pub itself : (r : Ratio) → IsLowest r.numerator r.denominator → Reduces r r
+itself r h = record { some = h.positive; same = refl; lowest = h }
 
-pub wide_cut : (n : ℤ) (d g size : ℕ) → size ≡ unsigned_abs n → IsGcd size d g → 0 < d → (size / g < 2 ^ 63 → d / g < 2 ^ 63 → ⊥) → IsTooWide (record { numerator = n; denominator = d })
-wide_cut n d g size e h some wide = too_wide_by_gcd (record { numerator = n; denominator = d }) g (rw e at h) some (rw e at wide)
+pub reduces_as : (b : Bool) (v : ℤ) (size d : ℕ) → v ≡ signed b size → IsLowest (signed b size) d → Reduces (record { numerator = signed b size; denominator = d }) (record { numerator = v; denominator = d })
+reduces_as b v size d e h = rw e (itself (record { numerator = signed b size; denominator = d }) h)
+
+pub beyond : (b : Bool) (size d : ℕ) → IsLowest (signed b size) d → (size < 2 ^ 63 → d < 2 ^ 63 → ⊥) → Err TooWide ≡ number_of (record { numerator = signed b size; denominator = d })
+beyond b size d h wide = only_number_of (record { numerator = signed b size; denominator = d }) (Err TooWide) (record {
+  some = h.positive;
+  wide = λ v x w. let same = reduces_once (record { numerator = signed b size; denominator = d }) v (record { numerator = signed b size; denominator = d }) x (itself _ h) in
+      wide (rw (ap unsigned_abs same.0, size-signed b size) at w.above) (rw same.1 at w.below);
+})
+
+pub within_of : (b : Bool) (v : ℤ) (size d : ℕ) → v ≡ signed b size → size < 2 ^ 63 → d < 2 ^ 63 → IsWithin v d
+within_of b v size d e p q = record { above = rw (e, size-signed b size) p; below = q }
 
 pub lowest_negated : (n v : ℤ) (d : ℕ) → v ≡ neg_ℤ n → IsLowest n d → IsLowest v d
 lowest_negated n v d e h = rw e (lowest-neg n d h)

@@ -92,7 +92,7 @@ pub too_long : (b : Bool) (ws ps : List ℕ) → AreParts ws ps → are_few (dig
 unfolding number_of_parts
 too_long b ws ps x e = rw (form_of ws ps x, e) refl
 
-valued : (b : Bool) (ws ps : List ℕ) → AreParts ws ps → are_few (digits_in ps) ≡ true → number_of (digits_ratio b (digits_in ws) (digits_in ps)) ≡ number_of_parts b ws ps
+pub valued : (b : Bool) (ws ps : List ℕ) → AreParts ws ps → are_few (digits_in ps) ≡ true → number_of (digits_ratio b (digits_in ws) (digits_in ps)) ≡ number_of_parts b ws ps
 unfolding number_of_parts
 valued b ws ps x e = rw (form_of ws ps x, e) refl
 

@@ -1,9 +1,15 @@
 pub mod Alike
+pub mod Compared
+pub mod Coprime
 pub mod Cut
 pub mod Division
 pub mod Forms
+pub mod Halving
 pub mod Places
 pub mod Powers
+pub mod Products
 pub mod Reading
+pub mod RoundTrip
 pub mod Spelled
+pub mod Sums
 pub mod Written

@@ -29,3 +29,20 @@ decimal_short n h = length-decimal-le 19 n (lit< tt) (omega arith) (omega arith)
 
 pub quotient_short : (n d : ℕ) → n < 2 ^ 63 → length (decimal (n / d)) ≤ 19
 quotient_short n d h = decimal_short (n / d) (omega (arith, div-le_self n d))
+
+pub length_pair : (n : ℕ) → 100 ≤ n → n < 2 ^ 64 → length (decimal n) ≡ length (decimal (n / 100)) + 2
+length_pair n h small =
+    let e : n / 10 / 10 ≡ n / 100 = omega arith in
+    let one = length_next n (omega arith) small in
+    let two = length_next (n / 10) (omega arith) (omega arith) in
+    omega (arith, one, two, ap (λ m. length (decimal m)) e)
+
+pub next_pair : (n : ℕ) (rest one two whole : List ℕ) → 100 ≤ n → n < 2 ^ 64 → one ≡ (48 + n % 100 % 10) ∷ rest → two ≡ (48 + n % 100 / 10) ∷ one → decimal n ++ rest ≡ whole → decimal (n / 100) ++ two ≡ whole
+next_pair n rest one two whole h small e f g =
+    let low : n % 100 % 10 ≡ n % 10 = omega arith in
+    let high : n % 100 / 10 ≡ n / 10 % 10 = omega arith in
+    let quotient : n / 10 / 10 ≡ n / 100 = omega arith in
+    rw quotient at (next_digit (n / 10) one two whole (omega arith) (omega arith) (rw high at f) (next_digit n rest one whole (omega arith) small (rw low at e) g))
+
+pub last_pair : (n : ℕ) (rest one two whole : List ℕ) → 10 ≤ n → n < 100 → one ≡ (48 + n % 10) ∷ rest → two ≡ (48 + n / 10) ∷ one → decimal n ++ rest ≡ whole → two ≡ whole
+last_pair n rest one two whole h small e f g = last_digit (n / 10) one two whole (omega arith) f (next_digit n rest one whole h (omega arith) e g)

@@ -47,7 +47,7 @@ ascii_pointed : (ps : List ℕ) → AllDigits 10 ps → IsAscii (pointed ps)
 ascii_pointed [] h = ascii_nil
 ascii_pointed (p ∷ ps) h = ascii_cons 46 (p ∷ ps) (lit< tt) (IsAscii-from_digits (p ∷ ps) h)
 
-whole_below : (v : Number) (whole ten p : ℕ) → 0 < ten → unsigned_abs v.numerator * ten ≡ (whole * ten + p) * v.denominator → whole < 2 ^ 64
+pub whole_below : (v : Number) (whole ten p : ℕ) → 0 < ten → unsigned_abs v.numerator * ten ≡ (whole * ten + p) * v.denominator → whole < 2 ^ 64
 whole_below v whole ten p some e =
     let above = v.within.above in
     let all : (whole * ten + p) * 1 ≤ (whole * ten + p) * v.denominator = mul-le-mul_left (whole * ten + p) v.lowest.positive in

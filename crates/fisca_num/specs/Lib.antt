@@ -1,6 +1,7 @@
 pub mod Answer
 pub mod Digits
 pub mod Faults
+pub mod Halves
 pub mod Literal
 pub mod Lowest
 pub mod Number

@@ -22,7 +22,7 @@ by_less a b le s = record {
   at = λ k. IsGcd-from_sub (k * a) (k * b) (k * s.gcd) (mul-le-mul_left k le) (rw (← mul-sub k a b) (s.at k));
 }
 
-scales : (n a b : ℕ) → a + b ≤ n → Scales a b
+pub scales : (n a b : ℕ) → a + b ≤ n → Scales a b
 scales n a zero h = record { gcd = a; at = λ k. IsGcd-from_zero (k * a) (k * zero) (mul-zero k) }
 scales n zero (suc b) h = swapped (suc b) zero (record { gcd = suc b; at = λ k. IsGcd-from_zero (k * suc b) (k * zero) (mul-zero k) })
 scales zero (suc a) (suc b) h = absurd (omega arith)

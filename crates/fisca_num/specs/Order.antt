@@ -20,14 +20,14 @@ by_parts x y Less e = let h = int_ranked x y Less e in omega (arith, ints, h)
 by_parts x y Equal e = let h = int_ranked x y Equal e in omega (arith, ints, h)
 by_parts x y Greater e = let h = int_ranked x y Greater e in omega (arith, ints, h)
 
-int_cmp_by_parts : (x y : ℤ) → int_cmp x y ≡ nat_cmp (up x + down y) (up y + down x)
+pub int_cmp_by_parts : (x y : ℤ) → int_cmp x y ≡ nat_cmp (up x + down y) (up y + down x)
 int_cmp_by_parts x y = nat_cmp_is _ _ (int_cmp x y) (by_parts x y (int_cmp x y) refl)
 
 -- the side of a in a comparison with b
-abbrev side : Number → Number → ℕ
+abbrev pub side : Number → Number → ℕ
 side a b = up a.numerator * b.denominator + down b.numerator * a.denominator
 
-by_sides : (a b : Number) → number_cmp a b ≡ nat_cmp (side a b) (side b a)
+pub by_sides : (a b : Number) → number_cmp a b ≡ nat_cmp (side a b) (side b a)
 by_sides a b =
     let p = product_is a.numerator (pos b.denominator) in
     let q = product_is b.numerator (pos a.denominator) in

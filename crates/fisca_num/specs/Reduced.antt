@@ -23,13 +23,13 @@ pub same_signed : (n : ℤ) (m d e : ℕ) → m * d ≡ unsigned_abs n * e → s
 same_signed (pos k) m d e h = ap pos h
 same_signed (negsuc k) m d e h = neg_times m d ∙ ap (λ x. neg_ℤ (pos x)) h
 
-divides_alike : (n d g : ℕ) → IsGcd n d g → 0 < d → (n / g) * d ≡ n * (d / g)
+pub divides_alike : (n d g : ℕ) → IsGcd n d g → 0 < d → (n / g) * d ≡ n * (d / g)
 divides_alike n d g h some =
     let gd : g * (d / g) ≡ d = mul-div_cancel' g h.1 in
     let gn : g * (n / g) ≡ n = mul-div_cancel' g h.0 in
     omega (arith, ap (λ x. (n / g) * x) gd, ap (λ x. x * (d / g)) gn)
 
-quotient_pos : (n d g : ℕ) → IsGcd n d g → 0 < d → 0 < d / g
+pub quotient_pos : (n d g : ℕ) → IsGcd n d g → 0 < d → 0 < d / g
 quotient_pos n d g h some =
     let gd : g * (d / g) ≡ d = mul-div_cancel' g h.1 in
     grind (arith, gd)

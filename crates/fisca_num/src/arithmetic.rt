@@ -1,12 +1,13 @@
 //! Sums, differences, products and quotients of fractions.
 ghost use Rattle.std.specs.Prelude.{◌≡◌, ◌^◌, ◌<◌, ◌*◌, ◌+ℤ◌, ◌-ℤ◌, ◌*ℤ◌, ◌≢◌, pos, unsigned_abs};
 ghost use Rattle.fisca_num.specs.Number.{ratio_of};
-ghost use Rattle.fisca_num.specs.Rational.{over};
+ghost use Rattle.fisca_num.specs.Rational.{over, signed};
 ghost use Rattle.fisca_num.specs.Operations.{number_of, number_over, sum_of, difference_of, product_of, quotient_of};
 
+use crate::divisors::{gcd, quotient_by};
 use crate::faults::NumFault;
 use crate::fractions::Fraction;
-use crate::reduction::reduce;
+use crate::reduction::{from_lowest, reduce, reduce_shared, reduce_word_sum};
 
 impl Fraction {
     /// The fraction `numerator / denominator` in lowest terms.
@@ -20,30 +21,57 @@ impl Fraction {
     }
 
     /// The sum. `TooWide` where a part of it is beyond the limits in lowest terms.
-    #[tactic(auto, unfolding(crate::specs::Operations::sum_of))]
     pub fn add(self, other: Fraction) -> Result<Fraction, NumFault>
         ensures { result ≡ sum_of self other }
     {
-        let numerator = self.scaled(other) + other.scaled(self);
-        reduce(numerator, self.shared(other))
+        if self.denominator == other.denominator {
+            self.add_like(other)
+        } else {
+            self.add_unlike(other)
+        }
+    }
+
+    /// The sum over one denominator.
+    fn add_like(self, other: Fraction) -> Result<Fraction, NumFault>
+        requires { self.denominator ≡ other.denominator }
+        ensures { result ≡ sum_of self other }
+    {
+        let sum = added(self.numerator, other.numerator);
+        reduce_word_sum(sum, self.denominator)
+    }
+
+    /// The sum over two denominators, of which only what they share is looked for in it.
+    fn add_unlike(self, other: Fraction) -> Result<Fraction, NumFault>
+        ensures { result ≡ sum_of self other }
+    {
+        let shared = gcd(self.denominator, other.denominator);
+        let left = quotient_by(self.denominator, shared);
+        let right = quotient_by(other.denominator, shared);
+        let sum = crossed(self.numerator, right, other.numerator, left);
+        reduce_shared(sum, left, other.denominator, shared)
     }
 
     /// The difference. `TooWide` where a part of it is beyond the limits in lowest terms.
-    #[tactic(auto, unfolding(crate::specs::Operations::difference_of))]
     pub fn sub(self, other: Fraction) -> Result<Fraction, NumFault>
         ensures { result ≡ difference_of self other }
     {
-        let numerator = self.scaled(other) - other.scaled(self);
-        reduce(numerator, self.shared(other))
+        self.add(other.neg())
     }
 
     /// The product. `TooWide` where a part of it is beyond the limits in lowest terms.
-    #[tactic(auto, unfolding(crate::specs::Operations::product_of))]
     pub fn mul(self, other: Fraction) -> Result<Fraction, NumFault>
         ensures { result ≡ product_of self other }
     {
-        let numerator = i128::from(self.numerator) * i128::from(other.numerator);
-        reduce(numerator, self.shared(other))
+        let size = self.numerator.unsigned_abs();
+        let other_size = other.numerator.unsigned_abs();
+        let over = gcd(size, other.denominator);
+        let under = gcd(other_size, self.denominator);
+        from_lowest(
+            has_negative_product(self.numerator, other.numerator),
+            u128::from(quotient_by(size, over)) * u128::from(quotient_by(other_size, under)),
+            u128::from(quotient_by(self.denominator, under))
+                * u128::from(quotient_by(other.denominator, over)),
+        )
     }
 
     /// The quotient. `ZeroDivisor` where `other` is 0, `TooWide` where a part of it is beyond the limits in lowest terms.
@@ -61,14 +89,43 @@ impl Fraction {
     {
         i128::from(self.numerator) * i128::from(other.denominator)
     }
+}
 
-    /// The product of both denominators.
-    fn shared(self, other: Fraction) -> u128
-        ensures value { result ≡ self.denominator * other.denominator }
-        ensures some { 0 < result }
-    {
-        u128::from(self.denominator) * u128::from(other.denominator)
-    }
+/// The sum of two numerators.
+fn added(numerator: i64, other: i64) -> i128
+    ensures value { result ≡ numerator +ℤ other }
+    ensures bound { unsigned_abs numerator < 2 ^ 63 → unsigned_abs other < 2 ^ 63 → unsigned_abs result < 2 ^ 64 }
+{
+    i128::from(numerator) + i128::from(other)
+}
+
+/// A numerator brought to a denominator that is `by` times as large.
+fn times(numerator: i64, by: u64) -> i128
+    requires numerator { unsigned_abs numerator < 2 ^ 63 }
+    requires by { by < 2 ^ 63 }
+    ensures value { result ≡ numerator *ℤ pos by }
+    ensures bound { unsigned_abs result < 2 ^ 126 }
+{
+    i128::from(numerator) * i128::from(by)
+}
+
+/// The sum of two numerators, each brought to a larger denominator.
+fn crossed(numerator: i64, by: u64, other: i64, other_by: u64) -> i128
+    requires numerator { unsigned_abs numerator < 2 ^ 63 }
+    requires by { by < 2 ^ 63 }
+    requires other { unsigned_abs other < 2 ^ 63 }
+    requires other_by { other_by < 2 ^ 63 }
+    ensures value { result ≡ (numerator *ℤ pos by) +ℤ (other *ℤ pos other_by) }
+    ensures bound { unsigned_abs result < 2 ^ 127 }
+{
+    times(numerator, by) + times(other, other_by)
+}
+
+/// Whether the product of two numbers is below 0, where neither is 0.
+fn has_negative_product(a: i64, b: i64) -> bool
+    ensures { a *ℤ b ≡ signed result (unsigned_abs a * unsigned_abs b) }
+{
+    (a < 0) != (b < 0)
 }
 
 /// The rational `numerator / denominator`, whose denominator may be negative.

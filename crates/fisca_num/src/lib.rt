@@ -3,6 +3,7 @@
 
 mod arithmetic;
 mod decimals;
+mod divisors;
 mod faults;
 mod fractions;
 mod laws;
@@ -14,4 +15,10 @@ mod text;
 
 pub use faults::NumFault;
 pub use fractions::Fraction;
-pub use laws::{number_of_is_the_number, numerals_are_unique, text_of_is_the_text};
+pub use laws::{
+    equal_fractions_hash_alike, number_of_is_the_number, numerals_are_read_back,
+    numerals_are_unique, text_of_is_the_text,
+};
+
+#[cfg(test)]
+mod tests;

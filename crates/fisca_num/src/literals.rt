@@ -8,7 +8,7 @@ ghost use Rattle.fisca_num.specs.Rational.{signed};
 
 use crate::faults::NumFault;
 use crate::fractions::Fraction;
-use crate::reduction::reduce_size;
+use crate::reduction::{from_lowest, reduce_size};
 
 /// The most places of a literal, zeros at the end aside.
 const MOST_PLACES: u32 = 18;
@@ -186,7 +186,10 @@ fn decimal(negative: bool, whole: u64, places: u64, count: u32) -> Result<Fracti
     requires places { places < 10 ^ count }
     ensures { result ≡ number_of (record { numerator = signed negative (whole * 10 ^ count + places); denominator = 10 ^ count }) }
 {
-    let denominator = 10u128.pow(count);
-    let size = u128::from(whole) * denominator + u128::from(places);
-    reduce_size(negative, size, denominator)
+    if count == 0 {
+        return from_lowest(negative, u128::from(whole), 1);
+    }
+    let denominator = 10u64.pow(count);
+    let size = u128::from(whole) * u128::from(denominator) + u128::from(places);
+    reduce_size(negative, size, u128::from(denominator))
 }

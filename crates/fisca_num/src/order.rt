@@ -18,7 +18,11 @@ impl Ord for Fraction {
     ghost matches_eq = { matches_number_cmp };
 
     fn cmp(&self, other: &Fraction) -> Ordering {
-        self.scaled(*other).cmp(&other.scaled(*self))
+        if self.denominator == other.denominator {
+            self.numerator.cmp(&other.numerator)
+        } else {
+            self.scaled(*other).cmp(&other.scaled(*self))
+        }
     }
 }
 

@@ -17,7 +17,7 @@ pub(crate) fn put_byte(buffer: &mut [u8], end: usize, byte: u8) -> usize
     start
 }
 
-/// Writes the digits of `number` before `end`, and gives the place of the first.
+/// Writes the digits of `number` before `end`, two at a time, and gives the place of the first.
 pub(crate) fn put_number(buffer: &mut [u8], end: usize, number: u64) -> usize
     requires room { length (decimal number) ≤ end }
     requires within { end ≤ length buffer.old }
@@ -26,11 +26,28 @@ pub(crate) fn put_number(buffer: &mut [u8], end: usize, number: u64) -> usize
 {
     let mut rest = number;
     let mut start = end;
-    while rest >= 10 {
-        start = put_byte(buffer, start, b'0' + (rest % 10) as u8);
-        rest /= 10;
+    while rest >= 100 {
+        let pair = (rest % 100) as u8;
+        start = put_byte(buffer, start, b'0' + pair % 10);
+        start = put_byte(buffer, start, b'0' + pair / 10);
+        rest /= 100;
     }
-    put_byte(buffer, start, b'0' + rest as u8)
+    put_pair(buffer, start, rest as u8)
+}
+
+/// Writes the one or two digits of `number` before `end`, and gives the place of the first.
+fn put_pair(buffer: &mut [u8], end: usize, number: u8) -> usize
+    requires pair { number < 100 }
+    requires room { length (decimal number) ≤ end }
+    requires within { end ≤ length buffer.old }
+    ensures start { result + length (decimal number) ≡ end }
+    ensures text { drop result buffer.new ≡ decimal number ++ drop end buffer.old }
+{
+    if number < 10 {
+        return put_byte(buffer, end, b'0' + number);
+    }
+    let start = put_byte(buffer, end, b'0' + number % 10);
+    put_byte(buffer, start, b'0' + number / 10)
 }
 
 /// Writes the last `count` digits of `number` before `end`, and gives the place of the first.

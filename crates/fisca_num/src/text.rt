@@ -8,6 +8,7 @@ ghost use Rattle.fisca_num.specs.Tens.{IsLeastPower};
 ghost use Rattle.fisca_num.specs.Text.{text_of};
 
 use crate::decimals::decimal_places;
+use crate::divisors::quotient_by;
 use crate::faults::NumFault;
 use crate::fractions::Fraction;
 use crate::spelling::{put_byte, put_division, put_number, put_places};
@@ -69,8 +70,10 @@ impl Fraction {
         ensures text { drop result buffer.new ≡ text_of self }
     {
         let size = self.numerator.unsigned_abs();
-        let start = put_part(buffer, size % self.denominator, self.denominator, count);
-        let start = put_number(buffer, start, size / self.denominator);
+        let whole = quotient_by(size, self.denominator);
+        let rest = size - whole * self.denominator;
+        let start = put_part(buffer, rest, self.denominator, count);
+        let start = put_number(buffer, start, whole);
         put_sign(buffer, start, self.numerator)
     }
 

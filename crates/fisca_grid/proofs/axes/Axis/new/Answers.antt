@@ -3,15 +3,14 @@ use Rattle.std.proofs.lemmas.Int.{ints}
 use Rattle.fisca_grid.proofs.Steps.{on_line}
 use Rattle.fisca_grid.proofs.axes.Axis.new.Goals as goal
 
-pub invariant_of-result : goal.invariant_of-result
-invariant_of-result c =
+pub on_line-requires-clause-line : goal.on_line-requires-clause-line
+on_line-requires-clause-line c =
     let first : to_z w64 (of_z w64 c.thousandths-first.result) ≡ c.thousandths-first.result = omega (arith, ints) in
     let last : to_z w64 (of_z w64 c.thousandths-last.result) ≡ c.thousandths-last.result = omega (arith, ints) in
     let times : to_z w64 (of_z w64 c.times.result) ≡ c.times.result = omega (arith, ints) in
-    let way : to_z w64 (of_z w64 c.way.result) ≡ c.way.result = omega (arith, ints) in
+    let way : to_z w64 (of_z w64 c.way-increment.result) ≡ c.way-increment.result = omega (arith, ints) in
     let start = rw first at c.times.ensures.value in
-    let rise = rw (last, first) at c.way.ensures.value in
-    let size = rw rise at c.way.ensures.size in
-    rw (times, way, start, rise, c.max-steps.ensures) (record {
-      line = on_line c.args.spec c.thousandths-first.result c.thousandths-last.result (omega arith) c.thousandths-first.ensures.value c.thousandths-last.ensures.value c.thousandths-first.ensures.size size;
-    })
+    let rise = rw (last, first) at c.way-increment.ensures.value in
+    let size = rw rise at c.way-increment.ensures.size in
+    rw (times, way, start, rise, c.max-steps.ensures)
+    (on_line c.args.spec c.thousandths-first.result c.thousandths-last.result (omega arith) c.thousandths-first.ensures.value c.thousandths-last.ensures.value c.thousandths-first.ensures.size size)

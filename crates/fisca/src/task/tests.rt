@@ -1,0 +1,60 @@
+use super::*;
+use crate::tests::words_of;
+use clap::error::ErrorKind;
+
+#[test]
+fn a_command_line_without_a_task_has_its_kind(rt: HostRuntime) -> Result<(), AllocError> {
+    let missing_command = ErrorKind::DisplayHelpOnMissingArgumentOrSubcommand;
+    let table = [
+        ("fisca", missing_command),
+        ("fisca chart", ErrorKind::InvalidSubcommand),
+        ("fisca axes", ErrorKind::MissingRequiredArgument),
+        ("fisca axes x=0..1/2 --rows", ErrorKind::InvalidValue),
+        (
+            "fisca axes x=0..1/2 --rows 18446744073709551616",
+            ErrorKind::ValueValidation,
+        ),
+        ("fisca axes x=0..1/2 --rows 1.0", ErrorKind::ValueValidation),
+        ("fisca axes x=0..1/2 --from -1", ErrorKind::UnknownArgument),
+        ("fisca axes x=0..1/2 --row 1", ErrorKind::UnknownArgument),
+        (
+            "fisca axes x=0..1/2 --rows 1 --rows 2",
+            ErrorKind::ArgumentConflict,
+        ),
+        ("fisca --help", ErrorKind::DisplayHelp),
+        ("fisca axes -h", ErrorKind::DisplayHelp),
+        ("fisca --version", ErrorKind::DisplayVersion),
+    ];
+    for (line, kind) in table {
+        let words = words_of(rt.alloc(), line)?;
+        match read_task(rt.alloc(), words.as_slice()) {
+            Ok(_) => assert!(rt; false, "{line}"),
+            Err(error) => assert_eq!(rt; error.kind(), kind, "{line}"),
+        }
+    }
+    Ok(())
+}
+
+#[test]
+fn words_and_options_of_axes_are_read(rt: HostRuntime) -> Result<(), AllocError> {
+    let line = "fisca axes --from +5 x=0..1/2 y --keep x>0 --rows 07";
+    let line = words_of(rt.alloc(), line)?;
+    match read_task(rt.alloc(), line.as_slice()) {
+        Ok(
+            Task::Axes {
+                words,
+                keep,
+                from,
+                rows,
+            },
+        ) => {
+            let given = words_of(rt.alloc(), "x=0..1/2 y")?;
+            assert_eq!(rt; words.as_slice(), given.as_slice());
+            assert_eq!(rt; keep, Some("x>0"));
+            assert_eq!(rt; from, 5);
+            assert_eq!(rt; rows, Some(7));
+        }
+        Err(error) => assert!(rt; false, "{error}"),
+    }
+    Ok(())
+}

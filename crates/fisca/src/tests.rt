@@ -1,0 +1,54 @@
+use super::*;
+use std::alloc::{AllocError, Global};
+
+/// The words of a command line, between single spaces.
+pub(crate) fn words_of(alloc: Global, line: &str) -> Result<Vec<String>, AllocError> {
+    let mut words = Vec::new(alloc);
+    for word in line.split(' ') {
+        words.push(String::from_str(alloc, word)?)?;
+    }
+    Ok(words)
+}
+
+#[test]
+fn each_command_line_ends_with_its_status(rt: HostRuntime) -> Result<(), AllocError> {
+    let table = [
+        ("fisca axes salary=0..2000/5 --keep salary>=500 --rows 2", 0),
+        ("fisca axes salary=0..2000/5 --from 5", 0),
+        ("fisca axes salary=0..2000/5 --from 6", 3),
+        ("fisca axes salary=0..2000/5 --keep rent>0 --from 6", 3),
+        ("fisca axes salary=7..9", 3),
+        ("fisca axes salary=7..9/0", 3),
+        ("fisca axes salary=0..1000000001/2", 3),
+        ("fisca axes", 2),
+        ("fisca", 2),
+        ("fisca --help", 0),
+        ("fisca axes --help", 0),
+        ("fisca --version", 0),
+    ];
+    for (line, status) in table {
+        let words = words_of(rt.alloc(), line)?;
+        assert_eq!(rt; run_words(&rt, words.as_slice()), status, "{line}");
+    }
+    Ok(())
+}
+
+#[test]
+fn the_last_line_tells_how_the_run_ended(rt: HostRuntime) {
+    let mut text = Vec::new(rt.alloc());
+    assert_eq!(rt; end_run(&rt, RunEnd::More(18), &mut text), 0);
+    assert_eq!(rt; end_run(&rt, RunEnd::End, &mut text), 0);
+    assert_eq!(rt; text.as_slice(), b"more 18\nend\n".as_slice());
+}
+
+#[test]
+fn lines_that_cannot_be_handed_over_are_a_failed_write(rt: HostRuntime) -> io::Result<()> {
+    let mut room = [0u8; 3];
+    let mut writer = BufWriter::new(rt.alloc(), room.as_mut_slice())?;
+    assert_eq!(rt; end_run(&rt, RunEnd::End, &mut writer), 5);
+    let mut room = [0u8; 3];
+    let mut writer = BufWriter::new(rt.alloc(), room.as_mut_slice())?;
+    writer.write_all(b"0\t7\n")?;
+    assert_eq!(rt; refuse(&rt, Refusal::BadWord, &mut writer), 5);
+    Ok(())
+}

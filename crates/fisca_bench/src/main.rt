@@ -1,0 +1,42 @@
+//! Benchmarks: measures one subject of the crates and prints the nanoseconds that it took and a checksum of its
+//! answers. The same work is done by a plain Rust program under `bench/`, which prints the same checksum.
+#![tactic(auto)]
+
+mod numbers;
+mod periods;
+
+use std::{env, io};
+
+/// What a run of a benchmark gives: its time, and a checksum of its answers.
+pub struct Measured {
+    pub nanoseconds: u128,
+    pub checksum: u64,
+}
+
+fn main(rt: HostRuntime) -> io::Result<()> {
+    let words: Vec<String> = env::args(&rt)?.skip(1).collect(rt.alloc())?;
+    match words.as_slice() {
+        [] => list(&rt),
+        [subject, rest @ ..] => match subject.as_str() {
+            "numbers" => numbers::run(&rt, rt.alloc(), rest),
+            "periods" => periods::run(&rt, rt.alloc(), rest),
+            _ => list(&rt),
+        },
+    }
+}
+
+/// Lists the benchmarks.
+fn list(rt: &impl Print) -> io::Result<()> {
+    println!(rt; "fisca_bench SUBJECT WORD.. COUNT")?;
+    println!(rt; "numbers add|mul|cmp|text|decimal whole|hundredths|unlike COUNT")?;
+    println!(rt; "periods read|text|offset|named|sub|compare|hash COUNT")
+}
+
+/// Prints what was measured.
+fn show(rt: &impl Print, measured: Measured) -> io::Result<()> {
+    let Measured {
+        nanoseconds,
+        checksum,
+    } = measured;
+    println!(rt; "{nanoseconds} {checksum}")
+}

@@ -1,0 +1,200 @@
+//! Reading, writing, moving, dividing, comparing and hashing periods, on a table of periods that is gone over again
+//! and again.
+use crate::{Measured, list, show};
+use fisca_time::{Period, Unit};
+use std::alloc::{AllocError, Global};
+use std::hash::{FoldHasher, Hash, Hasher};
+use std::io;
+use std::rt::Clock;
+use std::time::Instant;
+
+/// How many operations one pass over the table makes.
+const TABLE: u64 = 1024;
+
+/// `periods OPERATION COUNT`.
+pub fn run(rt: &(impl Print + Clock), alloc: Global, words: &[String]) -> io::Result<()> {
+    match words {
+        [operation, count] => {
+            let count: u64 = count.as_str().parse().unwrap_or(0);
+            match measure(rt, alloc, operation.as_str(), count / TABLE)? {
+                Some(measured) => show(rt, measured),
+                None => list(rt),
+            }
+        }
+        _ => list(rt),
+    }
+}
+
+/// Measures an operation, going over the table as often as `rounds` says.
+fn measure(
+    rt: &impl Clock,
+    alloc: Global,
+    operation: &str,
+    rounds: u64,
+) -> io::Result<Option<Measured>> {
+    let texts = texts_of(alloc)?;
+    let periods = periods_of(alloc, texts.as_slice())?;
+    let start = Instant::now(rt)?;
+    let checksum = match operation {
+        "read" => read(texts.as_slice(), rounds),
+        "text" => written(alloc, periods.as_slice(), rounds),
+        "offset" => offset(periods.as_slice(), rounds),
+        "named" => named(periods.as_slice(), rounds),
+        "sub" => last_months(periods.as_slice(), rounds),
+        "compare" => compared(periods.as_slice(), rounds),
+        "hash" => hashed(periods.as_slice(), rounds),
+        _ => return Ok(None),
+    };
+    let nanoseconds = start.elapsed(rt)?.as_nanos();
+    Ok(Some(Measured {
+        nanoseconds,
+        checksum,
+    }))
+}
+
+/// The next of a row of numbers that look like random ones.
+fn next(state: u64) -> u64 {
+    let mut x = state;
+    x ^= x << 13;
+    x ^= x >> 7;
+    x ^= x << 17;
+    x
+}
+
+/// Texts of all forms, months most often.
+fn texts_of(alloc: Global) -> Result<Vec<String>, AllocError> {
+    let mut texts = Vec::with_capacity(alloc, TABLE as usize)?;
+    let mut state = 88_172_645_463_325_252u64;
+    for _ in 0..TABLE {
+        let a = next(state);
+        state = next(a);
+        let year = 1900 + a % 200;
+        let month = 1 + state % 12;
+        let size = 2 + state % 30;
+        texts.push(match a % 8 {
+            0 => format!(in alloc; "{year}")?,
+            1 => format!(in alloc; "year:{year}-{month:02}")?,
+            2 => format!(in alloc; "month:{year}-{month:02}:{size}")?,
+            3 => format!(in alloc; "year:{year}:{size}")?,
+            _ => format!(in alloc; "{year}-{month:02}")?,
+        })?;
+    }
+    Ok(texts)
+}
+
+fn periods_of(alloc: Global, texts: &[String]) -> Result<Vec<Period>, AllocError> {
+    let mut periods = Vec::with_capacity(alloc, TABLE as usize)?;
+    for text in texts {
+        periods.push(Period::read(text.as_str()).unwrap_or(Period::ETERNITY))?;
+    }
+    Ok(periods)
+}
+
+/// A checksum with one more period.
+fn mixed(checksum: u64, period: Period) -> u64 {
+    let months = u64::from(period.months().unwrap_or(0));
+    let start = match period.start() {
+        Some(day) => u64::from(day.year()) * 16 + u64::from(day.month()),
+        None => 0,
+    };
+    checksum.rotate_left(5).wrapping_add((start << 16) ^ months)
+}
+
+fn read(texts: &[String], rounds: u64) -> u64 {
+    let mut checksum = 0;
+    for _ in 0..rounds {
+        for text in texts {
+            if let Ok(period) = Period::read(text.as_str()) {
+                checksum = mixed(checksum, period);
+            }
+        }
+    }
+    checksum
+}
+
+fn written(alloc: Global, periods: &[Period], rounds: u64) -> u64 {
+    let mut checksum: u64 = 0;
+    for _ in 0..rounds {
+        for period in periods {
+            if let Ok(text) = period.text(alloc) {
+                let last = text.as_bytes().last().copied().unwrap_or(0);
+                checksum = checksum
+                    .rotate_left(5)
+                    .wrapping_add(text.len() as u64 ^ u64::from(last));
+            }
+        }
+    }
+    checksum
+}
+
+/// Moves by -8 to 7 of the period's own unit.
+fn offset(periods: &[Period], rounds: u64) -> u64 {
+    let mut checksum = 0;
+    for round in 0..rounds {
+        let k = (round % 16) as i64 - 8;
+        for period in periods {
+            if let Ok(moved) = period.offset(k) {
+                checksum = mixed(checksum, moved);
+            }
+        }
+    }
+    checksum
+}
+
+/// The moves that formulas name, as they are asked for in a formula.
+fn named(periods: &[Period], rounds: u64) -> u64 {
+    let mut checksum = 0;
+    for round in 0..rounds {
+        for period in periods {
+            let moved = match round % 4 {
+                0 => period.last_month(),
+                1 => period.last_year(),
+                2 => period.this_year(),
+                _ => period.last_3_months(),
+            };
+            if let Ok(moved) = moved {
+                checksum = mixed(checksum, moved);
+            }
+        }
+    }
+    checksum
+}
+
+/// The last month of each period.
+fn last_months(periods: &[Period], rounds: u64) -> u64 {
+    let mut checksum = 0;
+    for _ in 0..rounds {
+        for period in periods {
+            if let Ok(count) = period.sub_count(Unit::Month) {
+                checksum = mixed(checksum, period.sub(Unit::Month, count - 1));
+            }
+        }
+    }
+    checksum
+}
+
+/// Equality and order of each period and its neighbour.
+fn compared(periods: &[Period], rounds: u64) -> u64 {
+    let mut checksum: u64 = 0;
+    let mut before = Period::ETERNITY;
+    for _ in 0..rounds {
+        for period in periods {
+            let word = u64::from(*period == before) + 2 * u64::from(*period < before);
+            checksum = checksum.rotate_left(2).wrapping_add(word);
+            before = *period;
+        }
+    }
+    checksum
+}
+
+fn hashed(periods: &[Period], rounds: u64) -> u64 {
+    let mut checksum: u64 = 0;
+    for _ in 0..rounds {
+        for period in periods {
+            let mut hasher = FoldHasher::default();
+            period.hash(&mut hasher);
+            checksum = checksum.rotate_left(5).wrapping_add(hasher.finish());
+        }
+    }
+    checksum
+}

@@ -1,0 +1,26 @@
+use Rattle.std.proofs.Common.{◌≡◌, ◌+◌, ◌-◌, ◌%◌, ◌^◌, arith, refl}
+use Rattle.std.proofs.lemmas.Nat.Gcd.{dvd_refl}
+use Rattle.fisca_num.proofs.Halving.{IsStep, step_gcd, step_odd, step_less}
+use Rattle.fisca_num.proofs.divisors.odd_gcd.Goals as goal
+
+pub loop-x-preserved : goal.loop-x-preserved
+loop-x-preserved c =
+    let s : IsStep c.loop-x.x c.loop-x.y ((c.loop-x.y + (2 ^ 64 - c.loop-x.x)) % 2 ^ 64) c.halvings-twos.result c.abs_diff.result = record {
+      x_odd = c.loop-x.invariant.x_odd;
+      y_odd = c.loop-x.invariant.y_odd;
+      x_word = omega arith;
+      y_word = omega arith;
+      other = c.loop-x-test.true;
+      difference = refl;
+      halved = c.halvings-twos.ensures;
+      gap_is = c.abs_diff.ensures;
+    } in
+    let odd = step_odd _ _ _ _ _ s in
+    record {
+      x_odd = rw c.min-less.ensures odd.0;
+      y_odd = odd.1;
+      gcd = λ g h. c.loop-x.invariant.gcd g (step_gcd _ _ _ _ _ g s (rw c.min-less.ensures at h));
+    }
+
+pub returns : goal.returns
+returns c = c.loop-x.invariant.gcd _ (dvd_refl _, rw c.loop-x-test.false (dvd_refl _), λ d p q. p)

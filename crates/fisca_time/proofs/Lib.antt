@@ -1,0 +1,7 @@
+mod Forms
+mod Numerals
+mod ReadBack
+mod Shortest
+mod Spans
+mod Splits
+mod Texts

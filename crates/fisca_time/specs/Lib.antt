@@ -1,0 +1,5 @@
+pub mod Instant
+pub mod Period
+pub mod PeriodText
+pub mod Pieces
+pub mod Unit

@@ -1,0 +1,103 @@
+ghost use Rattle.std.specs.Prelude.{◌≡◌, ◌≢◌, ◌<◌, min, true, false, IfSome, MatchOption, option_map, if◌then◌else◌};
+ghost use Rattle.std.specs.Str.Parse.{digits_value};
+ghost use Rattle.fisca_time.specs.Pieces.{pieces};
+ghost use Rattle.fisca_time.specs.PeriodText.{start_of_text, unit_named, form_in, form_of_pieces, with_limit, is_month_text, is_size_text};
+
+use crate::Unit;
+use crate::pieces::{TOO_LARGE, number_of, numeral, split};
+
+/// What a period text says, whether or not there is such a period.
+#[derive(Clone, Copy, Debug)]
+pub(crate) struct Form {
+    pub unit: Unit,
+    pub year: u32,
+    pub month: u32,
+    pub size: u32,
+}
+
+/// What a text of a period other than eternity says, with a size of at most `TOO_LARGE`.
+pub(crate) fn written_period(text: &str) -> Option<Form>
+    ensures form { result ≡ option_map (with_limit TOO_LARGE) (form_of_pieces (pieces 58 text.now)) }
+    ensures unit { IfSome result (λ form. form.unit ≢ Unit.Eternity) }
+    ensures year { IfSome result (λ form. form.year < 10_000) }
+    ensures month { IfSome result (λ form. form.month < 100) }
+{
+    let Some((word, rest)) = split(text, ':') else {
+        return written_start(text);
+    };
+    let unit = named_unit(word)?;
+    let Some((start, size)) = split(rest, ':') else {
+        return under_unit(unit, written_start(rest)?);
+    };
+    let form = under_unit(unit, written_start(start)?)?;
+    let size = written_size(size)?;
+    Some(Form { size, ..form })
+}
+
+/// A year, or a month of a year.
+fn written_start(text: &str) -> Option<Form>
+    ensures form { result ≡ start_of_text text.now }
+    ensures unit { IfSome result (λ form. form.unit ≢ Unit.Eternity) }
+    ensures year { IfSome result (λ form. form.year < 10_000) }
+    ensures month { IfSome result (λ form. form.month < 100) }
+    ensures size { IfSome result (λ form. form.size ≡ 1) }
+{
+    let Some((year, month)) = split(text, '-') else {
+        let year = numeral(4, text)?;
+        return Some(Form {
+            unit: Unit::Year,
+            year,
+            month: 1,
+            size: 1,
+        });
+    };
+    let year = numeral(4, year)?;
+    let month = written_month(month)?;
+    Some(Form {
+        unit: Unit::Month,
+        year,
+        month,
+        size: 1,
+    })
+}
+
+fn written_month(text: &str) -> Option<u32>
+    ensures value { result ≡ (if is_month_text text.now then Some (digits_value 10 text.now) else None) }
+    ensures bound { IfSome result (λ month. month < 100) }
+{
+    numeral(1, text).or(numeral(2, text))
+}
+
+/// The unit of a word before a start.
+fn named_unit(word: &str) -> Option<Unit>
+    ensures { result ≡ unit_named word.now }
+{
+    match word {
+        "year" => Some(Unit::Year),
+        "month" => Some(Unit::Month),
+        _ => None,
+    }
+}
+
+/// The start, counted in that unit.
+fn under_unit(unit: Unit, start: Form) -> Option<Form>
+    ensures { result ≡ form_in unit start }
+{
+    match unit {
+        Unit::Year => Some(Form { unit, ..start }),
+        Unit::Month if start.unit == Unit::Month => Some(start),
+        _ => None,
+    }
+}
+
+/// A size, or `TOO_LARGE` where it is larger.
+fn written_size(text: &str) -> Option<u32>
+    ensures { MatchOption result (is_size_text text.now ≡ false)
+        (λ n. (is_size_text text.now ≡ true) × (n ≡ min TOO_LARGE (digits_value 10 text.now))) }
+{
+    if text.is_empty() {
+        None
+    } else {
+        number_of(text.as_bytes())
+    }
+}

@@ -1,0 +1,150 @@
+ghost use Rattle.std.specs.Prelude.{◌≡◌, ◌<◌, ◌≤◌, ◌+◌, ◌/◌, ◌%◌, IsTrue, IfSome, option_map};
+ghost use Rattle.fisca_time.specs.Instant.{is_on_calendar, date_of_pieces, instant_if_real, instant_of_text};
+ghost use Rattle.fisca_time.specs.Pieces.{pieces};
+
+use crate::TimeFault;
+use crate::pieces::{numeral, split};
+use jiff::civil::Date;
+use std::cmp::Ordering;
+use std::marker::Model;
+
+/// A day of the calendar, from 0001-01-01 to 9999-12-31. Instants are ordered by time.
+#[derive(Clone, Copy, Debug, PartialEq, Eq, Hash)]
+pub struct Instant {
+    year: u16,
+    month: u8,
+    day: u8,
+}
+
+impl Model for Instant {
+    ghost use Rattle.std.specs.Prelude.{IsTrue};
+    ghost use Rattle.fisca_time.specs.Instant.{CivilDate, is_on_calendar};
+
+    ghost Value = { CivilDate };
+
+    ghost view = { λ i. record { year = i.year; month = i.month; day = i.day } };
+
+    ghost invariant = { λ i. IsTrue (is_on_calendar (record { year = i.year; month = i.month; day = i.day })) };
+
+    ghost inverse = { λ d. record { year = d.year; month = d.month; day = d.day } };
+}
+
+impl Ord for Instant {
+    ghost use Rattle.std.proofs.Common.{rules};
+    ghost use Rattle.std.specs.Cmp.Rules.{comparing};
+    ghost use Rattle.fisca_time.specs.Instant.{date_cmp};
+
+    ghost cmp = { date_cmp };
+
+    ghost total = { Prim.search (comparing, rules) };
+
+    ghost matches_partial_cmp = { Prim.search (comparing, rules) };
+
+    ghost matches_eq = { Prim.search (comparing, rules) };
+
+    fn cmp(&self, other: &Instant) -> Ordering {
+        let month = self.month.cmp(&other.month);
+        self.year
+            .cmp(&other.year)
+            .then(month)
+            .then(self.day.cmp(&other.day))
+    }
+}
+
+impl PartialOrd for Instant {
+    ghost use Rattle.std.proofs.Common.{rules};
+    ghost use Rattle.std.specs.Cmp.{partial_order_from_own_ties};
+    ghost use Rattle.std.specs.Cmp.Rules.{comparing};
+    ghost use Rattle.std.specs.Ordering.{as_partial_cmp};
+    ghost use Rattle.fisca_time.specs.Instant.{date_cmp};
+
+    ghost partial_cmp = { as_partial_cmp date_cmp };
+
+    ghost laws = { partial_order_from_own_ties (Prim.search (comparing, rules)) (Prim.search (comparing, rules)) };
+
+    fn partial_cmp(&self, other: &Instant) -> Option<Ordering> {
+        Some(self.cmp(other))
+    }
+}
+
+impl Instant {
+    /// The instant that a text of the form `YYYY-MM-DD` names, as the OpenFisca documentation
+    /// writes instants: four, two and two decimal digits.
+    ///
+    /// Any other text is `BadText`. A day that the calendar lacks, as `2015-02-29`, `2015-13-01` or
+    /// any of the year 0000, is `OutOfRange`.
+    pub fn read(text: &str) -> Result<Instant, TimeFault>
+        ensures { result ≡ instant_of_text text.now }
+    {
+        match written_date(text) {
+            Some((year, month, day)) => Instant::on_calendar(year, month, day),
+            None => Err(TimeFault::BadText),
+        }
+    }
+
+    fn on_calendar(year: u32, month: u32, day: u32) -> Result<Instant, TimeFault>
+        requires year { year < 10_000 }
+        requires month { month < 100 }
+        requires day { day < 100 }
+        ensures { result ≡ instant_if_real (Some (record { year = year; month = month; day = day })) }
+    {
+        if year == 0 {
+            return Err(TimeFault::OutOfRange);
+        }
+        match Date::new(year as i16, month as i8, day as i8) {
+            Ok(_) => Ok(Instant {
+                year: year as u16,
+                month: month as u8,
+                day: day as u8,
+            }),
+            Err(_) => Err(TimeFault::OutOfRange),
+        }
+    }
+
+    /// The first day of a month, which is numbered from January of the year 0 on.
+    pub(crate) fn first_of(month: u32) -> Instant
+        requires from { 12 ≤ month }
+        requires to { month < 120_000 }
+        ensures { result ≡ record { year = month / 12; month = month % 12 + 1; day = 1 } }
+    {
+        Instant {
+            year: (month / 12) as u16,
+            month: (month % 12 + 1) as u8,
+            day: 1,
+        }
+    }
+
+    /// The year, from 1 to 9999.
+    pub fn year(self) -> u16
+        ensures value { result ≡ self.year }
+        ensures real { IsTrue (is_on_calendar self) }
+    {
+        self.year
+    }
+
+    /// The month, from 1 for January to 12.
+    pub fn month(self) -> u8
+        ensures value { result ≡ self.month }
+        ensures real { IsTrue (is_on_calendar self) }
+    {
+        self.month
+    }
+
+    /// The day of the month, from 1.
+    pub fn day(self) -> u8
+        ensures value { result ≡ self.day }
+        ensures real { IsTrue (is_on_calendar self) }
+    {
+        self.day
+    }
+}
+
+/// The numbers of `YYYY`, `MM` and `DD` in a text of the form `YYYY-MM-DD`.
+fn written_date(text: &str) -> Option<(u32, u32, u32)>
+    ensures date { option_map (λ d. record { year = d.0; month = d.1; day = d.2 }) result ≡ date_of_pieces (pieces 45 text.now) }
+    ensures bound { IfSome result (λ d. (d.0 < 10_000) × (d.1 < 100) × (d.2 < 100)) }
+{
+    let (year, rest) = split(text, '-')?;
+    let (month, day) = split(rest, '-')?;
+    Some((numeral(4, year)?, numeral(2, month)?, numeral(2, day)?))
+}

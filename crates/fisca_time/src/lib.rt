@@ -1,0 +1,20 @@
+//! Instants and periods, as the OpenFisca documentation has them.
+//!
+//! An `Instant` is a day of the calendar, a `Period` is eternity or a number of months or years
+//! from the first of a month on. The calendar is `jiff`'s.
+#![tactic(auto)]
+
+mod fault;
+mod form;
+mod instant;
+mod period;
+mod pieces;
+mod unit;
+
+pub use fault::TimeFault;
+pub use instant::Instant;
+pub use period::Period;
+pub use unit::Unit;
+
+#[cfg(test)]
+mod tests;

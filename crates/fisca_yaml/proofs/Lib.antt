@@ -1,0 +1,11 @@
+pub mod Blocks
+pub mod Bracketed
+pub mod Depth
+pub mod FlowDepth
+pub mod Grown
+pub mod Groups
+pub mod Quotes
+pub mod Splits
+pub mod Steps
+pub mod Twice
+pub mod Worked

@@ -1,0 +1,5 @@
+use Rattle.std.proofs.Common.{◌-◌, ◌^◌}
+use Rattle.fisca_yaml.proofs.misfit.misfit.Given as goal
+
+abbrev pub decreases-items : goal.decreases-items
+decreases-items l = 2 ^ 32 - l.inner.indent

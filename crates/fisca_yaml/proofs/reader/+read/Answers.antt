@@ -1,0 +1,158 @@
+use Rattle.std.proofs.Common.{◌≡◌, ◌≤◌, ◌∷◌, [], Some, false, option_map, sym, ap, ◌∙◌, subst, arith, rules}
+use Rattle.std.proofs.lemmas.Result.{err_from_is_err_and}
+use Rattle.fisca_yaml.specs.Node.{null, list, no_items, no_entries}
+use Rattle.fisca_yaml.specs.Rows.{rank}
+use Rattle.fisca_yaml.specs.Grouping.{front, after, groups, block, items_of, entries_of, item_value, entry_value, map_of, opens}
+use Rattle.fisca_yaml.specs.Answers.{Gives}
+use Rattle.fisca_yaml.specs.Lines.{row}
+use Rattle.fisca_yaml.specs.Views.{node, entries_view, items_before, entries_before}
+use Rattle.fisca_yaml.specs.declared.tree.Tree.{Null, the_lemmas}
+use Rattle.fisca_yaml.proofs.Blocks.{block-nil, block-zero, block-closed, block-item, block-entry}
+use Rattle.fisca_yaml.proofs.Grown.{node-List, items_more, items_none, entries_more, entries_none, items_before-no_items, entries_before-no_entries}
+use Rattle.fisca_yaml.proofs.Groups.{takes, Takes, Takes-after, Takes-settled, Takes-fewer, front_deeper, pending, waiting, waiting-map, front_after, after_after}
+use Rattle.fisca_yaml.proofs.reader.+read.Goals as goal
+
+pub read_below-returns-in-None-clause-value : goal.read_below-returns-in-None-clause-value
+read_below-returns-in-None-clause-value t c =
+    let seen : node Null ≡ null = search (rules, the_lemmas) in
+    ap (block c.args.depth) c.in-None.ensures.none.0 ∙ block-nil c.args.depth ∙ ap Some (sym seen)
+
+pub read_block-returns-then-depth-eq0-clause-value : goal.read_block-returns-then-depth-eq0-clause-value
+read_block-returns-then-depth-eq0-clause-value t c never = block-zero c.args.depth _ _ c.if-depth-eq0.true
+
+pub read_block-returns-in_err-read_items-clause-value : goal.read_block-returns-in_err-read_items-clause-value
+read_block-returns-in_err-read_items-clause-value t c =
+    let p = err_from_is_err_and c.from_residual.result c.from_residual.ensures.1 in
+    rw (p.1, p.2) (λ k. block-item c.args.depth (row c.args.head) (front c.args.floor c.args.rest.now) (omega arith) (grind arith) ∙ ap (option_map list) (c.in_err-read_items.ensures.value k))
+
+pub read_block-returns-in_err-entries-clause-value : goal.read_block-returns-in_err-entries-clause-value
+read_block-returns-in_err-entries-clause-value t c =
+    let p = err_from_is_err_and c.from_residual-in_err-entries.result c.from_residual-in_err-entries.ensures.1 in
+    rw (p.1, p.2) (λ k. block-entry c.args.depth (row c.args.head) (front c.args.floor c.args.rest.now) (omega arith) (grind arith) ∙ ap map_of (c.in_err-entries.ensures.value k))
+
+pub read_block-returns-in_ok-read_items-clause-value : goal.read_block-returns-in_ok-read_items-clause-value
+read_block-returns-in_ok-read_items-clause-value t c =
+    block-item c.args.depth (row c.args.head) (front c.args.floor c.args.rest.now) (omega arith) (grind arith) ∙ ap (option_map list) c.in_ok-read_items.ensures.value ∙ ap Some (sym (node-List c.in_ok-read_items.field-0))
+
+pub read_block-returns-in_ok-entries-clause-value : goal.read_block-returns-in_ok-entries-clause-value
+read_block-returns-in_ok-entries-clause-value t c =
+    let whole : block c.args.depth (row c.args.head ∷ front c.args.floor c.args.rest.now) ≡ map_of (Some (entries_view c.in_ok-entries.entries.items)) =
+    block-entry c.args.depth (row c.args.head) (front c.args.floor c.args.rest.now) (omega arith) (grind arith) ∙ ap map_of c.in_ok-entries.ensures.value in
+    subst (Gives node c.make_map.result) (sym whole) c.make_map.ensures
+
+pub read_items-loop-next-smaller : goal.read_items-loop-next-smaller
+read_items-loop-next-smaller t c =
+    let l = c.loop-next in
+    let left = c.in_ok-value.ensures.rest in
+    let took : Takes c.args.floor c.read_item.new.rest (option_map row c.next_deeper-next.result) c.next_deeper-next.new.self = takes c.args.floor c.read_item.new.rest row c.next_deeper-next.result c.next_deeper-next.new.self c.next_deeper-next.ensures.none c.next_deeper-next.ensures.some in
+    let fewer = Takes-fewer c.args.floor (rank (row c.in-Some.line)) l.rest (option_map row c.next_deeper-next.result) c.next_deeper-next.new.self (rw left at took) in
+    omega (arith, fewer, waiting-map row c.next_deeper-next.result, ap waiting c.in-Some.is)
+
+pub read_items-loop-next-preserved : goal.read_items-loop-next-preserved
+read_items-loop-next-preserved t c =
+    let l = c.loop-next in
+    let line = row c.in-Some.line in
+    let f = c.args.floor in
+    let r = c.rank-rank.result in
+    let value = item_value c.args.depth (block c.args.depth) in
+    let next = option_map row c.next_deeper-next.result in
+    let new = c.next_deeper-next.new.self in
+    let left = c.in_ok-value.ensures.rest in
+    let below : f ≤ r = grind arith in
+    let here : rank line ≡ r = grind arith in
+    let took : Takes f c.read_item.new.rest next new = takes f c.read_item.new.rest row c.next_deeper-next.result new c.next_deeper-next.ensures.none c.next_deeper-next.ensures.some in
+    let before : items_of value r (groups r (pending f (option_map row l.next) l.rest)) ≡ items_of value r (groups r (line ∷ front f l.rest)) = ap (λ o. items_of value r (groups r (pending f (option_map row o) l.rest))) c.in-Some.is in
+    let more = items_more value f r line l.rest below here l.items.items c.push_item.new.items.items (node c.in_ok-value.value) next new c.read_item.new.rest c.in_ok-value.ensures.value c.in_ok-push_item.ensures.ok left took in
+    let shallow : front r c.read_item.new.rest ≡ [] = ap (front r) left ∙ ap (λ k. front r (after k l.rest)) here ∙ front_after r l.rest in
+    record {
+      turn = l.invariant.turn ∙ ap (option_map (items_before l.items.items)) before ∙ more;
+      left = Takes-after f c.read_item.new.rest next new took ∙ ap (after f) left ∙ after_after f (rank line) l.rest (omega arith) ∙ l.invariant.left;
+      next = Takes-settled f r c.read_item.new.rest next new shallow took;
+    }
+
+pub read_items-returns-clause-value : goal.read_items-returns-clause-value
+read_items-returns-clause-value t c =
+    let l = c.loop-next in
+    let r = c.rank-rank.result in
+    let value = item_value c.args.depth (block c.args.depth) in
+    let same : r ≡ rank (row c.args.head) = c.rank-rank.ensures in
+    let done : items_of value r (groups r (pending c.args.floor (option_map row l.next) l.rest)) ≡ Some no_items = ap (λ o. items_of value r (groups r (pending c.args.floor (option_map row o) l.rest))) c.in_default.is in
+    ap (λ k. items_of value k (groups k (row c.args.head ∷ front c.args.floor c.args.rest.now))) (sym same) ∙ l.invariant.turn ∙ ap (option_map (items_before l.items.items)) done ∙ ap Some (items_before-no_items l.items.items)
+
+pub read_items-returns-in_err-value-clause-value : goal.read_items-returns-in_err-value-clause-value
+read_items-returns-in_err-value-clause-value t c =
+    let l = c.loop-next in
+    let line = row c.in-Some.line in
+    let f = c.args.floor in
+    let r = c.rank-rank.result in
+    let value = item_value c.args.depth (block c.args.depth) in
+    let same : r ≡ rank (row c.args.head) = c.rank-rank.ensures in
+    let below : f ≤ r = grind arith in
+    let here : rank line ≡ r = grind arith in
+    let before : items_of value r (groups r (pending f (option_map row l.next) l.rest)) ≡ items_of value r (groups r (line ∷ front f l.rest)) = ap (λ o. items_of value r (groups r (pending f (option_map row o) l.rest))) c.in-Some.is in
+    let p = err_from_is_err_and c.from_residual.result c.from_residual.ensures.1 in
+    rw (p.1, p.2) (λ k. ap (λ k. items_of value k (groups k (row c.args.head ∷ front c.args.floor c.args.rest.now))) (sym same) ∙ l.invariant.turn
+    ∙ ap (option_map (items_before l.items.items)) (before ∙ items_none value f r line l.rest below here (c.in_err-value.ensures.value k)))
+
+pub read_entries-loop-next-smaller : goal.read_entries-loop-next-smaller
+read_entries-loop-next-smaller t c =
+    let l = c.loop-next in
+    let left = c.in_ok-key.ensures.rest in
+    let took : Takes c.args.floor c.read_entry.new.rest (option_map row c.next_deeper-next.result) c.next_deeper-next.new.self = takes c.args.floor c.read_entry.new.rest row c.next_deeper-next.result c.next_deeper-next.new.self c.next_deeper-next.ensures.none c.next_deeper-next.ensures.some in
+    let fewer = Takes-fewer c.args.floor (rank (row c.in-Some.line)) l.rest (option_map row c.next_deeper-next.result) c.next_deeper-next.new.self (rw left at took) in
+    omega (arith, fewer, waiting-map row c.next_deeper-next.result, ap waiting c.in-Some.is)
+
+pub read_entries-loop-next-preserved : goal.read_entries-loop-next-preserved
+read_entries-loop-next-preserved t c =
+    let l = c.loop-next in
+    let line = row c.in-Some.line in
+    let f = c.args.floor in
+    let r = c.rank-rank.result in
+    let value = entry_value c.args.depth (block c.args.depth) in
+    let next = option_map row c.next_deeper-next.result in
+    let new = c.next_deeper-next.new.self in
+    let left = c.in_ok-key.ensures.rest in
+    let below : f ≤ r = grind arith in
+    let here : rank line ≡ r = grind arith in
+    let took : Takes f c.read_entry.new.rest next new = takes f c.read_entry.new.rest row c.next_deeper-next.result new c.next_deeper-next.ensures.none c.next_deeper-next.ensures.some in
+    let before : entries_of value r (groups r (pending f (option_map row l.next) l.rest)) ≡ entries_of value r (groups r (line ∷ front f l.rest)) = ap (λ o. entries_of value r (groups r (pending f (option_map row o) l.rest))) c.in-Some.is in
+    let more = entries_more value f r line l.rest below here l.entries.items c.push_entry.new.entries.items c.in_ok-key.key (node c.in_ok-key.value) next new c.read_entry.new.rest c.in_ok-key.ensures.value c.in_ok-push_entry.ensures.ok left took in
+    let shallow : front r c.read_entry.new.rest ≡ [] = ap (front r) left ∙ ap (λ k. front r (after k l.rest)) here ∙ front_after r l.rest in
+    record {
+      turn = l.invariant.turn ∙ ap (option_map (entries_before l.entries.items)) before ∙ more;
+      left = Takes-after f c.read_entry.new.rest next new took ∙ ap (after f) left ∙ after_after f (rank line) l.rest (omega arith) ∙ l.invariant.left;
+      next = Takes-settled f r c.read_entry.new.rest next new shallow took;
+    }
+
+pub read_entries-returns-clause-value : goal.read_entries-returns-clause-value
+read_entries-returns-clause-value t c =
+    let l = c.loop-next in
+    let r = c.rank-rank.result in
+    let value = entry_value c.args.depth (block c.args.depth) in
+    let same : r ≡ rank (row c.args.head) = c.rank-rank.ensures in
+    let done : entries_of value r (groups r (pending c.args.floor (option_map row l.next) l.rest)) ≡ Some no_entries = ap (λ o. entries_of value r (groups r (pending c.args.floor (option_map row o) l.rest))) c.in_default.is in
+    ap (λ k. entries_of value k (groups k (row c.args.head ∷ front c.args.floor c.args.rest.now))) (sym same) ∙ l.invariant.turn ∙ ap (option_map (entries_before l.entries.items)) done ∙ ap Some (entries_before-no_entries l.entries.items)
+
+pub read_entries-returns-in_err-key-clause-value : goal.read_entries-returns-in_err-key-clause-value
+read_entries-returns-in_err-key-clause-value t c =
+    let l = c.loop-next in
+    let line = row c.in-Some.line in
+    let f = c.args.floor in
+    let r = c.rank-rank.result in
+    let value = entry_value c.args.depth (block c.args.depth) in
+    let same : r ≡ rank (row c.args.head) = c.rank-rank.ensures in
+    let below : f ≤ r = grind arith in
+    let here : rank line ≡ r = grind arith in
+    let before : entries_of value r (groups r (pending f (option_map row l.next) l.rest)) ≡ entries_of value r (groups r (line ∷ front f l.rest)) = ap (λ o. entries_of value r (groups r (pending f (option_map row o) l.rest))) c.in-Some.is in
+    let p = err_from_is_err_and c.from_residual.result c.from_residual.ensures.1 in
+    rw (p.1, p.2) (λ k. ap (λ k. entries_of value k (groups k (row c.args.head ∷ front c.args.floor c.args.rest.now))) (sym same) ∙ l.invariant.turn
+    ∙ ap (option_map (entries_before l.entries.items)) (before ∙ entries_none value f r line l.rest below here (c.in_err-key.ensures.value k)))
+
+pub read_below-returns-else-branch-clause-value : goal.read_below-returns-else-branch-clause-value
+read_below-returns-else-branch-clause-value t c k =
+    let head = row c.in-Some.head in
+    let rest = c.next_deeper.new.self in
+    let taken = c.in-Some.ensures.some in
+    let lines : front c.args.floor c.args.rest.now ≡ head ∷ front c.args.floor rest = ap (front c.args.floor) taken.0 ∙ front_deeper c.args.floor head rest taken.1 in
+    let closed : opens head ≡ false = sym c.in_ok-opens-in-Some.ensures ∙ c.if-branch.false in
+    ap (block c.args.depth) lines ∙ block-closed c.args.depth head (front c.args.floor rest) closed

@@ -1,0 +1,31 @@
+use Rattle.std.proofs.Common.{◌≡◌, ◌∷◌, List, true, false, sym, ap, ◌∙◌, arith, subst}
+use Rattle.fisca_yaml.specs.Rows.{Row, text_rows, past_marker, is_marker}
+use Rattle.fisca_yaml.specs.Lines.{row}
+use Rattle.fisca_yaml.specs.Views.{node}
+use Rattle.fisca_yaml.specs.Answers.{Gives}
+use Rattle.fisca_yaml.specs.Grouping.{tree, value_of, block, front, opens, alone, on_line}
+use Rattle.fisca_yaml.proofs.Groups.{front_all}
+use Rattle.fisca_yaml.proofs.Blocks.{value-opens, value-alone}
+use Rattle.fisca_yaml.proofs.reader.read_tree.Goals as goal
+
+pub returns-then-branch : goal.returns-then-branch
+returns-then-branch c =
+    let head = row c.in-Some.head in
+    let rest : List Row = c.next_deeper.new.self in
+    let rows_are : text_rows c.args.text.now ≡ head ∷ rest = ap past_marker (sym c.new-lines.ensures) ∙ sym c.skip_start.ensures ∙ c.in-Some.ensures.some.0 in
+    let unmarked : is_marker head ≡ false = grind arith in
+    let opened : opens head ≡ true = sym c.in_ok-opens-in-Some.ensures ∙ c.if-branch.true in
+    let whole : tree 16 c.args.text.now ≡ block 16 (head ∷ front 0 rest) =
+    ap (value_of 16) rows_are ∙ value-opens 16 head rest unmarked opened ∙ ap (λ (ls : List Row). block 16 (head ∷ ls)) (sym (front_all rest)) in
+    subst (Gives node c.read_block.result) (sym whole) c.read_block.ensures.value
+
+pub returns-else-branch : goal.returns-else-branch
+returns-else-branch c =
+    let head = row c.in-Some.head in
+    let rest : List Row = c.next_deeper.new.self in
+    let rows_are : text_rows c.args.text.now ≡ head ∷ rest = ap past_marker (sym c.new-lines.ensures) ∙ sym c.skip_start.ensures ∙ c.in-Some.ensures.some.0 in
+    let unmarked : is_marker head ≡ false = grind arith in
+    let closed : opens head ≡ false = sym c.in_ok-opens-in-Some.ensures ∙ c.if-branch.false in
+    let whole : tree 16 c.args.text.now ≡ alone (front 0 rest) (on_line 16 head) =
+    ap (value_of 16) rows_are ∙ value-alone 16 head rest unmarked closed ∙ ap (λ (ls : List Row). alone ls (on_line 16 head)) (sym (front_all rest)) in
+    subst (Gives node c.read_alone.result) (sym whole) c.read_alone.ensures.value

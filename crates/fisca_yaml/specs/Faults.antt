@@ -1,0 +1,15 @@
+-- The plain names of the kinds of faults.
+use Rattle.std.specs.Prelude.{ℕ, List, codes}
+use Rattle.fisca_yaml.specs.declared.fault.Kind.{Kind}
+use Rattle.fisca_yaml.specs.declared.fault.Kind.TheVariants.{Tab, BadIndent, DuplicateKey, BadFlow, BadQuote, Unsupported, TooDeep, TooLong, Memory}
+
+abbrev pub name_of : Kind → List ℕ
+name_of Tab = codes "Tab"
+name_of BadIndent = codes "BadIndent"
+name_of DuplicateKey = codes "DuplicateKey"
+name_of BadFlow = codes "BadFlow"
+name_of BadQuote = codes "BadQuote"
+name_of Unsupported = codes "Unsupported"
+name_of TooDeep = codes "TooDeep"
+name_of TooLong = codes "TooLong"
+name_of Memory = codes "Memory"

@@ -1,0 +1,10 @@
+pub mod Answers
+pub mod Faults
+pub mod Find
+pub mod Flow
+pub mod Grouping
+pub mod Lines
+pub mod Node
+pub mod Rows
+pub mod Scalars
+pub mod Views

@@ -1,0 +1,91 @@
+ghost use Rattle.std.specs.Prelude.{◌≡◌};
+ghost use Rattle.fisca_yaml.specs.Faults.{name_of};
+
+use std::alloc::{AllocError, AllocFailed};
+use thiserror::Error;
+
+/// Why a text is refused: this project's own list, in the order of its numbers.
+#[derive(Clone, Copy, Debug, PartialEq, Eq, Error)]
+#[error("{}", self.name())]
+pub enum Kind {
+    /// A tab stands among the leading blanks of a line.
+    Tab = 1,
+    /// A line stands at an indentation that is not open, or below a value that stands on its line.
+    BadIndent = 2,
+    /// A map has a key twice.
+    DuplicateKey = 3,
+    /// A bracket is unclosed or misplaced, or a comma, a key's colon or an element is missing.
+    BadFlow = 4,
+    /// A quote is not closed on its line, an escape is unknown, or text follows the closing quote.
+    BadQuote = 5,
+    /// The line has a form of YAML that is left out, or none.
+    Unsupported = 6,
+    /// More than 16 lists and maps stand in one another.
+    TooDeep = 7,
+    /// The text has more than 1 MiB.
+    TooLong = 8,
+    /// A growth was refused.
+    Memory = 9,
+}
+
+impl Kind {
+    /// The plain name of the kind, as `BadIndent`.
+    pub fn name(self) -> &'static str
+        ensures { result.now ≡ name_of self }
+    {
+        match self {
+            Kind::Tab => "Tab",
+            Kind::BadIndent => "BadIndent",
+            Kind::DuplicateKey => "DuplicateKey",
+            Kind::BadFlow => "BadFlow",
+            Kind::BadQuote => "BadQuote",
+            Kind::Unsupported => "Unsupported",
+            Kind::TooDeep => "TooDeep",
+            Kind::TooLong => "TooLong",
+            Kind::Memory => "Memory",
+        }
+    }
+}
+
+/// A refusal, and the line where the text's first fault stands, counted from 1 (0 for want of memory).
+#[derive(Clone, Copy, Debug, PartialEq, Eq, Error)]
+#[error("{line}: {kind}")]
+pub struct YamlFault {
+    pub line: usize,
+    pub kind: Kind,
+}
+
+impl From<AllocError> for YamlFault {
+    ghost use Rattle.std.specs.Prelude.{◌≡◌};
+    ghost use Rattle.fisca_yaml.specs.declared.fault.Kind.TheVariants.{Memory};
+
+    ghost from_gives = { λ _ f. f.kind ≡ Memory };
+
+    fn from(_error: AllocError) -> YamlFault {
+        YamlFault {
+            line: 0,
+            kind: Kind::Memory,
+        }
+    }
+}
+
+impl<T: Drop> From<AllocFailed<T>> for YamlFault {
+    ghost use Rattle.std.specs.Prelude.{◌≡◌};
+    ghost use Rattle.fisca_yaml.specs.declared.fault.Kind.TheVariants.{Memory};
+
+    ghost from_gives = { λ _ f. f.kind ≡ Memory };
+
+    fn from(_error: AllocFailed<T>) -> YamlFault {
+        YamlFault {
+            line: 0,
+            kind: Kind::Memory,
+        }
+    }
+}
+
+/// The fault of a line.
+pub(crate) fn at(line: usize, kind: Kind) -> YamlFault
+    ensures { result ≡ record { line = line; kind = kind } }
+{
+    YamlFault { line, kind }
+}

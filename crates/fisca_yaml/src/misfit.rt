@@ -1,0 +1,55 @@
+ghost use Rattle.std.specs.Prelude.{◌≡◌, ◌&&◌, ◌==◌, nat_lt, ◌/◌, ◌-◌};
+
+use crate::fault::{Kind, YamlFault, at};
+use crate::line::Line;
+use crate::plain::is_key;
+use crate::value::read_on_line;
+use std::alloc::Global;
+
+/// Whether an indentation is that of the entry or item of this rank.
+pub(crate) fn is_open(rank: usize, indent: usize) -> bool
+    ensures { result ≡ (nat_lt 0 rank && ((rank - 1) / 2 == indent)) }
+{
+    rank > 0 && (rank - 1) / 2 == indent
+}
+
+/// The fault of a line where no line may stand.
+pub(crate) fn misplaced(alloc: Global, line: Line<'_>, open: bool, depth: usize) -> YamlFault {
+    if !line.is_tabbed() && !open {
+        return at(line.number, Kind::BadIndent);
+    }
+    misfit(alloc, line, depth)
+}
+
+/// The fault of a line at an open indentation that fits nothing there: what its own look shows, read as an item, an entry or a scalar.
+pub(crate) fn misfit(alloc: Global, line: Line<'_>, depth: usize) -> YamlFault {
+    if line.is_tabbed() {
+        return at(line.number, Kind::Tab);
+    }
+    let mut inner = line;
+    'items: while inner.is_item() {
+        match inner.after_dash() {
+            Some(next) => inner = next,
+            None => return at(line.number, Kind::Unsupported),
+        }
+    }
+    match look_over(alloc, inner, depth) {
+        Ok(()) => at(line.number, Kind::Unsupported),
+        Err(fault) => fault,
+    }
+}
+
+/// The fault of an entry or a scalar by itself.
+fn look_over(alloc: Global, line: Line<'_>, depth: usize) -> Result<(), YamlFault> {
+    let Some((key, rest)) = line.entry(alloc)? else {
+        let _value = read_on_line(alloc, line, depth)?;
+        return Ok(());
+    };
+    if !is_key(key.as_str()) {
+        return Err(at(line.number, Kind::Unsupported));
+    }
+    if let Some(value) = Line::following(line.number, 0, rest) {
+        let _value = read_on_line(alloc, value, depth)?;
+    }
+    Ok(())
+}

@@ -1,0 +1,246 @@
+ghost use Rattle.std.specs.Prelude.{◌≡◌, ◌≢◌, ℕ, ◌^◌, length, ◌∷◌, ◌<◌, ◌-◌, Some, None, Ok, Err, IfOk, OnOk, IfErr, IsTrue, is_some};
+ghost use Rattle.fisca_yaml.specs.Rows.{rank, begins_item, following};
+ghost use Rattle.fisca_yaml.specs.Grouping.{Group, front, after, groups, items_of, entries_of, item_value, entry_value, entry_rest, block, map_of, tree, IsTree, Within, document};
+ghost use Rattle.fisca_yaml.specs.Node.{Node};
+ghost use Rattle.fisca_yaml.specs.Lines.{row};
+ghost use Rattle.fisca_yaml.specs.Views.{node, items_view, entries_view, keyed_view};
+ghost use Rattle.fisca_yaml.specs.Answers.{Gives};
+
+use crate::fault::{Kind, YamlFault, at};
+use crate::flow::make_map;
+use crate::keys::first_fault;
+use crate::line::Line;
+use crate::lines::Lines;
+use crate::misfit::{is_open, misfit, misplaced};
+use crate::plain::is_key;
+use crate::tree::{Entry, Item, Text, Tree, push_entry, push_item};
+use crate::value::{read_alone, read_beside};
+use std::alloc::Global;
+
+/// The longest text, in bytes.
+const MAX_TEXT: usize = 1024 * 1024;
+
+/// How many lists and maps may stand in one another.
+const MAX_DEPTH: usize = 16;
+
+/// Reads a text of at most 1 MiB.
+pub fn read(alloc: Global, text: &str) -> Result<Tree<'_>, YamlFault>
+    // What is read is the text's tree, and no limit is passed.
+    ensures tree { IfOk result (λ t. IsTree text.now (node t) × Within text.now (node t)) }
+    // A refusal for another cause than memory comes only where there is no tree, or a limit is passed.
+    ensures only { IfErr result (λ f. f.kind ≢ Kind.Memory → (n : Node) → IsTree text.now n → Within text.now n → ⊥) }
+    // The same, by the function that gives the tree of a text within the limits.
+    ensures found { IfOk result (λ t. document text.now ≡ Some (node t)) }
+    ensures none { IfErr result (λ f. f.kind ≢ Kind.Memory → document text.now ≡ None) }
+{
+    if text.len() > MAX_TEXT {
+        return Err(at(1, Kind::TooLong));
+    }
+    let tree = read_tree(alloc, text)?;
+    Ok(tree)
+}
+
+/// The tree of a text that is not too long.
+fn read_tree(alloc: Global, text: &str) -> Result<Tree<'_>, YamlFault>
+    requires { length text.now < 2 ^ 31 }
+    ensures { Gives node result (tree MAX_DEPTH text.now) }
+{
+    let mut lines = Lines::new(text);
+    lines.skip_start();
+    match lines.next_deeper(0) {
+        None => Ok(Tree::Null),
+        Some(head) => {
+            if head.is_marker() {
+                return Err(at(head.number, Kind::Unsupported));
+            }
+            if head.opens(alloc)? {
+                read_block(alloc, head, &mut lines, 0, MAX_DEPTH)
+            } else {
+                read_alone(alloc, head, &mut lines, 0, MAX_DEPTH)
+            }
+        }
+    }
+}
+
+/// The list or map of a line and all deeper lines after it.
+#[cycle(read)]
+fn read_block<'a>(
+    alloc: Global,
+    head: Line<'a>,
+    rest: &mut Lines<'a>,
+    floor: usize,
+    depth: usize,
+) -> Result<Tree<'a>, YamlFault>
+    requires { floor < rank (row head) }
+    ensures value { Gives node result (block depth (row head.entry ∷ front floor rest.old)) }
+    ensures rest { OnOk result (rest.new ≡ after floor rest.old) }
+{
+    if depth == 0 {
+        return Err(at(head.number, Kind::TooDeep));
+    }
+    if head.is_item() {
+        Ok(Tree::List(read_items(alloc, head, rest, floor, depth - 1)?))
+    } else {
+        let entries = read_entries(alloc, head, rest, floor, depth - 1)?;
+        make_map(alloc, entries)
+    }
+}
+
+/// The items of a list, from its first line on.
+#[cycle(read)]
+fn read_items<'a>(
+    alloc: Global,
+    head: Line<'a>,
+    rest: &mut Lines<'a>,
+    floor: usize,
+    depth: usize,
+) -> Result<Vec<Item<'a>>, YamlFault>
+    requires deeper { floor < rank (row head) }
+    requires item { IsTrue (begins_item head.content.now) }
+    ensures value { Gives (λ v. items_view v.items) result
+        (items_of (item_value depth (block depth)) (rank (row head.entry)) (groups (rank (row head.entry)) (row head.entry ∷ front floor rest.old))) }
+    ensures rest { OnOk result (rest.new ≡ after floor rest.old) }
+{
+    let rank = head.rank();
+    let indent = head.indent;
+    let mut items = Vec::new(alloc);
+    let mut next = Some(head);
+    while let Some(line) = next {
+        if line.rank() != rank {
+            let open = line.indent == indent || is_open(floor, line.indent);
+            return Err(misplaced(alloc, line, open, depth));
+        }
+        let value = read_item(alloc, line, rest, depth)?;
+        push_item(&mut items, line.number, value)?;
+        next = rest.next_deeper(floor);
+    }
+    Ok(items)
+}
+
+/// The value of an item, from what follows its dash and the deeper lines.
+#[cycle(read)]
+fn read_item<'a>(
+    alloc: Global,
+    line: Line<'a>,
+    rest: &mut Lines<'a>,
+    depth: usize,
+) -> Result<Tree<'a>, YamlFault>
+    requires { IsTrue (begins_item line.content.now) }
+    ensures value { Gives node result (item_value depth (block depth) (record { head = row line.entry; inside = front (rank (row line.entry)) rest.old })) }
+    ensures rest { OnOk result (rest.new ≡ after (rank (row line.entry)) rest.old) }
+{
+    let floor = line.rank();
+    match line.after_dash() {
+        None => read_below(alloc, rest, floor, depth),
+        Some(inner) => {
+            if inner.opens(alloc)? {
+                read_block(alloc, inner, rest, floor, depth)
+            } else {
+                read_beside(alloc, inner, rest, line.indent, floor, depth)
+            }
+        }
+    }
+}
+
+/// The list or map of the deeper lines, or nothing.
+#[cycle(read)]
+fn read_below<'a>(
+    alloc: Global,
+    rest: &mut Lines<'a>,
+    floor: usize,
+    depth: usize,
+) -> Result<Tree<'a>, YamlFault>
+    ensures value { Gives node result (block depth (front floor rest.old)) }
+    ensures rest { OnOk result (rest.new ≡ after floor rest.old) }
+{
+    match rest.next_deeper(floor) {
+        None => Ok(Tree::Null),
+        Some(head) => {
+            if head.opens(alloc)? {
+                read_block(alloc, head, rest, floor, depth)
+            } else {
+                Err(misfit(alloc, head, depth))
+            }
+        }
+    }
+}
+
+/// The entries of a map, from its first line on.
+#[cycle(read)]
+fn read_entries<'a>(
+    alloc: Global,
+    head: Line<'a>,
+    rest: &mut Lines<'a>,
+    floor: usize,
+    depth: usize,
+) -> Result<Vec<Entry<'a>>, YamlFault>
+    requires deeper { floor < rank (row head) }
+    ensures value { Gives (λ v. entries_view v.items) result
+        (entries_of (entry_value depth (block depth)) (rank (row head.entry)) (groups (rank (row head.entry)) (row head.entry ∷ front floor rest.old))) }
+    ensures rest { OnOk result (rest.new ≡ after floor rest.old) }
+{
+    let rank = head.rank();
+    let indent = head.indent;
+    let mut entries = Vec::new(alloc);
+    let mut next = Some(head);
+    while let Some(line) = next {
+        if line.rank() != rank {
+            let open = line.indent == indent || is_open(floor, line.indent);
+            let fault = misplaced(alloc, line, open, depth);
+            return Err(first_fault(alloc, &entries, None, fault));
+        }
+        let (key, value) = read_entry(alloc, line, rest, depth, &entries)?;
+        push_entry(&mut entries, key, line.number, value)?;
+        next = rest.next_deeper(floor);
+    }
+    Ok(entries)
+}
+
+/// The key of an entry, and its value from what follows the colon and the deeper lines. These entries came before.
+#[cycle(read)]
+fn read_entry<'a>(
+    alloc: Global,
+    line: Line<'a>,
+    rest: &mut Lines<'a>,
+    depth: usize,
+    before: &[Entry<'a>],
+) -> Result<(Text<'a>, Tree<'a>), YamlFault>
+    ensures value { Gives keyed_view result (entry_value depth (block depth) (record { head = row line.entry; inside = front (rank (row line.entry)) rest.old })) }
+    ensures rest { OnOk result (rest.new ≡ after (rank (row line.entry)) rest.old) }
+{
+    let Some((key, tail)) = line.entry(alloc)? else {
+        let fault = misfit(alloc, line, depth);
+        return Err(first_fault(alloc, before, None, fault));
+    };
+    if !is_key(key.as_str()) {
+        let fault = at(line.number, Kind::Unsupported);
+        return Err(first_fault(alloc, before, None, fault));
+    }
+    match read_value(alloc, line, tail, rest, depth) {
+        Ok(value) => Ok((key, value)),
+        Err(fault) => {
+            let last = Some((key.as_str(), line.number));
+            Err(first_fault(alloc, before, last, fault))
+        }
+    }
+}
+
+/// The value of an entry, from what follows its colon and the deeper lines.
+#[cycle(read)]
+fn read_value<'a>(
+    alloc: Global,
+    line: Line<'a>,
+    tail: &'a str,
+    rest: &mut Lines<'a>,
+    depth: usize,
+) -> Result<Tree<'a>, YamlFault>
+    requires { length tail.now < 2 ^ 32 }
+    ensures value { Gives node result (entry_rest depth (block depth) line.entry.indent (following line.entry.number 0 tail.now) (front (rank (row line.entry)) rest.old)) }
+    ensures rest { OnOk result (rest.new ≡ after (rank (row line.entry)) rest.old) }
+{
+    let floor = line.rank();
+    match Line::following(line.number, 0, tail) {
+        None => read_below(alloc, rest, floor, depth),
+        Some(inner) => read_beside(alloc, inner, rest, line.indent, floor, depth),
+    }
+}

@@ -1,0 +1,395 @@
+use crate::fault::Kind;
+use crate::reader::read;
+use crate::tree::{Entry, Item, Tree};
+use fisca_num::Fraction;
+use std::alloc::{AllocError, Global};
+use std::test::Fail;
+
+/// Writes a tree with its lines: `~` for nothing, `text@line`, `'text'@line`, `[line: ..]` and `{key@line: ..}`.
+#[cycle(show)]
+fn show(alloc: Global, tree: &Tree<'_>) -> Result<String, AllocError> {
+    match tree {
+        Tree::Null => String::from_str(alloc, "~"),
+        Tree::Scalar { text, quoted, line } => {
+            let text = text.as_str();
+            if *quoted {
+                format!(in alloc; "'{text}'@{line}")
+            } else {
+                format!(in alloc; "{text}@{line}")
+            }
+        }
+        Tree::List(items) => show_items(alloc, items),
+        Tree::Map(entries) => show_entries(alloc, entries),
+    }
+}
+
+#[cycle(show)]
+fn show_items(alloc: Global, items: &[Item<'_>]) -> Result<String, AllocError> {
+    let mut text = String::from_str(alloc, "[")?;
+    for item in items {
+        let value = show(alloc, &item.value)?;
+        let line = item.line;
+        let shown = format!(in alloc; "{line}:{value} ")?;
+        text.push_str(shown.as_str())?;
+    }
+    text.push_str("]")?;
+    Ok(text)
+}
+
+#[cycle(show)]
+fn show_entries(alloc: Global, entries: &[Entry<'_>]) -> Result<String, AllocError> {
+    let mut text = String::from_str(alloc, "{")?;
+    for entry in entries {
+        let value = show(alloc, &entry.value)?;
+        let key = entry.key.as_str();
+        let line = entry.line;
+        let shown = format!(in alloc; "{key}@{line}:{value} ")?;
+        text.push_str(shown.as_str())?;
+    }
+    text.push_str("}")?;
+    Ok(text)
+}
+
+/// Texts and their trees, as `show` writes them.
+const TREES: [(&str, &str); 25] = [
+    ("", "~"),
+    ("# a comment\n\n  \t\n", "~"),
+    ("---\n", "~"),
+    ("a:\n- 1\n", "{a@1:[2:1@2 ] }"),
+    ("a: [1, 2,]", "{a@1:[1:1@1 1:2@1 ] }"),
+    ("{a: 1, \"b\":2}", "{a@1:1@1 b@1:2@1 }"),
+    (
+        "- - x\n  - y: 1 # c\n    z:\n# c\n- |2+\n   text: [\n",
+        "[1:[1:x@1 2:{y@2:1@2 z@3:~ } ] 5:''@5 ]",
+    ),
+    ("--- # c\na: 'it''s' # c\n", "{a@2:'it's'@2 }"),
+    ("\"\\x41\\u00e9\\n\\\"\\/\\\\\"", "'A\u{e9}\n\"/\\'@1"),
+    ("a: 1\r\nb: ~\r\n", "{a@1:1@1 b@2:~ }"),
+    ("{a: , b:, c: null}", "{a@1:~ b@1:~ c@1:~ }"),
+    ("[ a b , c#d ] # d", "[1:a b@1 1:c#d@1 ]"),
+    ("\"a b\" : [{}]", "{a b@1:[1:{} ] }"),
+    ("- -x\n-\n  - [-, ?]", "[1:-x@1 2:[3:[3:-@3 3:?@3 ] ] ]"),
+    ("-: 1", "{-@1:1@1 }"),
+    ("--- a: 1", "{--- a@1:1@1 }"),
+    ("a: it's # c", "{a@1:it's@1 }"),
+    (
+        "a:\n  # c\n  b: 1\n\n# d\n  c: \"x\"\n",
+        "{a@1:{b@3:1@3 c@6:'x'@6 } }",
+    ),
+    ("a: >-\n  x\n# c\n  y\nb: 2", "{a@1:''@1 b@5:2@5 }"),
+    ("-\ta: 1\n  b: 2", "[1:{a@1:1@1 b@2:2@2 } ]"),
+    ("  a: 1\n  b: 2", "{a@1:1@1 b@2:2@2 }"),
+    ("| x", "| x@1"),
+    ("[#a, b:c, x:y]", "[1:#a@1 1:b:c@1 1:x:y@1 ]"),
+    ("~: 1\n'x': y", "{~@1:1@1 x@2:y@2 }"),
+    (
+        "a: NULL\nb: 'null'\nc: nuLL",
+        "{a@1:~ b@2:'null'@2 c@3:nuLL@3 }",
+    ),
+];
+
+#[test]
+fn trees_have_the_lines_of_their_parts(rt: HostRuntime) -> Result<(), Fail> {
+    for (text, want) in TREES {
+        let got = match read(rt.alloc(), text) {
+            Ok(tree) => show(rt.alloc(), &tree)?,
+            Err(fault) => format!(in rt.alloc(); "{fault}")?,
+        };
+        assert_eq!(rt; got.as_str(), want, "of {text}");
+    }
+    Ok(())
+}
+
+/// Texts, and the line and kind of the first fault.
+const FAULTS: [(&str, usize, Kind); 100] = [
+    // A tab among the leading blanks comes before all else in its line.
+    ("a:\n\tb: 1", 2, Kind::Tab),
+    ("\ta: 1", 1, Kind::Tab),
+    ("a: 1\n \t- b", 2, Kind::Tab),
+    ("a: |\n  x\n  \ty", 3, Kind::Tab),
+    ("- a\n \t[", 2, Kind::Tab),
+    // A line below a value that stands on its line, or at an indentation that is not open.
+    ("a: 1\n  b: 2", 2, Kind::BadIndent),
+    ("a: x\n  y", 2, Kind::BadIndent),
+    ("- x\n  y", 2, Kind::BadIndent),
+    ("  a: 1\nb: 2", 2, Kind::BadIndent),
+    ("  a: 1\n---", 2, Kind::BadIndent),
+    ("a:\n    b: 1\n  c: 2", 3, Kind::BadIndent),
+    ("- a: 1\n b: 2", 2, Kind::BadIndent),
+    ("-   a: 1\n  b: 2", 2, Kind::BadIndent),
+    ("x\ny: 1", 2, Kind::BadIndent),
+    ("[a]\n- \"b", 2, Kind::BadIndent),
+    // The second of two equal keys, before what stands behind it.
+    ("a: 1\nb: 2\na: 3", 3, Kind::DuplicateKey),
+    ("a: 1\n'a' : [", 2, Kind::DuplicateKey),
+    ("a: 1\na: 2\nb: \"x", 2, Kind::DuplicateKey),
+    ("x:\n  a: 1\n  a: 2\n\tz", 3, Kind::DuplicateKey),
+    ("a:\n  b: 1\na:\n  c: [", 3, Kind::DuplicateKey),
+    ("x:\n  a: 1\n  a: 2\nx: 3", 3, Kind::DuplicateKey),
+    ("{a: 1, a: [}", 1, Kind::DuplicateKey),
+    ("{a: 1, \"\\x61\":2}", 1, Kind::DuplicateKey),
+    // Brackets, commas and colons in them.
+    ("a: [1, 2", 1, Kind::BadFlow),
+    ("a: {b: 1", 1, Kind::BadFlow),
+    ("a: [1]]", 1, Kind::BadFlow),
+    ("[a] b", 1, Kind::BadFlow),
+    ("[a]#c", 1, Kind::BadFlow),
+    ("[a: 1]", 1, Kind::BadFlow),
+    ("[\"a\" b]", 1, Kind::BadFlow),
+    ("[a,, b]", 1, Kind::BadFlow),
+    ("[,]", 1, Kind::BadFlow),
+    ("[:]", 1, Kind::BadFlow),
+    ("{a}", 1, Kind::BadFlow),
+    ("{a:1}", 1, Kind::BadFlow),
+    ("{:1}", 1, Kind::BadFlow),
+    ("{\"a\"x: 1}", 1, Kind::BadFlow),
+    ("{a: 1]", 1, Kind::BadFlow),
+    ("[a, #c]", 1, Kind::BadFlow),
+    ("a: ]", 1, Kind::BadFlow),
+    (", a", 1, Kind::BadFlow),
+    ("} a: 1", 1, Kind::BadFlow),
+    // Quotes.
+    ("a: \"x\\q\"", 1, Kind::BadQuote),
+    ("a: \"x\\ud800\"", 1, Kind::BadQuote),
+    ("a: \"\\x4\"", 1, Kind::BadQuote),
+    ("a: 'x", 1, Kind::BadQuote),
+    ("a: \"x", 1, Kind::BadQuote),
+    ("a: 'x' y", 1, Kind::BadQuote),
+    ("'x'#c", 1, Kind::BadQuote),
+    ("a: \"b\": c", 1, Kind::BadQuote),
+    ("\"a\" b: 1", 1, Kind::BadQuote),
+    ("\"a\":1", 1, Kind::BadQuote),
+    ("[a, \"x", 1, Kind::BadQuote),
+    ("{'a: 1}", 1, Kind::BadQuote),
+    // Forms that are left out.
+    ("a: &x 1", 1, Kind::Unsupported),
+    ("a: *x", 1, Kind::Unsupported),
+    ("!t a: 1", 1, Kind::Unsupported),
+    ("%YAML 1.1", 1, Kind::Unsupported),
+    ("a: @x", 1, Kind::Unsupported),
+    ("a: `x", 1, Kind::Unsupported),
+    ("? a", 1, Kind::Unsupported),
+    ("a: ?", 1, Kind::Unsupported),
+    ("a: - x", 1, Kind::Unsupported),
+    ("[: a]", 1, Kind::Unsupported),
+    ("{: 1}", 1, Kind::Unsupported),
+    ("{:}", 1, Kind::Unsupported),
+    ("[&a, \"x", 1, Kind::Unsupported),
+    ("<<: 1", 1, Kind::Unsupported),
+    ("- \"<<\" : 1", 1, Kind::Unsupported),
+    ("{<<: 1}", 1, Kind::Unsupported),
+    ("\"\": 1", 1, Kind::Unsupported),
+    ("{\"\": 1}", 1, Kind::Unsupported),
+    (": 1", 1, Kind::Unsupported),
+    ("a: b: c", 1, Kind::Unsupported),
+    ("a: b:", 1, Kind::Unsupported),
+    ("a: b:\tc", 1, Kind::Unsupported),
+    ("a: |x", 1, Kind::Unsupported),
+    ("- >1 x", 1, Kind::Unsupported),
+    ("a: 1\n---", 2, Kind::Unsupported),
+    ("---\n---", 2, Kind::Unsupported),
+    ("...", 1, Kind::Unsupported),
+    ("a: 1\n%b: 1", 2, Kind::Unsupported),
+    ("a:\n  hello", 2, Kind::Unsupported),
+    ("a:\n  [b]", 2, Kind::Unsupported),
+    ("a: 1\n- b", 2, Kind::Unsupported),
+    ("- a\nb: 1", 2, Kind::Unsupported),
+    ("a:\n  b: 1\n- c", 3, Kind::Unsupported),
+    ("- - a\n  b: 1", 2, Kind::Unsupported),
+    ("a: |\n  x\n- y", 3, Kind::Unsupported),
+    ("a: 1\nb", 2, Kind::Unsupported),
+    // What a line shows by itself comes before that.
+    ("a: 1\n- \"b", 2, Kind::BadQuote),
+    ("a: 1\n- - [b", 2, Kind::BadFlow),
+    ("a: 1\n- b: {c: 1, c: 2}", 2, Kind::DuplicateKey),
+    ("a:\n  'b", 2, Kind::BadQuote),
+    // Depth.
+    ("[[[[[[[[[[[[[[[[[]]]]]]]]]]]]]]]]]", 1, Kind::TooDeep),
+    ("[[[[[[[[[[[[[[[[[", 1, Kind::TooDeep),
+    ("- - - - - - - - - - - - - - - - - x", 1, Kind::TooDeep),
+    ("- - - - - - - - - - - - - - - - a: \"b", 1, Kind::TooDeep),
+    (
+        "- - - - - - - - - - - - - - - -\n                                a: [",
+        2,
+        Kind::TooDeep,
+    ),
+    (
+        "{a: {a: {a: {a: {a: {a: {a: {a: {a: {a: {a: {a: {a: {a: {a: {a: {",
+        1,
+        Kind::TooDeep,
+    ),
+];
+
+#[test]
+fn the_first_fault_is_told_with_its_line(rt: HostRuntime) -> Result<(), Fail> {
+    for (text, line, kind) in FAULTS {
+        match read(rt.alloc(), text) {
+            Ok(tree) => {
+                let shown = show(rt.alloc(), &tree)?;
+                assert!(rt; false, "{text} is read as {shown}");
+            }
+            Err(fault) => {
+                assert_eq!(rt; fault.kind, kind, "of {text}");
+                assert_eq!(rt; fault.line, line, "of {text}");
+            }
+        }
+    }
+    Ok(())
+}
+
+#[test]
+fn sixteen_levels_are_read(rt: HostRuntime) -> Result<(), Fail> {
+    let flow = read(rt.alloc(), "[[[[[[[[[[[[[[[[]]]]]]]]]]]]]]]]")?;
+    let block = read(rt.alloc(), "- - - - - - - - - - - - - - - - x")?;
+    assert!(rt; matches!(flow, Tree::List(_)));
+    assert!(rt; matches!(block, Tree::List(_)));
+    Ok(())
+}
+
+#[test]
+fn a_text_above_its_limit_is_too_long(rt: HostRuntime) -> Result<(), Fail> {
+    let mut text = String::new(rt.alloc());
+    for _line in 0..65536u32 {
+        text.push_str("# fifteen more \n")?;
+    }
+    let whole = read(rt.alloc(), text.as_str()).is_ok();
+    assert!(rt; whole);
+    text.push_str("\t")?;
+    match read(rt.alloc(), text.as_str()) {
+        Ok(_) => assert!(rt; false),
+        Err(fault) => {
+            assert_eq!(rt; fault.kind, Kind::TooLong);
+            assert_eq!(rt; fault.line, 1);
+        }
+    }
+    Ok(())
+}
+
+#[test]
+fn a_tree_is_looked_into(rt: HostRuntime) -> Result<(), Fail> {
+    let tree = read(rt.alloc(), "a: Yes\nb: 'yes'\nc: OFF\nd: oFF\ne: [1]\n")?;
+    let wanted = [
+        ("a", Some(true)),
+        ("b", None),
+        ("c", Some(false)),
+        ("d", None),
+        ("e", None),
+    ];
+    for (key, want) in wanted {
+        let got = match tree.get(key) {
+            Some(value) => value.as_bool(),
+            None => None,
+        };
+        assert_eq!(rt; got, want, "of {key}");
+    }
+    assert!(rt; tree.get("f").is_none());
+    let quoted = match tree.get("b") {
+        Some(value) => value.as_text(),
+        None => None,
+    };
+    assert_eq!(rt; quoted, Some("yes"));
+    assert_eq!(rt; tree.as_text(), None);
+    let numbers = read(rt.alloc(), "a: -0.25\nb: '1'\nc: 1e3\n")?;
+    let quarter = match numbers.get("a") {
+        Some(value) => value.as_number(),
+        None => None,
+    };
+    assert_eq!(rt; quarter, Fraction::new(-1, 4).ok());
+    for key in ["b", "c"] {
+        let none = match numbers.get(key) {
+            Some(value) => value.as_number(),
+            None => None,
+        };
+        assert_eq!(rt; none, None, "of {key}");
+    }
+    Ok(())
+}
+
+/// How many lines a text has, an unended last one included.
+fn count_lines(text: &str) -> usize {
+    let mut count = 1usize;
+    for b in text.as_bytes() {
+        if *b == b'\n' {
+            count = count.saturating_add(1);
+        }
+    }
+    count
+}
+
+/// Whether a text is read, or refused with a line of its own and for another cause than memory.
+fn is_answered(alloc: Global, text: &str) -> bool {
+    match read(alloc, text) {
+        Ok(_) => true,
+        Err(fault) => fault.kind != Kind::Memory
+            && 1 <= fault.line
+            && fault.line <= count_lines(text),
+    }
+}
+
+#[test]
+fn each_prefix_of_a_file_is_answered(rt: HostRuntime) -> Result<(), Fail> {
+    let text =
+        "--- # parameters\ndescription: \"Taxe \\u00e9t\\\"é\"\nreference: |\n  one: [\n\n  two\nvalues:\n  2015-12-01: 600\n  2016-01-01: {value: 0.25, 'note': it''s}\nbrackets:\n- threshold:\n    2013-01-01: {value: 0}\n  rate: {2013-01-01: 0.02, \"x\":[1, -2, ~,]}\n- - - a: 1\n      b: >-\n        c\n";
+    for (at, _char) in text.char_indices() {
+        assert!(rt; is_answered(rt.alloc(), &text[..at]), "up to {at}");
+    }
+    assert!(rt; read(rt.alloc(), text).is_ok());
+    Ok(())
+}
+
+/// Pieces of texts.
+const PIECES: [&str; 35] = [
+    "a",
+    "b: ",
+    "- ",
+    "\n",
+    "\n  ",
+    "\n",
+    " ",
+    "\t",
+    "[",
+    "]",
+    "{",
+    "}",
+    ",",
+    ":",
+    "\"",
+    "'",
+    "\\",
+    "#",
+    " #",
+    "|",
+    ">",
+    "&",
+    "é",
+    "\u{1f600}",
+    "\r\n",
+    "\0",
+    "---",
+    "...",
+    "%",
+    "<<",
+    "\\x4",
+    "1",
+    "?",
+    "\u{feff}",
+    "\r",
+];
+
+#[test]
+fn texts_drawn_by_lot_are_answered(rt: HostRuntime) -> Result<(), Fail> {
+    let mut state = 1u64;
+    let mut text = String::new(rt.alloc());
+    for _text in 0..20000u32 {
+        text.clear();
+        for _piece in 0..24u32 {
+            state = state
+                .wrapping_mul(6364136223846793005)
+                .wrapping_add(1442695040888963407);
+            let piece = ((state >> 33) % 35) as usize;
+            text.push_str(PIECES[piece])?;
+        }
+        assert!(rt; is_answered(rt.alloc(), text.as_str()), "of {text}");
+    }
+    Ok(())
+}

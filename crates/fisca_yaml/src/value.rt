@@ -1,0 +1,173 @@
+ghost use Rattle.std.specs.Prelude.{◌≡◌, ◌≢◌, ℕ, ◌∷◌, Some, None, Ok, Err, OnOk, IfOk, true, false, ◌||◌};
+ghost use Rattle.std.specs.List.{list_all};
+ghost use Rattle.fisca_yaml.specs.Rows.{begins, tail};
+ghost use Rattle.fisca_yaml.specs.Scalars.{is_quote, quoted, quoted_value, plain_value};
+ghost use Rattle.fisca_yaml.specs.Flow.{flow_value};
+ghost use Rattle.fisca_yaml.specs.Grouping.{front, after, alone, ended, on_line, is_sign, is_header, is_text_line, text_block, begins_text, beside};
+ghost use Rattle.fisca_yaml.specs.Lines.{row};
+ghost use Rattle.fisca_yaml.specs.Views.{node};
+ghost use Rattle.fisca_yaml.specs.Answers.{Gives};
+
+use crate::fault::{Kind, YamlFault, at};
+use crate::flow::{Flow, read_flow, refused_kind};
+use crate::line::Line;
+use crate::lines::Lines;
+use crate::marks::{around, begins, ends_line, is_bracket, is_quote, may_begin, trim_end};
+use crate::misfit::{is_open, misplaced};
+use crate::plain::{before_comment, colon};
+use crate::quoted::read_quoted;
+use crate::tree::{Text, Tree, leaf, quoted_scalar};
+use std::alloc::Global;
+
+/// The value that begins and ends on a line: a scalar or a collection in brackets.
+pub(crate) fn read_on_line<'a>(
+    alloc: Global,
+    line: Line<'a>,
+    depth: usize,
+) -> Result<Tree<'a>, YamlFault>
+    ensures { Gives node result (on_line depth (row line.entry)) }
+{
+    let bytes = line.content.as_bytes();
+    if is_bracket(bytes) {
+        return read_bracketed(alloc, line, depth);
+    }
+    if is_quote(bytes) {
+        return read_quoted_value(alloc, line);
+    }
+    read_plain_value(line)
+}
+
+/// A collection in brackets, up to the line's end.
+fn read_bracketed<'a>(alloc: Global, line: Line<'a>, depth: usize) -> Result<Tree<'a>, YamlFault>
+    ensures { Gives node result (ended (flow_value depth line.entry.number line.entry.content.now)) }
+{
+    let mut flow = Flow::new(line.content);
+    let tree = read_flow(alloc, line.number, &mut flow, depth)?;
+    if ends_line(flow.rest()) {
+        Ok(tree)
+    } else {
+        Err(at(line.number, Kind::BadFlow))
+    }
+}
+
+/// A quoted scalar, up to the line's end.
+fn read_quoted_value<'a>(alloc: Global, line: Line<'a>) -> Result<Tree<'a>, YamlFault>
+    ensures { Gives node result (quoted_value line.entry.number (quoted line.entry.content.now)) }
+{
+    let Some((text, rest)) = read_quoted(alloc, line.content)? else {
+        return Err(at(line.number, Kind::BadQuote));
+    };
+    if ends_line(rest) {
+        Ok(quoted_scalar(line.number, text))
+    } else {
+        Err(at(line.number, Kind::BadQuote))
+    }
+}
+
+/// A plain scalar, up to the line's end or a comment.
+fn read_plain_value<'a>(line: Line<'a>) -> Result<Tree<'a>, YamlFault>
+    ensures { Gives node result (plain_value line.entry.number line.entry.content.now) }
+{
+    let bytes = line.content.as_bytes();
+    if !may_begin(bytes) {
+        return Err(at(line.number, refused_kind(bytes)));
+    }
+    if colon(bytes).is_some() {
+        return Err(at(line.number, Kind::Unsupported));
+    }
+    Ok(leaf(line.number, trim_end(before_comment(line.content))))
+}
+
+/// A value that stands on its line. No line may be deeper than the floor behind it.
+pub(crate) fn read_alone<'a>(
+    alloc: Global,
+    line: Line<'a>,
+    rest: &mut Lines<'a>,
+    floor: usize,
+    depth: usize,
+) -> Result<Tree<'a>, YamlFault>
+    ensures value { Gives node result (alone (front floor rest.old) (on_line depth (row line.entry))) }
+    ensures rest { OnOk result (rest.new ≡ after floor rest.old) }
+{
+    let tree = read_on_line(alloc, line, depth)?;
+    match rest.next_deeper(floor) {
+        None => Ok(tree),
+        Some(deeper) => {
+            let open = is_open(floor, deeper.indent);
+            Err(misplaced(alloc, deeper, open, depth))
+        }
+    }
+}
+
+/// A value beside a key or a dash that stands at this indentation.
+pub(crate) fn read_beside<'a>(
+    alloc: Global,
+    line: Line<'a>,
+    rest: &mut Lines<'a>,
+    indent: usize,
+    floor: usize,
+    depth: usize,
+) -> Result<Tree<'a>, YamlFault>
+    ensures value { Gives node result (beside depth indent (row line.entry) (front floor rest.old)) }
+    ensures rest { OnOk result (rest.new ≡ after floor rest.old) }
+{
+    let bytes = line.content.as_bytes();
+    if begins(bytes, b'|') || begins(bytes, b'>') {
+        return read_text(alloc, line, rest, indent, floor, depth);
+    }
+    read_alone(alloc, line, rest, floor, depth)
+}
+
+/// What follows the first character, which is ASCII.
+fn tail(text: &str) -> &str
+    requires { begins 124 text.now || begins 62 text.now ≡ true }
+    ensures { result.now ≡ tail text.now }
+{
+    around(text, 0).1
+}
+
+/// Whether nothing but signs, digits and a comment follows.
+fn is_header(text: &str) -> bool
+    ensures { result ≡ is_header text.now }
+{
+    let bytes = text.as_bytes();
+    let mut at = 0;
+    'signs: while at < bytes.len() {
+        if !is_sign(bytes[at]) {
+            return ends_line(&text[at..]);
+        }
+        at += 1;
+    }
+    true
+}
+
+/// A sign behind `|` or `>`.
+fn is_sign(b: u8) -> bool
+    ensures { result ≡ is_sign b }
+{
+    b == b'+' || b == b'-' || (b'0' <= b && b <= b'9')
+}
+
+/// A block text, whose lines are deeper than its key or dash.
+fn read_text<'a>(
+    alloc: Global,
+    line: Line<'a>,
+    rest: &mut Lines<'a>,
+    indent: usize,
+    floor: usize,
+    depth: usize,
+) -> Result<Tree<'a>, YamlFault>
+    requires { begins_text (row line) ≡ true }
+    ensures value { Gives node result (text_block indent (row line.entry) (front floor rest.old)) }
+    ensures rest { OnOk result (rest.new ≡ after floor rest.old) }
+{
+    if !is_header(tail(line.content)) {
+        return Err(at(line.number, Kind::Unsupported));
+    }
+    while let Some(inside) = rest.next_deeper(floor) {
+        if inside.indent <= indent || inside.is_tabbed() {
+            return Err(misplaced(alloc, inside, true, depth));
+        }
+    }
+    Ok(quoted_scalar(line.number, Text::borrowed("")))
+}

@@ -4,6 +4,7 @@
 
 mod numbers;
 mod periods;
+mod yaml;
 
 use std::{env, io};
 
@@ -20,6 +21,7 @@ fn main(rt: HostRuntime) -> io::Result<()> {
         [subject, rest @ ..] => match subject.as_str() {
             "numbers" => numbers::run(&rt, rt.alloc(), rest),
             "periods" => periods::run(&rt, rt.alloc(), rest),
+            "yaml" => yaml::run(&rt, rt.alloc(), rest),
             _ => list(&rt),
         },
     }
@@ -29,7 +31,8 @@ fn main(rt: HostRuntime) -> io::Result<()> {
 fn list(rt: &impl Print) -> io::Result<()> {
     println!(rt; "fisca_bench SUBJECT WORD.. COUNT")?;
     println!(rt; "numbers add|mul|cmp|text|decimal whole|hundredths|unlike COUNT")?;
-    println!(rt; "periods read|text|offset|named|sub|compare|hash COUNT")
+    println!(rt; "periods read|text|offset|named|sub|compare|hash COUNT")?;
+    println!(rt; "yaml NAME COUNT")
 }
 
 /// Prints what was measured.

@@ -61,7 +61,8 @@ from_all : {F : Type 0} (row : ℕ → Row F) (position count : ℕ) → IsFrom 
 from_all row position zero = tt
 from_all row position (suc count) = from_first (row position) position _ (from_less position (position + 1) _ (omega arith) (from_all row (position + 1) count))
 
-from_take : (position count : ℕ) (xs : List (ℕ × List ℕ)) → IsFrom position xs → IsFrom position (take count xs)
+-- so do the first of them
+pub from_take : (position count : ℕ) (xs : List (ℕ × List ℕ)) → IsFrom position xs → IsFrom position (take count xs)
 from_take position zero xs above = tt
 from_take position (suc count) [] above = tt
 from_take position (suc count) (line ∷ rest) above = (above.0, from_take position count rest above.1)

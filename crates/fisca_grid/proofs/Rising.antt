@@ -6,7 +6,7 @@ use Rattle.std.proofs.lemmas.List.Elements.{All-from_recursion}
 use Rattle.fisca_grid.specs.Row.{Row, Nothing, Line, Fault}
 use Rattle.fisca_grid.specs.Lines.{all_lines, lines}
 use Rattle.fisca_grid.proofs.Walk.{lines_after, all_lines-step, all_lines-over}
-use Rattle.fisca_grid.proofs.Progress.{IsFrom, lines-from}
+use Rattle.fisca_grid.proofs.Progress.{IsFrom, from_take, lines-from}
 
 -- each position is below those after it
 abbrev pub IsRising : List (ℕ × List ℕ) → Type 0
@@ -27,15 +27,10 @@ rising_all row size from zero is = subst IsRising (sym (all_lines-over row size 
 rising_all row size from (suc count) is =
     subst IsRising (sym (all_lines-step row size from (omega arith))) (rising_after (row from) from _ (lines-from row size (from + 1) None) (rising_all row size (from + 1) count (omega arith)))
 
-from_taken : (position count : ℕ) (xs : List (ℕ × List ℕ)) → IsFrom position xs → IsFrom position (take count xs)
-from_taken position zero xs above = tt
-from_taken position (suc count) [] above = tt
-from_taken position (suc count) (line ∷ rest) above = (above.0, from_taken position count rest above.1)
-
 rising_taken : (count : ℕ) (xs : List (ℕ × List ℕ)) → IsRising xs → IsRising (take count xs)
 rising_taken zero xs rising = tt
 rising_taken (suc count) [] rising = tt
-rising_taken (suc count) (line ∷ rest) rising = (from_taken _ count rest rising.0, rising_taken count rest rising.1)
+rising_taken (suc count) (line ∷ rest) rising = (from_take _ count rest rising.0, rising_taken count rest rising.1)
 
 rising_lines : {F : Type 0} (row : ℕ → Row F) (size from : ℕ) (limit : Option ℕ) → IsRising (lines row size from limit)
 rising_lines row size from None = rising_all row size from (size - from) refl

@@ -1,13 +1,13 @@
 -- The value of an axis at a place, as a fraction of two words.
-use Rattle.std.proofs.Common.{◌≤ℤ◌, ◌<ℤ◌, ◌≡◌, ℕ, zero, suc, ◌+◌, ◌*◌, ◌-◌, ◌/◌, ◌%◌, ◌<◌, ◌≤◌, ◌^◌, ℤ, pos, negsuc, neg_ℤ, ◌+ℤ◌, ◌-ℤ◌, ◌*ℤ◌, unsigned_abs, Result, Ok, Err, arith, ap, ap₂, sym, ◌∙◌, refl, mul_comm, mul_assoc, mul_left_comm, mul-pos, true}
+use Rattle.std.proofs.Common.{◌≤ℤ◌, ◌<ℤ◌, ◌≡◌, ℕ, zero, suc, ◌+◌, ◌*◌, ◌/◌, ◌%◌, ◌<◌, ◌≤◌, ◌^◌, ℤ, pos, ◌+ℤ◌, ◌-ℤ◌, ◌*ℤ◌, unsigned_abs, Result, Ok, Err, arith, ap, ap₂, sym, ◌∙◌, refl, mul_comm, mul_assoc, mul_left_comm, mul-pos, true}
 use Rattle.std.proofs.lemmas.Int.{ints, unsigned_abs-mul}
 use Rattle.std.proofs.lemmas.Nat.{mul-le}
-use Rattle.std.proofs.Math.IntN.{*ℤ_comm, zero-*ℤ}
+use Rattle.std.proofs.Math.IntN.{zero-*ℤ}
 use Rattle.fisca_num.specs.declared.faults.NumFault.{NumFault}
 use Rattle.fisca_num.specs.declared.faults.NumFault.TheVariants.{TooWide, ZeroDivisor, NotANumber, Memory}
-use Rattle.fisca_num.specs.Rational.{Ratio, Reduces, IsTooWide, IsSame, IsWithin, over}
+use Rattle.fisca_num.specs.Rational.{Ratio, Reduces, IsSame}
 use Rattle.fisca_num.specs.Number.{Number, ratio_of}
-use Rattle.fisca_num.specs.Value.{IsNumberOf, IsFaultOf}
+use Rattle.fisca_num.specs.Value.{IsNumberOf}
 use Rattle.fisca_num.specs.Operations.{number_of, is_number_of, only_number_of}
 use Rattle.fisca_num.specs.Lowest.{Divisor, divisor_of}
 use Rattle.fisca_num.specs.Reduced.{cancel_right, divided, reduces_by_gcd, size-signed_like}

@@ -1,11 +1,11 @@
 -- Rationals that are the same give the same number.
-use Rattle.std.proofs.Common.{◌≡◌, ℕ, zero, suc, ◌+◌, ◌*◌, ◌<◌, ◌≤◌, ◌^◌, ℤ, pos, neg_ℤ, ◌*ℤ◌, unsigned_abs, Bool, true, false, arith, ap, sym, ◌∙◌, refl, Result, Ok, Err}
+use Rattle.std.proofs.Common.{◌≡◌, ℕ, ◌+◌, ◌*◌, ◌<◌, ◌≤◌, ◌^◌, ℤ, pos, neg_ℤ, ◌*ℤ◌, unsigned_abs, Bool, true, false, arith, ap, sym, ◌∙◌, Result, Ok, Err}
 use borrow.Author.Differences.{up, down, product_is, same_in}
-use Rattle.std.proofs.lemmas.Int.{ints, unsigned_abs-mul}
+use Rattle.std.proofs.lemmas.Int.{unsigned_abs-mul}
 use Rattle.std.proofs.Math.Nat.{eq_of_mul-eq-mul_left, mul-le-mul_left}
 use Rattle.fisca_num.specs.declared.faults.NumFault.{NumFault}
 use Rattle.fisca_num.specs.declared.faults.NumFault.TheVariants.{TooWide, ZeroDivisor, NotANumber, Memory}
-use Rattle.fisca_num.specs.Rational.{Ratio, IsSame, Reduces, IsTooWide, IsWithin, signed}
+use Rattle.fisca_num.specs.Rational.{Ratio, IsSame, Reduces, IsWithin, signed}
 use Rattle.fisca_num.specs.Reduced.{neg_times}
 use Rattle.fisca_num.specs.Number.{Number, ratio_of}
 use Rattle.fisca_num.specs.Value.{IsNumberOf}

@@ -1,9 +1,9 @@
 -- Numbers without a common divisor.
-use Rattle.std.proofs.Common.{◌≡◌, ℕ, ◌*◌, ◌/◌, ◌<◌, arith, ap, sym, ◌∙◌}
+use Rattle.std.proofs.Common.{◌≡◌, ℕ, ◌*◌, ◌/◌, ◌<◌, arith, ap, ◌∙◌}
 use Rattle.std.specs.Int.{◌∣◌, IsGcd}
 use Rattle.std.proofs.lemmas.Nat.Gcd.{dvd_trans}
 use Rattle.std.proofs.Math.Nat.{dvd-mul_left, dvd-mul_left_of_dvd, mul-div_cancel', mul-div_cancel_left}
-use Rattle.fisca_num.specs.Lowest.{IsCoprime, euclid, gcd_pos}
+use Rattle.fisca_num.specs.Lowest.{IsCoprime, euclid}
 
 pub coprime_swap : (a b : ℕ) → IsCoprime a b → IsCoprime b a
 coprime_swap a b h k p q = h k q p

@@ -1,9 +1,9 @@
 -- Parts divided by their greatest common divisor.
-use Rattle.std.proofs.Common.{◌≡◌, ℕ, ◌/◌, ◌*◌, ◌<◌, ◌^◌, ℤ, pos, neg_ℤ, unsigned_abs, Bool, true, false, arith, refl, ap, sym, ◌∙◌, Err}
+use Rattle.std.proofs.Common.{◌≡◌, ℕ, ◌/◌, ◌<◌, ◌^◌, ℤ, neg_ℤ, unsigned_abs, Bool, true, false, arith, refl, ap, Err}
 use Rattle.std.specs.Int.{IsGcd}
 use Rattle.std.proofs.lemmas.Int.{ints}
 use Rattle.fisca_num.specs.declared.faults.NumFault.TheVariants.{TooWide}
-use Rattle.fisca_num.specs.Rational.{Ratio, IsLowest, IsWithin, Reduces, IsTooWide, signed}
+use Rattle.fisca_num.specs.Rational.{Ratio, IsLowest, IsWithin, Reduces, signed}
 use Rattle.fisca_num.specs.Number.{lowest-neg, within-neg}
 use Rattle.fisca_num.specs.Lowest.{IsCoprime, coprime_from_gcd}
 use Rattle.fisca_num.specs.Reduced.{divides_alike, quotient_pos, reduces_once}

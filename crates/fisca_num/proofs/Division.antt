@@ -1,5 +1,5 @@
 -- Long division, a place at a time.
-use Rattle.std.proofs.Common.{◌≡◌, ℕ, zero, suc, ◌+◌, ◌*◌, ◌-◌, ◌/◌, ◌%◌, ◌^◌, ◌<◌, ◌≤◌, List, [], ◌∷◌, ◌++◌, length, drop, take, set, arith, refl, ap, sym, ◌∙◌, append_assoc, length-append, inl, inr}
+use Rattle.std.proofs.Common.{◌≡◌, ℕ, zero, suc, ◌+◌, ◌*◌, ◌-◌, ◌/◌, ◌%◌, ◌^◌, ◌<◌, ◌≤◌, List, [], ◌∷◌, ◌++◌, length, drop, take, set, arith, refl, ap, sym, ◌∙◌, inl, inr}
 use Rattle.std.specs.Int.{◌∣◌}
 use Rattle.std.specs.Str.Parse.{AllDigits, digits_value}
 use Rattle.std.proofs.lemmas.Int.Digits.{digits_value_push, digits_push}
@@ -8,7 +8,7 @@ use Rattle.std.proofs.Math.Seq.{take-length}
 use Rattle.std.proofs.lemmas.Nat.Gcd.{mod-eq-zero_of_dvd}
 use Rattle.std.proofs.lemmas.Nat.{mod-mul-add, pow-add}
 use Rattle.std.proofs.lemmas.Bool.{cases_lt}
-use Rattle.std.proofs.Math.Nat.{pow-suc, mul-div_cancel', mul-div-le, mod-add-div', mul-le-mul_left, dvd-mul_left_of_dvd, eq-one_of_dvd-one}
+use Rattle.std.proofs.Math.Nat.{mul-div_cancel', mul-div-le, mod-add-div', mul-le-mul_left, dvd-mul_left_of_dvd, eq-one_of_dvd-one}
 use Rattle.fisca_num.specs.Numeral.{pointed}
 use Rattle.fisca_num.specs.Part.{IsPart}
 use Rattle.fisca_num.specs.Digits.{padded, digits-padded, value-padded, value-digit, ten_pos}

@@ -1,17 +1,15 @@
 -- What a literal's digits are worth.
-use Rattle.std.proofs.Common.{◌≡◌, ℕ, zero, suc, ◌+◌, ◌*◌, ◌<◌, ◌≤◌, ◌^◌, min, unsigned_abs, pos, neg_ℤ, Bool, true, false, ◌&&◌, not, List, [], ◌∷◌, ◌++◌, length, take, drop, arith, ap, sym, ◌∙◌, refl, Result, Ok, Err, length-append, lit<, inl, inr, ◌⊎◌}
+use Rattle.std.proofs.Common.{◌≡◌, ℕ, ◌+◌, ◌*◌, ◌<◌, ◌≤◌, ◌^◌, min, unsigned_abs, Bool, true, false, ◌&&◌, not, List, [], ◌∷◌, ◌++◌, length, take, drop, arith, ap, sym, ◌∙◌, refl, Err, inl, inr, ◌⊎◌}
 use Rattle.std.specs.Char.{digit_value}
 use Rattle.std.specs.List.{list_all}
 use Rattle.std.specs.Str.Parse.{digits_value, digits_value_after}
 use Rattle.std.proofs.lemmas.Bool.{and_parts, eqb-true}
 use Rattle.std.proofs.lemmas.Int.{ints}
-use Rattle.std.proofs.lemmas.List.{take-append-drop, length-take, length-drop}
+use Rattle.std.proofs.lemmas.List.{take-append-drop, length-drop}
 use Rattle.std.proofs.lemmas.Nat.{pow-add}
 use Rattle.std.proofs.Math.Nat.{mul-le-mul_left}
-use Rattle.fisca_num.specs.declared.faults.NumFault.{NumFault}
 use Rattle.fisca_num.specs.declared.faults.NumFault.TheVariants.{TooWide, NotANumber}
-use Rattle.fisca_num.specs.Rational.{Ratio, IsSame, signed}
-use Rattle.fisca_num.specs.Number.{Number}
+use Rattle.fisca_num.specs.Rational.{signed}
 use Rattle.fisca_num.specs.Operations.{number_of}
 use Rattle.fisca_num.specs.Digits.{ten_pos, value_after_is}
 use Rattle.fisca_num.specs.Literal.{is_form, is_whole, is_empty, are_digits_or_none, digits_in, is_zero_digit, are_few, digits_ratio, number_of_parts, IsRead}

@@ -1,12 +1,12 @@
 -- Twos in a number.
-use Rattle.std.proofs.Common.{◌≡◌, ℕ, zero, suc, ◌+◌, ◌*◌, ◌-◌, ◌/◌, ◌%◌, ◌^◌, ◌<◌, ◌≤◌, min, max, arith, ap, sym, ◌∙◌, refl, lit<, inl, inr}
+use Rattle.std.proofs.Common.{◌≡◌, ℕ, zero, suc, ◌+◌, ◌*◌, ◌-◌, ◌/◌, ◌%◌, ◌^◌, ◌<◌, ◌≤◌, min, arith, ap, sym, ◌∙◌, lit<, inl, inr}
 use Rattle.std.specs.Int.{◌∣◌, IsGcd, bit_at, abs_diff}
 use Rattle.std.proofs.lemmas.Bool.{cases_lt}
 use Rattle.std.proofs.lemmas.Nat.{mod-pow-add, pow-add}
-use Rattle.std.proofs.lemmas.Nat.Gcd.{dvd_refl, dvd_trans, le_of_dvd, dvd_of_mod-eq-zero, mod-eq-zero_of_dvd, IsGcd-swap, IsGcd-from_sub, same_from_IsGcd, IsGcd-from_zero}
-use Rattle.std.proofs.Math.Nat.{pow-suc, one-le-pow, mul-div_cancel', mul-div_cancel_left, dvd-mul_left, dvd-mul_right, dvd-mul_left_of_dvd, dvd-sub, mul-le-mul_left, mul-div-le, div-le_self, mul-sub}
+use Rattle.std.proofs.lemmas.Nat.Gcd.{dvd_trans, le_of_dvd, dvd_of_mod-eq-zero, mod-eq-zero_of_dvd, IsGcd-swap, IsGcd-from_sub, same_from_IsGcd}
+use Rattle.std.proofs.Math.Nat.{pow-suc, one-le-pow, mul-div_cancel', mul-div_cancel_left, dvd-mul_left_of_dvd, mul-le-mul_left, mul-div-le, div-le_self, mul-sub}
 use Rattle.fisca_num.specs.Halves.{IsHalved}
-use Rattle.fisca_num.specs.Lowest.{IsCoprime, euclid, Scales, scales}
+use Rattle.fisca_num.specs.Lowest.{euclid, Scales, scales}
 use Rattle.fisca_num.specs.Tens.{coprime_2}
 
 -- all bits below the k-th are 0

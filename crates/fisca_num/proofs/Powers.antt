@@ -1,10 +1,10 @@
 -- Products of twos and fives.
-use Rattle.std.proofs.Common.{◌≡◌, ℕ, zero, suc, ◌+◌, ◌*◌, ◌-◌, ◌/◌, ◌%◌, ◌^◌, ◌<◌, ◌≤◌, max, arith, refl, ap, sym, ◌∙◌, lit<, lit≤, inl, inr}
+use Rattle.std.proofs.Common.{◌≡◌, ℕ, zero, suc, ◌+◌, ◌*◌, ◌-◌, ◌/◌, ◌%◌, ◌^◌, ◌<◌, ◌≤◌, max, arith, ap, ◌∙◌, lit<, lit≤, inl, inr}
 use Rattle.std.specs.Int.{◌∣◌}
 use Rattle.std.proofs.lemmas.Bool.{cases_lt}
 use Rattle.std.proofs.lemmas.Nat.{pow-add, mul-pow}
-use Rattle.std.proofs.lemmas.Nat.Gcd.{dvd_trans, dvd_of_mod-eq-zero}
-use Rattle.std.proofs.Math.Nat.{pow-suc, one-le-pow, pow-le-pow_left, pow-le-pow_right, mul-le-mul_left, eq-one_of_dvd-one, dvd-mul_left, dvd-mul_right, mul-dvd-mul, dvd_of_mul-dvd-mul_left, mul-div_cancel'}
+use Rattle.std.proofs.lemmas.Nat.Gcd.{dvd_trans}
+use Rattle.std.proofs.Math.Nat.{pow-suc, one-le-pow, pow-le-pow_left, pow-le-pow_right, mul-le-mul_left, eq-one_of_dvd-one, dvd-mul_left, dvd-mul_right, mul-dvd-mul, dvd_of_mul-dvd-mul_left}
 use Rattle.fisca_num.specs.Lowest.{euclid}
 use Rattle.fisca_num.specs.Tens.{IsLeastPower, coprime_2, coprime_5, no_other}
 

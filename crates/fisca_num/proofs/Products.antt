@@ -1,11 +1,10 @@
 -- Products whose factors were divided crosswise are in lowest terms.
-use Rattle.std.proofs.Common.{◌≡◌, ℕ, ◌*◌, ◌/◌, ◌<◌, ℤ, pos, ◌*ℤ◌, unsigned_abs, Bool, arith, ap, sym, ◌∙◌}
-use Rattle.std.specs.Int.{◌∣◌, IsGcd}
+use Rattle.std.proofs.Common.{◌≡◌, ℕ, ◌*◌, ◌/◌, ◌<◌, pos, ◌*ℤ◌, unsigned_abs, Bool, arith, ap, sym, ◌∙◌}
+use Rattle.std.specs.Int.{IsGcd}
 use Rattle.std.proofs.Math.Nat.{mul-div_cancel', mul-le-mul_left}
-use Rattle.std.proofs.lemmas.Nat.Gcd.{IsGcd-swap}
-use Rattle.fisca_num.specs.Rational.{Ratio, IsLowest, signed}
+use Rattle.fisca_num.specs.Rational.{IsLowest, signed}
 use Rattle.fisca_num.specs.Number.{Number}
-use Rattle.fisca_num.specs.Lowest.{IsCoprime, coprime_from_gcd, gcd_pos}
+use Rattle.fisca_num.specs.Lowest.{IsCoprime, coprime_from_gcd}
 use Rattle.fisca_num.specs.Reduced.{quotient_pos}
 use Rattle.fisca_num.specs.Operations.{number_of, product_of}
 use Rattle.fisca_num.proofs.Alike.{number_of_same, signed_same}

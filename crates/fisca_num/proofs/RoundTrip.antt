@@ -1,5 +1,5 @@
 -- A numeral is read back.
-use Rattle.std.proofs.Common.{◌≡◌, ℕ, zero, suc, ◌+◌, ◌*◌, ◌<◌, ◌≤◌, ◌^◌, ℤ, pos, negsuc, neg_ℤ, ◌*ℤ◌, unsigned_abs, Bool, true, false, ◌&&◌, ◌||◌, ◌==◌, not, List, [], ◌∷◌, ◌++◌, length, take, drop, get_or, arith, ap, sym, ◌∙◌, refl, Result, Ok, Err, length-append, append_assoc, inl, inr, ◌⊎◌, lit<}
+use Rattle.std.proofs.Common.{◌≡◌, ℕ, zero, suc, ◌+◌, ◌*◌, ◌<◌, ◌≤◌, ◌^◌, ℤ, pos, negsuc, ◌*ℤ◌, unsigned_abs, Bool, true, false, ◌||◌, ◌==◌, List, [], ◌∷◌, ◌++◌, length, take, drop, get_or, arith, ap, sym, ◌∙◌, refl, Ok, length-append, inl, lit<}
 use Rattle.std.specs.Char.{is_ascii_digit, digit_value}
 use Rattle.std.specs.Fmt.{decimal}
 use Rattle.std.specs.Int.{IsInRange}
@@ -8,17 +8,16 @@ use Rattle.std.specs.Str.Parse.{AllDigits, digits_value}
 use Rattle.std.proofs.lemmas.Bool.{ne_eqb}
 use Rattle.std.proofs.lemmas.Bool.Decides.{nat_tests}
 use Rattle.std.proofs.lemmas.Fmt.{decimal_is_IsNumeral, decimal_digit, first_decimal}
-use Rattle.std.proofs.lemmas.Int.{ints}
 use Rattle.std.proofs.lemmas.List.{drop_all}
 use Rattle.std.proofs.lemmas.List.Sums.{position_or_len_is}
 use Rattle.std.proofs.lemmas.Str.Parse.{digit_from_value}
 use Rattle.std.proofs.Math.Seq.{take-append_seam, drop-append-add}
-use Rattle.fisca_num.specs.Rational.{Ratio, IsSame, signed}
-use Rattle.fisca_num.specs.Number.{Number, ratio_of}
+use Rattle.fisca_num.specs.Rational.{signed}
+use Rattle.fisca_num.specs.Number.{Number}
 use Rattle.fisca_num.specs.Numeral.{sign_of, pointed, IsNumeralOf}
 use Rattle.fisca_num.specs.Digits.{ten_pos}
 use Rattle.fisca_num.specs.Operations.{number_of, only_number_of}
-use Rattle.fisca_num.specs.Literal.{is_point, is_minus, is_negative, unsigned_part, whole_part, place_part, are_digits, may_follow_digit, are_digits_or_none, digits_in, has_no_leading_zero, is_whole, is_empty, is_form, is_zero_digit, are_few, digits_ratio, number_of_parts, number_of_literal}
+use Rattle.fisca_num.specs.Literal.{is_point, is_minus, is_negative, unsigned_part, may_follow_digit, are_digits_or_none, digits_in, has_no_leading_zero, is_whole, is_zero_digit, are_few, digits_ratio, number_of_parts, number_of_literal}
 use Rattle.fisca_num.proofs.Alike.{signed_same}
 use Rattle.fisca_num.proofs.Forms.{AreParts, value-append, valued}
 use Rattle.fisca_num.proofs.Written.{whole_below}

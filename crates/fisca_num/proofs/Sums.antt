@@ -1,5 +1,5 @@
 -- Sums over two denominators, which share g.
-use Rattle.std.proofs.Common.{◌≡◌, ℕ, zero, suc, ◌+◌, ◌*◌, ◌-◌, ◌/◌, ◌<◌, ◌≤◌, ℤ, pos, negsuc, neg_ℤ, ◌+ℤ◌, ◌-ℤ◌, ◌*ℤ◌, unsigned_abs, Bool, true, false, arith, ap, sym, ◌∙◌, refl, inl, inr, ◌⊎◌}
+use Rattle.std.proofs.Common.{◌≡◌, ℕ, zero, suc, ◌+◌, ◌*◌, ◌-◌, ◌/◌, ◌<◌, ℤ, pos, negsuc, neg_ℤ, ◌+ℤ◌, ◌*ℤ◌, unsigned_abs, Bool, arith, ap, sym, ◌∙◌, refl, inl, inr, ◌⊎◌}
 use borrow.Author.Differences.{up, down, product_is}
 use Rattle.std.specs.Int.{◌∣◌, IsGcd}
 use Rattle.std.proofs.lemmas.Bool.{cases_lt}
@@ -7,14 +7,14 @@ use Rattle.std.proofs.lemmas.Int.{ints, unsigned_abs-mul}
 use Rattle.std.proofs.lemmas.Nat.Gcd.{IsGcd-swap, dvd_trans}
 use Rattle.std.proofs.Math.Nat.{mul-div_cancel', mul-le-mul_left, dvd-add, dvd-sub, dvd-mul_left_of_dvd, zero-mul}
 use Rattle.std.proofs.Math.IntN.{neg_ℤ-neg_ℤ}
-use Rattle.fisca_num.specs.Rational.{Ratio, IsLowest, IsSame, signed}
-use Rattle.fisca_num.specs.Number.{Number, ratio_of, opposite_of}
-use Rattle.fisca_num.specs.Lowest.{IsCoprime, euclid, coprime_from_gcd, gcd_pos}
+use Rattle.fisca_num.specs.Rational.{IsLowest, signed}
+use Rattle.fisca_num.specs.Number.{Number, opposite_of}
+use Rattle.fisca_num.specs.Lowest.{IsCoprime, euclid, coprime_from_gcd}
 use Rattle.fisca_num.specs.Reduced.{quotient_pos}
 use Rattle.fisca_num.specs.Operations.{number_of, sum_of, difference_of}
 use Rattle.fisca_num.proofs.Alike.{number_of_same, from_sides}
-use Rattle.fisca_num.proofs.Coprime.{coprime_swap, coprime_product, parts_coprime, part_divides, gcd_beyond, product_over}
-use Rattle.fisca_num.proofs.Cut.{lowest_of, cut_lowest, cut_same, size-signed}
+use Rattle.fisca_num.proofs.Coprime.{coprime_swap, coprime_product, part_divides, gcd_beyond, product_over}
+use Rattle.fisca_num.proofs.Cut.{cut_lowest, cut_same}
 
 -- ---- a common divisor of a sum and of one part divides the other part
 

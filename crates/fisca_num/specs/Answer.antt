@@ -1,9 +1,9 @@
 -- Each rational has just one answer of `IsNumberOf`.
-use Rattle.std.proofs.Common.{◌≡◌, ℕ, ◌/◌, ◌<◌, ◌≤◌, ◌^◌, unsigned_abs, arith, ap, sym, refl, inl, inr, ◌⊎◌, Result, Ok, Err}
+use Rattle.std.proofs.Common.{◌≡◌, ℕ, ◌/◌, ◌<◌, ◌^◌, unsigned_abs, arith, ap, refl, inl, inr, Result, Ok, Err}
 use Rattle.std.proofs.lemmas.Bool.{cases_lt}
 use Rattle.fisca_num.specs.declared.faults.NumFault.{NumFault}
 use Rattle.fisca_num.specs.declared.faults.NumFault.TheVariants.{TooWide, ZeroDivisor, NotANumber, Memory}
-use Rattle.fisca_num.specs.Rational.{Ratio, Reduces, IsTooWide, IsWithin}
+use Rattle.fisca_num.specs.Rational.{Ratio, Reduces}
 use Rattle.fisca_num.specs.Number.{Number, ratio_of, same_number}
 use Rattle.fisca_num.specs.Value.{IsFaultOf, IsNumberOf}
 use Rattle.fisca_num.specs.Lowest.{Divisor, divisor_of}

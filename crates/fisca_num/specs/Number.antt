@@ -1,10 +1,9 @@
 -- What a contract sees of a `Fraction`: a rational in lowest terms, within the limits.
-use Rattle.std.specs.Prelude.{◌≡◌, ℕ, ℤ, pos, neg_ℤ, ◌*ℤ◌, ◌<◌, ◌^◌, unsigned_abs, int_div, refl}
+use Rattle.std.specs.Prelude.{◌≡◌, ℕ, ℤ, pos, neg_ℤ, ◌*ℤ◌, ◌<◌, ◌^◌, unsigned_abs, int_div}
 use Rattle.std.proofs.Common.{ap, arith, lit<}
 use Rattle.std.proofs.Props.{props}
 use Rattle.std.proofs.lemmas.Int.{ints}
 use Rattle.std.specs.declared.cmp.Ordering.{Ordering}
-use Rattle.std.specs.Int.{◌∣◌}
 use Rattle.std.specs.Ordering.{int_cmp}
 use Rattle.std.proofs.Math.Nat.{eq-one_of_dvd-one}
 use mathlib.Core.HLevel.{Σ_prop_path}

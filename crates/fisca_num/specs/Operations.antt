@@ -1,5 +1,5 @@
 -- The number that a rational is, as a function, and the operations on numbers.
-use Rattle.std.specs.Prelude.{◌≡◌, ℤ, Result, Ok, Err, ◌↔◌}
+use Rattle.std.specs.Prelude.{◌≡◌, ℤ, Result, ◌↔◌}
 use Rattle.std.proofs.Common.{subst, sym}
 use Rattle.fisca_num.specs.declared.faults.NumFault.{NumFault}
 use Rattle.fisca_num.specs.Rational.{Ratio, over, ratio_sum, ratio_difference, ratio_product, ratio_quotient}

@@ -1,9 +1,9 @@
 -- What dividing by the greatest common divisor makes of a rational.
-use Rattle.std.proofs.Common.{◌≡◌, ℕ, zero, suc, ◌*◌, ◌/◌, ◌<◌, ◌^◌, ℤ, pos, negsuc, neg_ℤ, ◌*ℤ◌, ◌<ℤ◌, ◌≤ℤ◌, unsigned_abs, arith, ap, sym, ◌∙◌, refl}
+use Rattle.std.proofs.Common.{◌≡◌, ℕ, zero, suc, ◌*◌, ◌/◌, ◌<◌, ◌^◌, ℤ, pos, negsuc, neg_ℤ, ◌*ℤ◌, unsigned_abs, arith, ap, sym, ◌∙◌, refl}
 use Rattle.std.specs.Int.{IsGcd}
 use Rattle.std.proofs.lemmas.Int.{ints, unsigned_abs-mul}
 use Rattle.std.proofs.Math.Nat.{mul-div_cancel', zero-mul, eq_of_mul-eq-mul_right, mul-le-mul_left}
-use Rattle.fisca_num.specs.Rational.{Ratio, IsLowest, IsWithin, Reduces, IsTooWide}
+use Rattle.fisca_num.specs.Rational.{Ratio, IsLowest, Reduces, IsTooWide}
 use Rattle.fisca_num.specs.Lowest.{Divisor, divisor_of, coprime_from_gcd, reduced_is}
 
 -- the size m with the sign of n

@@ -1,14 +1,13 @@
 -- Each number has just one text that `IsTextOf` allows.
-use Rattle.std.proofs.Common.{◌≡◌, ◌≢◌, lit<, ℕ, zero, suc, ◌+◌, ◌*◌, ◌-◌, ◌/◌, ◌%◌, ◌^◌, ◌<◌, ◌≤◌, ℤ, unsigned_abs, List, [], ◌∷◌, ◌++◌, length, arith, refl, ap, sym, ◌∙◌, inl, inr, ◌⊎◌, length-append}
+use Rattle.std.proofs.Common.{◌≡◌, ◌≢◌, lit<, ℕ, zero, suc, ◌+◌, ◌*◌, ◌-◌, ◌/◌, ◌%◌, ◌^◌, ◌<◌, unsigned_abs, List, [], ◌∷◌, ◌++◌, length, arith, refl, ap, sym, ◌∙◌, inl, inr, length-append}
 use Rattle.std.specs.Int.{◌∣◌}
 use Rattle.std.specs.Fmt.{decimal}
-use Rattle.std.specs.Char.{digit_value}
 use Rattle.std.specs.Str.Parse.{AllDigits, digits_value}
 use Rattle.std.proofs.lemmas.Bool.{cases_lt}
 use Rattle.std.proofs.lemmas.Nat.Gcd.{dvd_trans}
 use Rattle.std.proofs.lemmas.Nat.{pow-add}
 use Rattle.std.proofs.lemmas.Int.Digits.{digits_value-lt, digits_value_push}
-use Rattle.std.proofs.Math.Nat.{pow-suc, dvd-mul_left, dvd-mul_right, mul-dvd-mul_left, mul-div_cancel', eq_of_mul-eq-mul_left, eq_of_mul-eq-mul_right}
+use Rattle.std.proofs.Math.Nat.{pow-suc, dvd-mul_left, dvd-mul_right, mul-div_cancel', eq_of_mul-eq-mul_left, eq_of_mul-eq-mul_right}
 use Rattle.fisca_num.specs.Number.{Number}
 use Rattle.fisca_num.specs.Numeral.{sign_of, pointed, fraction_text, IsNumeralOf, IsTextOf}
 use Rattle.fisca_num.specs.Lowest.{euclid}

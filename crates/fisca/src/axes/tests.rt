@@ -171,26 +171,47 @@ fn texts_that_state_no_condition_are_refused(rt: HostRuntime) {
 
 #[test]
 fn the_first_refusal_is_told(rt: HostRuntime) {
-    let bad_count = Refusal::Axes(AxesFault::BadCount);
-    let bad_bound = Refusal::Axes(AxesFault::BadBound);
-    let bad_position = Refusal::Run(RunFault::BadPosition);
     // each row has all the faults of the rows below it
     let table = [
-        ("rent=7..9", Some("salary>0"), 9, Refusal::BadWord),
-        ("rent=0.0001..9/0", Some("salary>0"), 9, bad_count),
-        ("rent=0.0001..9/2", Some("salary>0"), 9, bad_bound),
-        ("rent=0..9/2", Some("salary>0"), 9, Refusal::BadCondition),
-        ("rent=0..9/2", Some("rent>0"), 9, bad_position),
-        ("rent=0..9/2", None, 3, bad_position),
-        ("rent=0..1000000001/2", None, 0, bad_bound),
-        ("rent=0..9/1048577", None, 0, bad_count),
+        ("rent=7..9", "salary>0", Refusal::BadWord),
+        (
+            "rent=0.0001..9/0",
+            "salary>0",
+            Refusal::Axes(AxesFault::BadCount),
+        ),
+        (
+            "rent=0.0001..9/2",
+            "salary>0",
+            Refusal::Axes(AxesFault::BadBound),
+        ),
+        ("rent=0..9/2", "salary>0", Refusal::BadCondition),
+        ("rent=0..9/2", "rent>0", Refusal::Run(RunFault::BadPosition)),
     ];
-    for (word, keep, from, refusal) in table {
+    for (word, keep, refusal) in table {
         let mut sink = MemorySink::new(rt.alloc());
-        let answer = list_axis(rt.alloc(), word, keep, from, None, &mut sink);
+        let answer = list_axis(rt.alloc(), word, Some(keep), 9, None, &mut sink);
         assert_eq!(rt; answer, Err(refusal), "{word}");
         assert_eq!(rt; sink.bytes(), b"".as_slice(), "{word}");
         assert_eq!(rt; sink.failures(), 0, "{word}");
+    }
+}
+
+#[test]
+fn one_past_a_limit_is_refused(rt: HostRuntime) {
+    let table = [
+        ("x=0..9/2", 3, Refusal::Run(RunFault::BadPosition)),
+        ("x=0..9/1048577", 0, Refusal::Axes(AxesFault::BadCount)),
+        ("x=0..1000000001/2", 0, Refusal::Axes(AxesFault::BadBound)),
+        (
+            "x=-1000000000.001..0/2",
+            0,
+            Refusal::Axes(AxesFault::BadBound),
+        ),
+    ];
+    for (word, from, refusal) in table {
+        let mut sink = MemorySink::new(rt.alloc());
+        let answer = list_axis(rt.alloc(), word, None, from, None, &mut sink);
+        assert_eq!(rt; answer, Err(refusal), "{word}");
     }
 }
 
@@ -266,8 +287,8 @@ fn a_sink_that_fails_has_the_text_up_to_there(rt: HostRuntime) {
             let answer = list_axis(rt.alloc(), SALARIES, keep, 0, Some(2), &mut sink);
             let position = if room < 6 { 1 } else { 2 };
             let refusal = Refusal::Run(RunFault::Write { position });
-            assert_eq!(rt; answer, Err(refusal), "after {room} bytes");
             assert_eq!(rt; refusal.status(), 5);
+            assert_eq!(rt; answer, Err(refusal), "after {room} bytes");
             assert_eq!(rt; sink.failures(), 1);
             assert_eq!(rt; sink.into_writer().held.as_slice(), &text[..room]);
         }

@@ -1,4 +1,4 @@
-use Rattle.std.proofs.Common.{◌≡◌, ◌*◌, ◌/◌, ◌<◌, ◌≤◌, ◌^◌, ◌*ℤ◌, pos, unsigned_abs, to_z, of_z, w64, arith, ap, ◌∙◌}
+use Rattle.std.proofs.Common.{◌≡◌, ◌*ℤ◌, pos, to_z, of_z, w64, arith, ap, ◌∙◌}
 use Rattle.std.proofs.lemmas.Int.{ints}
 use Rattle.fisca_grid.proofs.Steps.{bound_value, bound_size}
 use Rattle.fisca_grid.proofs.axes.thousandths.Goals as goal

@@ -1,5 +1,5 @@
-use Rattle.std.proofs.Common.{◌≡◌, ◌<◌, ◌^◌, arith, max}
-use Rattle.fisca_num.proofs.Powers.{IsFactored, less_two, less_five, odd_fifth, few_twos, few_fives, least_of, not_covered}
+use Rattle.std.proofs.Common.{◌≡◌, arith, max}
+use Rattle.fisca_num.proofs.Powers.{less_two, less_five, odd_fifth, few_twos, few_fives, least_of, not_covered}
 use Rattle.fisca_num.proofs.decimals.decimal_places.Goals as goal
 
 pub overflow_add-twos : goal.overflow_add-twos

@@ -1,4 +1,3 @@
-use Rattle.std.proofs.Common.{◌≡◌}
 use Rattle.std.proofs.lemmas.Nat.Gcd.{IsGcd-from_mod}
 use Rattle.std.proofs.Math.Nat.{one-dvd}
 use Rattle.fisca_num.proofs.divisors.gcd_with_word.Goals as goal

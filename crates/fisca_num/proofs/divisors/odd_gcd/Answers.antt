@@ -1,6 +1,6 @@
-use Rattle.std.proofs.Common.{◌≡◌, ◌+◌, ◌-◌, ◌%◌, ◌^◌, arith, refl}
+use Rattle.std.proofs.Common.{◌+◌, ◌-◌, ◌%◌, ◌^◌, arith, refl}
 use Rattle.std.proofs.lemmas.Nat.Gcd.{dvd_refl}
-use Rattle.fisca_num.proofs.Halving.{IsStep, step_gcd, step_odd, step_less}
+use Rattle.fisca_num.proofs.Halving.{IsStep, step_gcd, step_odd}
 use Rattle.fisca_num.proofs.divisors.odd_gcd.Goals as goal
 
 pub loop-x-preserved : goal.loop-x-preserved

@@ -1,4 +1,4 @@
-use Rattle.std.proofs.Common.{◌≡◌, ◌<◌, ◌-◌, ◌^◌, arith, sym, ◌∙◌, true, get_or}
+use Rattle.std.proofs.Common.{◌≡◌, arith, sym, ◌∙◌, true, get_or}
 use Rattle.std.specs.Char.{is_ascii_digit}
 use Rattle.fisca_num.proofs.Reading.{form_digit, form_bar}
 use Rattle.fisca_num.proofs.Places.{read_more, read_past_zero, read_past_other, next_read, next_skipped, room_below, digit_small}

@@ -1,4 +1,4 @@
-use Rattle.std.proofs.Common.{◌≡◌, ◌∙◌, ◌<◌, ◌≤◌, ◌^◌, sym, arith, min, length, inl, inr, ◌⊎◌, true, false}
+use Rattle.std.proofs.Common.{◌≡◌, ◌∙◌, ◌^◌, sym, arith, min, length, inl, inr, ◌⊎◌}
 use Rattle.std.specs.Str.Parse.{digits_value}
 use Rattle.std.proofs.lemmas.Bool.{eqb-true, eqb-false}
 use Rattle.fisca_num.specs.Literal.{digits_in}

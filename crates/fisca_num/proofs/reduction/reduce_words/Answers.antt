@@ -1,4 +1,4 @@
-use Rattle.std.proofs.Common.{◌≡◌, ◌∙◌, ◌/◌}
+use Rattle.std.proofs.Common.{◌∙◌}
 use Rattle.fisca_num.specs.Lowest.{gcd_pos}
 use Rattle.fisca_num.proofs.Cut.{cut_lowest, cut_same}
 use Rattle.fisca_num.proofs.reduction.reduce_words.Goals as goal

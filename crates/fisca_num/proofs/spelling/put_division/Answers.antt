@@ -1,5 +1,5 @@
-use Rattle.std.proofs.Common.{◌≡◌, ◌+◌, ◌-◌, ◌*◌, ◌/◌, ◌%◌, arith, drop, take, refl}
-use Rattle.fisca_num.proofs.Division.{IsDivided, divided_more, divided_end, take_step}
+use Rattle.std.proofs.Common.{◌≡◌, ◌+◌, ◌-◌, arith}
+use Rattle.fisca_num.proofs.Division.{divided_more, divided_end, take_step}
 use Rattle.fisca_num.proofs.spelling.put_division.Goals as goal
 
 pub loop-index-preserved : goal.loop-index-preserved

@@ -1,4 +1,4 @@
-use Rattle.std.proofs.Common.{◌≡◌, ◌/◌, arith, length}
+use Rattle.std.proofs.Common.{◌/◌, arith}
 use Rattle.std.proofs.lemmas.Fmt.{decimal_nonempty}
 use Rattle.fisca_num.proofs.Spelled.{length_pair, next_pair}
 use Rattle.fisca_num.proofs.spelling.put_number.Goals as goal

@@ -1,5 +1,4 @@
-use Rattle.std.proofs.Common.{◌≡◌, ◌/◌, arith, refl, ap, length}
-use Rattle.std.specs.Fmt.{decimal}
+use Rattle.std.proofs.Common.{◌/◌, arith, refl, ap, length}
 use Rattle.std.proofs.lemmas.Fmt.{decimal_digit, decimal_nonempty}
 use Rattle.fisca_num.proofs.Spelled.{length_next, last_digit, last_pair}
 use Rattle.fisca_num.proofs.spelling.put_pair.Goals as goal

@@ -1,4 +1,4 @@
-use Rattle.std.proofs.Common.{◌≡◌, ◌-◌, ◌<◌, arith, length, drop, ap}
+use Rattle.std.proofs.Common.{◌≡◌, ◌-◌, arith, length, drop}
 use Rattle.std.proofs.lemmas.List.{length-drop, drop_all}
 use Rattle.fisca_num.proofs.Division.{IsPlaces, part_none, part_some, places_as_word}
 use Rattle.fisca_num.proofs.text.put_part.Goals as goal

@@ -1,4 +1,4 @@
-use Rattle.std.proofs.Common.{◌≡◌, ◌∷◌, [], None, Some, IfOk, IfErr, sum, length, rules, arith, sym, ap, ◌∙◌}
+use Rattle.std.proofs.Common.{◌≡◌, sum, length, ap, ◌∙◌}
 use Rattle.fisca_grid.proofs.Groups.{one_axis, no_axis, fault_of_one, fault_of_none}
 use Rattle.fisca_grid.proofs.axes.Axes.build.Goals as goal
 

@@ -1,4 +1,4 @@
-use Rattle.std.proofs.Common.{◌≡◌, ◌<◌, Some, map, length, option_map, slice_get, arith, sym, ap, ◌∙◌, refl}
+use Rattle.std.proofs.Common.{◌<◌, length, option_map, slice_get, arith, sym, ap, ◌∙◌, refl}
 use Rattle.std.proofs.lemmas.List.{length-map}
 use Rattle.std.proofs.lemmas.Option.{slice_get-map, slice_get_read}
 use Rattle.fisca_grid.specs.declared.axes.AxisSpec.{AxisSpec}

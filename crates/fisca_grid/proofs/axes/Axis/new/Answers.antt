@@ -1,4 +1,4 @@
-use Rattle.std.proofs.Common.{◌≡◌, ◌≤◌, unsigned_abs, to_z, of_z, w64, arith}
+use Rattle.std.proofs.Common.{◌≡◌, to_z, of_z, w64, arith}
 use Rattle.std.proofs.lemmas.Int.{ints}
 use Rattle.fisca_grid.proofs.Steps.{on_line}
 use Rattle.fisca_grid.proofs.axes.Axis.new.Goals as goal

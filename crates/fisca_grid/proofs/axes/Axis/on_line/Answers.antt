@@ -1,4 +1,4 @@
-use Rattle.std.proofs.Common.{◌≡◌, ◌<◌, ◌^◌, ◌+◌, ◌*◌, ℕ, unsigned_abs, to_z, of_z, w64, arith, subst}
+use Rattle.std.proofs.Common.{◌≡◌, ℕ, to_z, of_z, w64, arith, subst}
 use Rattle.std.proofs.lemmas.Int.{ints}
 use Rattle.std.specs.Int.{◌∣◌}
 use Rattle.fisca_grid.proofs.Steps.{line-divided, dvd-common, some_divisor, increment_within}

@@ -1,4 +1,4 @@
-use Rattle.std.proofs.Common.{◌≡◌, ◌+◌, ◌*◌, ◌≤◌, ◌<◌, ◌^◌, ◌+ℤ◌, ◌*ℤ◌, pos, unsigned_abs, to_z, of_z, w64, arith, rules, ◌∙◌, sym, ap}
+use Rattle.std.proofs.Common.{◌≡◌, unsigned_abs, to_z, of_z, w64, arith, ◌∙◌, sym, ap}
 use Rattle.std.proofs.lemmas.Int.{ints}
 use Rattle.fisca_num.specs.Operations.{number_of}
 use Rattle.fisca_grid.proofs.Integers.{abs-line}

@@ -1,4 +1,4 @@
-use Rattle.std.proofs.Common.{◌≡◌, ◌∙◌, ◌/◌, ℤ, arith, ap, unsigned_abs, to_z, of_z, w64}
+use Rattle.std.proofs.Common.{◌≡◌, ◌∙◌, ◌/◌, arith, ap, unsigned_abs, to_z, of_z, w64}
 use Rattle.std.proofs.lemmas.Int.{ints}
 use Rattle.fisca_num.specs.Lowest.{gcd_pos}
 use Rattle.fisca_num.proofs.Products.{IsProduct, product_lowest, product_number}

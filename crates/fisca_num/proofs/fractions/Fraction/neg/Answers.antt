@@ -1,4 +1,4 @@
-use Rattle.std.proofs.Common.{◌≡◌, arith, refl, ap, pos, neg_ℤ, ◌-ℤ◌, w64, to_z, of_z}
+use Rattle.std.proofs.Common.{◌≡◌, arith, ap}
 use Rattle.std.proofs.lemmas.Int.{ints}
 use Rattle.fisca_num.specs.Number.{same_number, opposite_of}
 use Rattle.fisca_num.proofs.Cut.{lowest_negated, within_negated}

@@ -1,4 +1,4 @@
-use Rattle.std.proofs.Common.{refl, pos, lit<}
+use Rattle.std.proofs.Common.{refl}
 use Rattle.fisca_num.specs.Number.{same_number, one_number}
 use Rattle.fisca_num.proofs.fractions.Fraction.one.Goals as goal
 

@@ -1,4 +1,4 @@
-use Rattle.std.proofs.Common.{◌≡◌, ◌∙◌, ap, sym}
+use Rattle.std.proofs.Common.{◌∙◌, ap, sym}
 use Rattle.fisca_num.specs.Operations.{sum_of}
 use Rattle.fisca_num.proofs.Sums.{difference_is}
 use Rattle.fisca_num.proofs.fractions.Fraction.sub.Goals as goal

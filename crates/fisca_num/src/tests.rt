@@ -168,7 +168,10 @@ fn order_is_that_of_the_values(rt: HostRuntime) {
             ) {
                 assert_eq!(rt; a.cmp(&b), i.cmp(&j), "{i} {j}");
                 assert_eq!(rt; a == b, i == j, "{i} {j}");
-                assert_eq!(rt; (a.numerator(), a.denominator() as i64), *left);
+                assert_eq!(rt;
+                    (a.numerator(), a.denominator()),
+                    (left.0, left.1.unsigned_abs())
+                );
             } else {
                 panic!(rt; "a fraction within the limits");
             }

@@ -2,3 +2,4 @@ pub mod Words
 pub mod Condition
 pub mod Refusal
 pub mod AxesRun
+pub mod Check

@@ -2,14 +2,18 @@
 #![tactic(auto)]
 
 mod axes;
+mod check;
 mod condition;
+mod folder;
 mod refusal;
 mod task;
 mod words;
 
 use axes::axes_words;
+use check::check_rules;
 use clap::error::ErrorKind;
 use fisca_grid::{RunEnd, StreamSink};
+use folder::{FolderFault, read_rules};
 use refusal::Refusal;
 use std::io::{BufWriter, Write};
 use std::process::ExitCode;
@@ -18,6 +22,12 @@ use task::{Task, read_task};
 
 /// The status of a command line that `clap` refused.
 const USAGE: u8 = 2;
+
+/// The status of a rule file that is refused before it is read.
+const REFUSED: u8 = 3;
+
+/// The status of a folder or a file that cannot be read.
+const READ_FAILED: u8 = 5;
 
 /// The status of a failed write of the last line.
 const WRITE_FAILED: u8 = 5;
@@ -68,22 +78,64 @@ fn print_text(rt: &HostRuntime, error: &clap::Error) -> u8 {
 
 /// Runs a task, and answers the exit status.
 fn run_task(rt: &HostRuntime, task: Task<'_>) -> u8 {
-    let Task::Axes {
-        words,
-        keep,
-        from,
-        rows,
-    } = task;
     let writer = match BufWriter::new(rt.alloc(), io::writer(rt)) {
         Ok(writer) => writer,
         Err(_) => return tell(rt, OUT_OF_MEMORY, NO_MEMORY),
     };
-    let mut sink = StreamSink::new(writer);
-    let answer = axes_words(rt.alloc(), words.as_slice(), keep, from, rows, &mut sink);
-    let writer = sink.into_writer();
-    match answer {
-        Ok(end) => end_run(rt, end, writer),
-        Err(refusal) => refuse(rt, refusal, writer),
+    match task {
+        Task::Check { rules } => check_folder(rt, rules, StreamSink::new(writer)),
+        Task::Axes {
+            words,
+            keep,
+            from,
+            rows,
+        } => {
+            let mut sink = StreamSink::new(writer);
+            let answer = axes_words(rt.alloc(), words.as_slice(), keep, from, rows, &mut sink);
+            match answer {
+                Ok(end) => end_run(rt, end, sink.into_writer()),
+                Err(refusal) => refuse(rt, refusal, sink.into_writer()),
+            }
+        }
+    }
+}
+
+/// Reads the rule files of a folder, and checks them.
+fn check_folder<W: Write + Drop>(rt: &HostRuntime, rules: &str, mut sink: StreamSink<W>) -> u8 {
+    let files = match read_rules(rt, rules) {
+        Ok(files) => files,
+        Err(fault) => return tell_folder(rt, rules, fault),
+    };
+    match check_rules(rt.alloc(), files.as_slice(), &mut sink) {
+        Ok(()) => finish(rt, sink.into_writer()),
+        Err(refusal) => refuse(rt, refusal, sink.into_writer()),
+    }
+}
+
+/// Tells why the rule files could not be read, and answers the status.
+fn tell_folder(rt: &HostRuntime, rules: &str, fault: FolderFault) -> u8 {
+    match fault {
+        FolderFault::CannotList => {
+            let _ = eprintln!(rt; "fisca: cannot list {rules}");
+            READ_FAILED
+        }
+        FolderFault::CannotRead { path } => {
+            let _ = eprintln!(rt; "fisca: {path}: cannot read");
+            READ_FAILED
+        }
+        FolderFault::TooLong { path } => {
+            let _ = eprintln!(rt; "fisca: {path}:1: TooLong");
+            REFUSED
+        }
+        FolderFault::Memory => tell(rt, OUT_OF_MEMORY, NO_MEMORY),
+    }
+}
+
+/// Hands over what still waits in the buffer.
+fn finish<W: Write + Drop>(rt: &HostRuntime, mut writer: W) -> u8 {
+    match writer.flush() {
+        Ok(()) => 0,
+        Err(_) => tell(rt, NOT_WRITTEN, WRITE_FAILED),
     }
 }
 
@@ -93,8 +145,8 @@ fn end_run<W: Write + Drop>(rt: &HostRuntime, end: RunEnd, mut writer: W) -> u8 
         RunEnd::End => writeln!(writer, "end"),
         RunEnd::More(position) => writeln!(writer, "more {position}"),
     };
-    match told.and_then(|()| writer.flush()) {
-        Ok(()) => 0,
+    match told {
+        Ok(()) => finish(rt, writer),
         Err(_) => tell(rt, NOT_WRITTEN, WRITE_FAILED),
     }
 }

@@ -6,6 +6,10 @@ use std::alloc::{AllocError, Global};
 /// What the command line asks for.
 #[derive(Debug, Drop)]
 pub enum Task<'a> {
+    /// `check`: check the rule files of a folder.
+    Check {
+        rules: &'a str,
+    },
     /// `axes`: list the values of axes.
     Axes {
         words: Vec<String>,
@@ -20,11 +24,25 @@ const ABOUT: &str = "Run OpenFisca rules with exact fractions";
 const STATUSES: &str = "Exit status:
   0  done
   2  the command line is wrong
-  3  an axis, the condition or the position is refused
-  5  the output could not be written
+  3  a rule file, an axis, the condition or the position is refused
+  5  a file could not be read, or the output could not be written
   6  out of memory
 
 'fisca help COMMAND' says more of a command.";
+
+const CHECK_ABOUT: &str = "Check the rule files of a folder";
+
+const CHECK_LONG: &str = "Check the rule files of a folder, and print what they hold.
+
+It reads the parameter files, parameters/**/*.yaml and .yml, at most 8 folders deep, in the order
+of their paths, and prints one line: entities E, variables V, parameters P. Entities and variables
+are not read yet. A file that is refused is told by one line on standard error:
+fisca: PATH:LINE: FAULT.";
+
+const CHECK_EXAMPLE: &str = "Example:
+  fisca check examples/household";
+
+const RULES_HELP: &str = "The folder of the rule set, in which the folder parameters stands";
 
 const AXES_ABOUT: &str = "List the values of an axis";
 
@@ -114,6 +132,16 @@ fn axes_command<'a>(alloc: Global) -> Result<Command<'a>, AllocError> {
         .arg(number(alloc, "rows", "N", ROWS_HELP))
 }
 
+/// The command `check`.
+fn check_command<'a>(alloc: Global) -> Result<Command<'a>, AllocError> {
+    let rules = Arg::new(alloc, "RULES").required(true).help(RULES_HELP);
+    Command::new(alloc, "check")
+        .about(CHECK_ABOUT)
+        .long_about(CHECK_LONG)
+        .after_help(CHECK_EXAMPLE)
+        .arg(rules)
+}
+
 /// The whole command line.
 fn command<'a>(alloc: Global) -> Result<Command<'a>, AllocError> {
     Command::new(alloc, "fisca")
@@ -122,6 +150,7 @@ fn command<'a>(alloc: Global) -> Result<Command<'a>, AllocError> {
         .after_help(STATUSES)
         .subcommand_required(true)
         .arg_required_else_help(true)
+        .subcommand(check_command(alloc)?)?
         .subcommand(axes_command(alloc)?)
 }
 
@@ -141,18 +170,21 @@ fn axes_task<'a>(alloc: Global, matches: &ArgMatches<'a>) -> Result<Task<'a>, Al
     })
 }
 
+/// The task of `check`.
+fn check_task<'a>(matches: &ArgMatches<'a>) -> Task<'a> {
+    Task::Check {
+        rules: matches.get_str("RULES").unwrap_or(""),
+    }
+}
+
 /// The task that the words ask for, of which the first is the program's own name. A request for help
 /// or for the version is an error whose exit code is 0.
 pub fn read_task<'a>(alloc: Global, words: &'a [String]) -> Result<Task<'a>, Error> {
     let matches = command(alloc)?.try_get_matches_from(words)?;
     match matches.subcommand() {
         Some(("axes", inner)) => Ok(axes_task(alloc, inner)?),
-        _ => Ok(Task::Axes {
-            words: Vec::new(alloc),
-            keep: None,
-            from: 0,
-            rows: None,
-        }),
+        Some((_, inner)) => Ok(check_task(inner)),
+        None => Ok(Task::Check { rules: "" }),
     }
 }
 

@@ -18,5 +18,5 @@ pub use law::{positions_rise, runs_continue};
 pub use memory_sink::MemorySink;
 pub use rows::{Rows, Selection};
 pub use run::write_lines;
-pub use sink::{RowSink, SinkFault};
+pub use sink::{RowSink, SinkFault, hand_over};
 pub use stream_sink::StreamSink;

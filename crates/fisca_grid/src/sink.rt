@@ -86,7 +86,7 @@ impl FailureCount {
 }
 
 /// Hands over a piece until all of it is taken or one failure happened.
-pub(crate) fn hand_over<S: RowSink>(sink: &mut S, piece: &[u8]) -> Result<(), SinkFault>
+pub fn hand_over<S: RowSink>(sink: &mut S, piece: &[u8]) -> Result<(), SinkFault>
     ensures all { OnOk result (Appends (S.taken sink.old) (S.taken sink.new) piece.now) }
     ensures part { OnErr result ((part : List ℕ) × IsProperPrefix part piece.now × Appends (S.taken sink.old) (S.taken sink.new) part) }
     ensures failures { S.failures sink.new ≡ cond (is_ok result) (S.failures sink.old) (one_more (S.failures sink.old)) }

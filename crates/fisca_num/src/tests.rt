@@ -17,25 +17,44 @@ fn sum(a: (i64, i64), b: (i64, i64)) -> Answer {
 }
 
 #[test]
-fn operations_give_the_reduced_result_or_say_why_not(rt: HostRuntime) {
+fn sums_give_the_reduced_result_or_say_why_not(rt: HostRuntime) {
     let most = i64::MAX;
     for (answer, text) in [
         (sum((1, 6), (1, 3)), "0.5"),
-        (Fraction::new(-2, 6), "-1/3"),
-        (Fraction::new(-2, -6), "1/3"),
-        (Fraction::new(0, -6), "0"),
         (sum((most, 1), (1, 1)), "TooWide"),
         (sum((most, 1), (-1, 1)), "9223372036854775806"),
         (sum((1, most), (-1, most)), "0"),
         (sum((1, most), (1, most)), "2/9223372036854775807"),
-        (Fraction::new(1, 0), "ZeroDivisor"),
-        (Fraction::new(i64::MIN, 1), "TooWide"),
-        (Fraction::new(i64::MIN, 2), "-4611686018427387904"),
-        (Fraction::new(1, i64::MIN), "TooWide"),
+    ] {
+        let shown = shown(rt.alloc(), answer);
+        assert!(rt; shown.is_ok_and(|shown| shown.as_bytes() == text.as_bytes()));
+    }
+}
+
+#[test]
+fn quotients_of_integers_are_reduced_or_say_why_not(rt: HostRuntime) {
+    for (numerator, denominator, text) in [
+        (-2, 6, "-1/3"),
+        (-2, -6, "1/3"),
+        (0, -6, "0"),
+        (1, 0, "ZeroDivisor"),
+        (i64::MIN, 1, "TooWide"),
+        (i64::MIN, 2, "-4611686018427387904"),
+        (1, i64::MIN, "TooWide"),
         (
-            Fraction::new(2, i64::MIN),
+            2,
+            i64::MIN,
             "-0.00000000000000000021684043449710088680149056017398834228515625",
         ),
+    ] {
+        let shown = shown(rt.alloc(), Fraction::new(numerator, denominator));
+        assert!(rt; shown.is_ok_and(|shown| shown.as_bytes() == text.as_bytes()));
+    }
+}
+
+#[test]
+fn other_operations_give_the_reduced_result_or_say_why_not(rt: HostRuntime) {
+    for (answer, text) in [
         (Fraction::one().sub(Fraction::one()), "0"),
         (Fraction::one().div(Fraction::zero()), "ZeroDivisor"),
         (Fraction::zero().div(Fraction::one()), "0"),
@@ -49,7 +68,7 @@ fn operations_give_the_reduced_result_or_say_why_not(rt: HostRuntime) {
         ),
     ] {
         let shown = shown(rt.alloc(), answer);
-        assert!(rt; shown.is_ok_and(|shown| shown.as_str() == text), "{text}");
+        assert!(rt; shown.is_ok_and(|shown| shown.as_bytes() == text.as_bytes()));
     }
 }
 

@@ -23,7 +23,11 @@ const MAX_TEXT: usize = 1024 * 1024;
 /// How many lists and maps may stand in one another.
 const MAX_DEPTH: usize = 16;
 
-/// Reads a text of at most 1 MiB.
+/// Reads a text: the part of YAML 1.1 that `docs/LANGUAGE.md` describes. The tree borrows the text.
+///
+/// A refusal has the kind and the line (from 1) of the first line's first fault: in a line `Tab`, then `BadIndent`, then from left
+/// to right. `TooLong`, at line 1, comes before all others, where the text has more than 1 MiB. `Memory`, at line 0, comes only
+/// where a growth was refused.
 pub fn read(alloc: Global, text: &str) -> Result<Tree<'_>, YamlFault>
     // What is read is the text's tree, and no limit is passed.
     ensures tree { IfOk result (λ t. IsTree text.now (node t) × Within text.now (node t)) }

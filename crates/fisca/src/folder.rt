@@ -1,0 +1,188 @@
+//! The rule files of a folder, found and read.
+
+use fisca_params::SourceFile;
+use std::alloc::{AllocError, AllocFailed, Global};
+use std::fs;
+use std::fs::Files;
+use std::io::{ErrorKind, Read};
+use thiserror::Error;
+
+/// Why the rule files of a folder could not be read.
+#[derive(Debug, Drop, Error)]
+pub enum FolderFault {
+    /// A folder cannot be listed.
+    #[error("cannot list")]
+    CannotList,
+    /// A file cannot be read, or is not UTF-8.
+    #[error("{path}: cannot read")]
+    CannotRead { path: String },
+    /// A file is longer than 1 MiB.
+    #[error("{path}:1: TooLong")]
+    TooLong { path: String },
+    /// Memory was refused.
+    #[error("Memory")]
+    Memory,
+}
+
+impl From<AllocError> for FolderFault {
+    fn from(_error: AllocError) -> FolderFault {
+        FolderFault::Memory
+    }
+}
+
+impl<T: Drop> From<AllocFailed<T>> for FolderFault {
+    fn from(_error: AllocFailed<T>) -> FolderFault {
+        FolderFault::Memory
+    }
+}
+
+/// A file may lie in so many folders below the rule set's own.
+const DEEPEST: usize = 8;
+
+/// A file may have so many bytes.
+const LONGEST: u64 = 1 << 20;
+
+/// Of so many files the texts are kept. A rule set with more is refused whatever their texts are.
+const KEPT: usize = 1_001;
+
+/// Reads the parameter files of a folder, in order of the bytes of their paths, which are relative to it.
+/// A fault is the first in that order; folders are listed before any file is read.
+pub fn read_rules<R: Files + AllocGlobal + Clone + Drop>(
+    rt: &R,
+    rules: &str,
+) -> Result<Vec<SourceFile>, FolderFault> {
+    let mut paths = list_rules(rt, rules)?;
+    paths.sort()?;
+    let mut files = Vec::new(rt.alloc());
+    for path in paths {
+        let text = read_text(rt, rules, path.as_str())?;
+        if files.len() < KEPT {
+            files.push(SourceFile::new(path, text))?;
+        }
+    }
+    Ok(files)
+}
+
+/// The paths of the parameter files, in no order.
+fn list_rules<R: Files + AllocGlobal + Clone + Drop>(
+    rt: &R,
+    rules: &str,
+) -> Result<Vec<String>, FolderFault> {
+    let mut paths = Vec::new(rt.alloc());
+    let mut folders = top_folders(rt, rules)?;
+    for _ in 0..DEEPEST {
+        let mut deeper = Vec::new(rt.alloc());
+        for folder in folders.as_slice() {
+            list_folder(rt, rules, folder.as_str(), &mut deeper, &mut paths)?;
+        }
+        folders = deeper;
+    }
+    Ok(paths)
+}
+
+/// The folder `parameters`, where there is one.
+fn top_folders<R: Files + AllocGlobal + Clone + Drop>(
+    rt: &R,
+    rules: &str,
+) -> Result<Vec<String>, FolderFault> {
+    let mut folders = Vec::new(rt.alloc());
+    for entry in fs::read_dir(rt, rules).map_err(|e| list_fault(e.kind()))? {
+        let entry = entry.map_err(|e| list_fault(e.kind()))?;
+        if entry.file_name() == "parameters" {
+            folders.push(String::from_str(rt.alloc(), "parameters")?)?;
+        }
+    }
+    Ok(folders)
+}
+
+/// Adds the folders and the parameter files of a folder, by their paths.
+fn list_folder<R: Files + AllocGlobal + Clone + Drop>(
+    rt: &R,
+    rules: &str,
+    folder: &str,
+    folders: &mut Vec<String>,
+    paths: &mut Vec<String>,
+) -> Result<(), FolderFault> {
+    let whole = join(rt.alloc(), rules, folder)?;
+    for entry in fs::read_dir(rt, whole.as_str()).map_err(|e| list_fault(e.kind()))? {
+        let entry = entry.map_err(|e| list_fault(e.kind()))?;
+        let name = entry.file_name();
+        if is_folder(rt, entry.path().as_str()) {
+            folders.push(join(rt.alloc(), folder, name)?)?;
+        } else if name.ends_with(".yaml") || name.ends_with(".yml") {
+            paths.push(join(rt.alloc(), folder, name)?)?;
+        }
+    }
+    Ok(())
+}
+
+/// Whether the path leads to a folder. Links are followed.
+fn is_folder<R: Files>(rt: &R, path: &str) -> bool {
+    match fs::metadata(rt, path) {
+        Ok(found) => found.is_dir(),
+        Err(_) => false,
+    }
+}
+
+/// A path below a folder.
+fn join(alloc: Global, folder: &str, name: &str) -> Result<String, AllocError> {
+    format!(in alloc; "{folder}/{name}")
+}
+
+/// What a failure to list says.
+fn list_fault(kind: ErrorKind) -> FolderFault {
+    if kind == ErrorKind::OutOfMemory {
+        FolderFault::Memory
+    } else {
+        FolderFault::CannotList
+    }
+}
+
+/// The text of a file of at most 1 MiB. Its length is judged before its encoding.
+fn read_text<R: Files + AllocGlobal>(
+    rt: &R,
+    rules: &str,
+    path: &str,
+) -> Result<String, FolderFault> {
+    let whole = join(rt.alloc(), rules, path)?;
+    let bytes = match read_bytes(rt, whole.as_str())? {
+        Some(bytes) => bytes,
+        None => return Err(cannot_read(rt.alloc(), path)),
+    };
+    if bytes.len() as u64 > LONGEST {
+        let path = String::from_str(rt.alloc(), path)?;
+        return Err(FolderFault::TooLong { path });
+    }
+    match String::from_utf8(bytes) {
+        Ok(text) => Ok(text),
+        Err(_) => Err(cannot_read(rt.alloc(), path)),
+    }
+}
+
+/// That a file cannot be read.
+fn cannot_read(alloc: Global, path: &str) -> FolderFault {
+    match String::from_str(alloc, path) {
+        Ok(path) => FolderFault::CannotRead { path },
+        Err(_) => FolderFault::Memory,
+    }
+}
+
+/// The bytes of a file, at most one more than a file may have, or `None` where it cannot be read.
+fn read_bytes<R: Files + AllocGlobal>(rt: &R, path: &str) -> Result<Option<Vec<u8>>, AllocError> {
+    let is_file = match fs::metadata(rt, path) {
+        Ok(found) => found.is_file(),
+        Err(_) => false,
+    };
+    if !is_file {
+        return Ok(None);
+    }
+    let Ok(file) = fs::open(rt, path) else {
+        return Ok(None);
+    };
+    let mut bytes = Vec::new(rt.alloc());
+    match file.take(LONGEST + 1).read_to_end(&mut bytes) {
+        Ok(_) => Ok(Some(bytes)),
+        Err(e) if e.kind() == ErrorKind::OutOfMemory => Err(AllocError),
+        Err(_) => Ok(None),
+    }
+}

@@ -1,0 +1,104 @@
+-- The latest member of a list in order of time stands just before the first member that is after the instant.
+use Rattle.std.proofs.Common.{◌≡◌, ◌≢◌, ℕ, zero, suc, ◌-◌, ◌<◌, ◌≤◌, Bool, true, false, not, ◌&&◌, List, [], ◌∷◌, length, get_or, Some, None, refl, sym, ◌∙◌, ap, arith}
+use Rattle.std.proofs.lemmas.Cmp.{then_total, on_total, nat_cmp_total}
+use Rattle.std.specs.Cmp.{IsTotalOrder}
+use Rattle.std.specs.declared.cmp.Ordering.{Ordering}
+use Rattle.std.specs.declared.cmp.Ordering.TheVariants.{Less, Equal, Greater}
+use Rattle.std.specs.Ordering.{is_lt, is_le, ordering_reverse}
+use Rattle.std.specs.List.Sorted.{IsPartitionedBy, IsPartitionPoint}
+use Rattle.fisca_time.specs.Instant.{CivilDate, date_cmp}
+use Rattle.fisca_params.specs.declared.dates.Dated.{Dated}
+use Rattle.fisca_params.specs.Dates.{is_before, latest, is_in_order}
+
+pub date_total : IsTotalOrder date_cmp
+date_total = then_total (on_total (λ d. d.year) nat_cmp_total) (then_total (on_total (λ d. d.month) nat_cmp_total) (on_total (λ d. d.day) nat_cmp_total))
+
+less_from_is_lt : (o : Ordering) → is_lt o ≡ true → o ≡ Less
+less_from_is_lt Less h = refl
+less_from_is_lt Equal h = cc
+less_from_is_lt Greater h = cc
+
+pub before-trans : (a b c : CivilDate) → is_before a b ≡ true → is_before b c ≡ true → is_before a c ≡ true
+before-trans a b c p q = ap is_lt (date_total.trans a b c (less_from_is_lt _ p) (less_from_is_lt _ q))
+
+le_from_reverse : (o : Ordering) → is_le o ≡ not (is_lt (ordering_reverse o))
+le_from_reverse Less = refl
+le_from_reverse Equal = refl
+le_from_reverse Greater = refl
+
+le-before : (a b : CivilDate) → is_le (date_cmp a b) ≡ not (is_before b a)
+le-before a b = le_from_reverse (date_cmp a b) ∙ ap (λ o. not (is_lt o)) (sym (date_total.antisymm b a))
+
+-- the member is not after the instant
+abbrev pub is_reached : {V : Type 0} → CivilDate → Dated V → Bool
+is_reached i d = is_le (date_cmp d.date i)
+
+both_of : (a b : Bool) → (a && b) ≡ true → (a ≡ true) × (b ≡ true)
+both_of true b h = (refl, h)
+both_of false b h = cc
+
+turn : (a b : Bool) → a ≡ not b → a ≡ true → b ≡ false
+turn true true e h = cc
+turn true false e h = refl
+turn false b e h = cc
+
+turn' : (a b : Bool) → a ≡ not b → a ≡ false → b ≡ true
+turn' false true e h = refl
+turn' false false e h = cc
+turn' true b e h = cc
+
+not_so : (b : Bool) → (b ≡ true → ⊥) → not b ≡ true
+not_so true h = absurd (h refl)
+not_so false h = refl
+
+tail_in_order : {V : Type 0} (d : Dated V) (ds : List (Dated V)) → is_in_order (d ∷ ds) ≡ true → is_in_order ds ≡ true
+tail_in_order d [] h = refl
+tail_in_order d (e ∷ es) h = (both_of (is_before d.date e.date) (is_in_order (e ∷ es)) h).1
+
+-- the first member is before all others
+first_before : {V : Type 0} (d : Dated V) (ds : List (Dated V)) → is_in_order (d ∷ ds) ≡ true → (j : ℕ) (x : Dated V) → j < length ds → is_before d.date (get_or ds j x).date ≡ true
+first_before d [] h j x p = absurd (omega arith)
+first_before d (e ∷ es) h zero x p = (both_of (is_before d.date e.date) (is_in_order (e ∷ es)) h).0
+first_before d (e ∷ es) h (suc j) x p =
+    let both : (is_before d.date e.date ≡ true) × (is_in_order (e ∷ es) ≡ true) = both_of (is_before d.date e.date) (is_in_order (e ∷ es)) h in
+    before-trans d.date e.date (get_or es j x).date both.0 (first_before e es both.1 j x (omega arith))
+
+-- no member that is reached comes after one that is not
+pub reached-partitioned : {V : Type 0} (i : CivilDate) (ds : List (Dated V)) → is_in_order ds ≡ true → IsPartitionedBy (is_reached i) ds
+reached-partitioned i [] h a b x p q r = absurd (omega arith)
+reached-partitioned i (d ∷ ds) h zero zero x p q r = r
+reached-partitioned i (d ∷ ds) h (suc a) zero x p q r = absurd (omega arith)
+reached-partitioned i (d ∷ ds) h (suc a) (suc b) x p q r = reached-partitioned i ds (tail_in_order d ds h) a b x (omega arith) (omega arith) r
+reached-partitioned i (d ∷ ds) h zero (suc b) x p q r =
+    let below : is_before d.date (get_or ds b x).date ≡ true = first_before d ds h b x (omega arith) in
+    let here : is_before i (get_or ds b x).date ≡ false = turn _ _ (le-before (get_or ds b x).date i) r in
+    le-before d.date i ∙ not_so (is_before i d.date) (λ so. let after : is_before i (get_or ds b x).date ≡ true = before-trans i d.date (get_or ds b x).date so below in cc)
+
+-- no member is reached
+latest_none : {V : Type 0} (i : CivilDate) (ds : List (Dated V)) → ((k : ℕ) (x : Dated V) → k < length ds → is_reached i (get_or ds k x) ≡ false) → latest ds i ≡ None
+latest_none i [] h = refl
+latest_none i (d ∷ ds) h =
+    let after : is_before i d.date ≡ true = turn' _ _ (le-before d.date i) (h 0 d (omega arith)) in
+    rw after (latest_none i ds (λ k x p. h (suc k) x (omega arith)))
+
+-- the members up to n are reached, and no others
+latest_last : {V : Type 0} (i : CivilDate) (ds : List (Dated V)) (n : ℕ) → is_in_order ds ≡ true → n < length ds →
+    ((k : ℕ) (x : Dated V) → k ≤ n → is_reached i (get_or ds k x) ≡ true) →
+    ((k : ℕ) (x : Dated V) → n < k → k < length ds → is_reached i (get_or ds k x) ≡ false) → (x : Dated V) → latest ds i ≡ Some (get_or ds n x)
+latest_last i [] n o p h f x = absurd (omega arith)
+latest_last i (d ∷ ds) zero o p h f x =
+    let here : is_before i d.date ≡ false = turn _ _ (le-before d.date i) (h 0 d (omega arith)) in
+    rw (here, latest_none i ds (λ k y q. f (suc k) y (omega arith) (omega arith))) refl
+latest_last i (d ∷ ds) (suc n) o p h f x =
+    let here : is_before i d.date ≡ false = turn _ _ (le-before d.date i) (h 0 d (omega arith)) in
+    let later_on : latest ds i ≡ Some (get_or ds n x) = latest_last i ds n (tail_in_order d ds o) (omega arith) (λ k y q. h (suc k) y (omega arith)) (λ k y q r. f (suc k) y (omega arith) (omega arith)) x in
+    rw (here, later_on, first_before d ds o n x (omega arith)) refl
+
+abbrev pub IsPoint : {V : Type 0} → CivilDate → List (Dated V) → ℕ → Type 0
+IsPoint i ds n = IsPartitionPoint (λ d. is_reached i d ≡ true) (λ d. is_reached i d ≡ false) ds n
+
+pub latest-at_none : {V : Type 0} (i : CivilDate) (ds : List (Dated V)) (n : ℕ) → IsPoint i ds n → n ≡ 0 → latest ds i ≡ None
+latest-at_none i ds n h e = latest_none i ds (λ k x p. h.1 k x (omega arith) p)
+
+pub latest-at : {V : Type 0} (i : CivilDate) (ds : List (Dated V)) (n : ℕ) → is_in_order ds ≡ true → n ≤ length ds → IsPoint i ds n → n ≢ 0 → (x : Dated V) → latest ds i ≡ Some (get_or ds (n - 1) x)
+latest-at i ds n o p h some x = latest_last i ds (n - 1) o (omega arith) (λ k y q. h.0 k y (omega arith) (omega arith)) (λ k y q r. h.1 k y (omega arith) r) x

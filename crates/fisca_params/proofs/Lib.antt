@@ -1,0 +1,7 @@
+pub mod DateMaps
+pub mod Indexed
+pub mod Latest
+pub mod Ordered
+pub mod PathTexts
+pub mod Thresholds
+pub mod Walks

@@ -1,0 +1,36 @@
+use Rattle.std.proofs.Common.{◌≢◌, ap, ◌∙◌, option_and_then, lit<, rules}
+use Rattle.std.proofs.lemmas.Str.Pattern.{split_once_first}
+use Rattle.fisca_yaml.specs.Views.{node}
+use Rattle.fisca_params.specs.declared.fault.ParamFault.TheVariants as fault
+use Rattle.fisca_params.specs.Paths.{names_in}
+use Rattle.fisca_params.specs.Tree.{Entered, put_below}
+use Rattle.fisca_params.proofs.PathTexts.{names_cut, put-cut}
+use Rattle.fisca_params.proofs.Thresholds.{none_if_not}
+use Rattle.fisca_params.proofs.build.put_below.Goals as goal
+
+pub returns-in_err-folder-clause-put : goal.returns-in_err-folder-clause-put
+returns-in_err-folder-clause-put c =
+    let n = node c.args.tree.now in
+    let cut = rw c.in-Some.is at (names_cut c.loop-name.rest.now c.split_once.result (split_once_first 47 c.loop-name.rest.now c.split_once.result c.split_once.ensures.cases (lit< tt))) in
+    let whole = c.loop-name.invariant.1
+    ∙ ap (λ ns. put_below c.loop-name.nodes.nodes.items c.loop-name.folder ns n) cut.0
+    ∙ put-cut c.loop-name.nodes.nodes.items c.loop-name.folder c.in-Some.name.now c.in-Some.below.now n in
+    let none = λ (k : c.in_err-folder.field-0.0 ≢ fault.Memory). whole ∙ ap (option_and_then (λ (e : Entered). put_below e.tree e.place (names_in c.in-Some.below.now) n)) (c.in_err-folder.ensures.entered k) in
+    search (rules, none)
+
+pub loop-name-preserved : goal.loop-name-preserved
+loop-name-preserved c =
+    let n = node c.args.tree.now in
+    let cut = rw c.in-Some.is at (names_cut c.loop-name.rest.now c.split_once.result (split_once_first 47 c.loop-name.rest.now c.split_once.result c.split_once.ensures.cases (lit< tt))) in
+    let whole = c.loop-name.invariant.1
+    ∙ ap (λ ns. put_below c.loop-name.nodes.nodes.items c.loop-name.folder ns n) cut.0
+    ∙ put-cut c.loop-name.nodes.nodes.items c.loop-name.folder c.in-Some.name.now c.in-Some.below.now n in
+    let on = whole ∙ ap (option_and_then (λ (e : Entered). put_below e.tree e.place (names_in c.in-Some.below.now) n)) c.in_ok-folder.ensures.entered in
+    (search rules, on, search rules, search rules, search rules)
+
+pub returns-clause-put : goal.returns-clause-put
+returns-clause-put c =
+    let n = node c.args.tree.now in
+    let last = none_if_not c.split_once.result c.in_default.not-Some in
+    let whole = rw last at (names_cut c.loop-name.rest.now c.split_once.result (split_once_first 47 c.loop-name.rest.now c.split_once.result c.split_once.ensures.cases (lit< tt))) in
+    rw (c.loop-name.invariant.1 ∙ ap (λ ns. put_below c.loop-name.nodes.nodes.items c.loop-name.folder ns n) whole) c.put_file.ensures.put

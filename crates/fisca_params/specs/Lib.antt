@@ -1,0 +1,15 @@
+pub mod Answers
+pub mod Content
+pub mod Dates
+pub mod Files
+pub mod Lookup
+pub mod Lowest
+pub mod Names
+pub mod Nodes
+pub mod Order
+pub mod Paths
+pub mod Scale
+pub mod Source
+pub mod Tally
+pub mod Tree
+pub mod Written

@@ -1,0 +1,16 @@
+-- The plain names of the faults.
+use Rattle.std.specs.Prelude.{ℕ, List, codes}
+use Rattle.fisca_num.specs.Faults.{name_of as num_name_of}
+use Rattle.fisca_yaml.specs.Faults.{name_of as kind_name_of}
+use Rattle.fisca_params.specs.declared.fault.ParamFault.{ParamFault}
+use Rattle.fisca_params.specs.declared.fault.ParamFault.TheVariants.{Yaml, BadParameter, DuplicateName, BadScale, Undefined, Number, Memory}
+
+-- the innermost fault's name
+abbrev pub name_of : ParamFault → List ℕ
+name_of (Yaml file fault) = kind_name_of fault.kind
+name_of (BadParameter file line) = codes "BadParameter"
+name_of (DuplicateName file line) = codes "DuplicateName"
+name_of BadScale = codes "BadScale"
+name_of Undefined = codes "Undefined"
+name_of (Number fault) = num_name_of fault
+name_of Memory = codes "Memory"

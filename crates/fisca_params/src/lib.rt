@@ -1,0 +1,25 @@
+//! Parameters and scales of a rule set, read from its YAML files.
+#![tactic(auto)]
+
+mod bracket;
+mod build;
+mod content;
+mod dates;
+mod fault;
+mod lowest;
+mod nodes;
+mod parameter;
+mod read;
+mod scale;
+mod source;
+mod tally;
+mod tree;
+mod written;
+
+pub use content::{NodeKind, ParamValue};
+pub use fault::ParamFault;
+pub use source::SourceFile;
+pub use tree::{NodeId, ParamTree};
+
+#[cfg(test)]
+mod tests;

@@ -385,17 +385,37 @@ fn is_answered(alloc: Global, text: &str) -> bool {
     }
 }
 
-#[test]
-fn each_prefix_of_a_file_is_answered(rt: HostRuntime) -> Result<(), Fail> {
-    let text =
-        "--- # parameters\ndescription: \"Taxe \\u00e9t\\\"é\"\nreference: |\n  one: [\n\n  two\nvalues:\n  2015-12-01: 600\n  2016-01-01: {value: 0.25, 'note': it''s}\nbrackets:\n- threshold:\n    2013-01-01: {value: 0}\n  rate: {2013-01-01: 0.02, \"x\":[1, -2, ~,]}\n- - - a: 1\n      b: >-\n        c\n";
+/// Files of parameters, as the example of a household has them.
+const FILES: [&str; 5] = [
+    "description: Social contribution on salaries, by bracket\nmetadata:\n  threshold_unit: currency-EUR\n  rate_unit: /1\nbrackets:\n- threshold:           # the first euro\n    2013-01-01:\n      value: 0\n  rate:\n    2013-01-01:\n      value: 0.02\n- threshold:\n    2013-01-01:\n      value: 1000\n      reference: https://www.example.org/laws/contribution#article-2\n  rate:\n    2013-01-01:\n      value: 0.1\n",
+    "# The allowance ended with the formula that reads it, in November 2016.\ndescription: Housing allowance, as a share of the rent\nmetadata:\n  unit: /1\nreference: https://www.example.org/laws/housing-allowance\nvalues:\n  1980-01-01:\n    value: 0.25\n",
+    "description: Basic income\nmetadata:\n  unit: currency-EUR\n  period: month\nreference: https://www.example.org/laws/basic-income\nvalues:\n  2015-12-01:\n    value: 600\n    reference: https://www.example.org/laws/basic-income#article-1\n",
+    "description: Age of majority\nmetadata:\n  unit: year\nreference:\n- https://www.example.org/laws/majority\n- https://www.example.org/laws/majority/comments\nvalues:\n  1962-07-01:\n    value: 18\n",
+    "description: The legislation of the example household\nmetadata:\n  order: [general, benefits, taxes]\n",
+];
+
+/// The length of the first beginning of a text that is not answered.
+fn first_unanswered(alloc: Global, text: &str) -> Option<usize> {
     for at in 0..text.len() {
         if let Some(prefix) = text.get(..at) {
-            assert!(rt; is_answered(rt.alloc(), prefix), "up to {at}");
+            if !is_answered(alloc, prefix) {
+                return Some(at);
+            }
         }
     }
+    None
+}
+
+#[test]
+fn each_prefix_of_a_file_is_answered(rt: HostRuntime) {
+    let text =
+        "--- # parameters\ndescription: \"Taxe \\u00e9t\\\"é\"\nreference: |\n  one: [\n\n  two\nvalues:\n  2015-12-01: 600\n  2016-01-01: {value: 0.25, 'note': it''s}\nbrackets:\n- threshold:\n    2013-01-01: {value: 0}\n  rate: {2013-01-01: 0.02, \"x\":[1, -2, ~,]}\n- - - a: 1\n      b: >-\n        c\n";
+    assert_eq!(rt; first_unanswered(rt.alloc(), text), None);
     assert!(rt; read(rt.alloc(), text).is_ok());
-    Ok(())
+    for file in FILES {
+        assert_eq!(rt; first_unanswered(rt.alloc(), file), None, "of {file}");
+        assert!(rt; read(rt.alloc(), file).is_ok(), "{file}");
+    }
 }
 
 /// Pieces of texts.

@@ -175,16 +175,16 @@ fn last_months(periods: &[Period], rounds: u64) -> u64 {
 
 /// Equality and order of each period and its neighbour.
 fn compared(periods: &[Period], rounds: u64) -> u64 {
-    let mut checksum: u64 = 0;
+    let (mut equal, mut less) = (0u64, 0u64);
     let mut before = Period::ETERNITY;
     for _ in 0..rounds {
         for period in periods {
-            let word = u64::from(*period == before) + 2 * u64::from(*period < before);
-            checksum = checksum.rotate_left(2).wrapping_add(word);
+            equal = equal.wrapping_add(u64::from(*period == before));
+            less = less.wrapping_add(u64::from(*period < before));
             before = *period;
         }
     }
-    checksum
+    equal.wrapping_mul(1_000_003).wrapping_add(less)
 }
 
 fn hashed(periods: &[Period], rounds: u64) -> u64 {

@@ -2,7 +2,7 @@
 
 ghost use Rattle.std.specs.Prelude.{◌≡◌, ℕ, ◌<◌, cond, IfOk, OnOk, IsTrue, ◌↔◌, string_bytes, length};
 ghost use Rattle.fisca_grid.specs.Sink.{one_more};
-ghost use Rattle.fisca.specs.Check.{count_of_files, text_of_count, IsCheck, IsParamsRefusal, is_check_write};
+ghost use Rattle.fisca.specs.Check.{count_of_files, text_of_count, IsCheck, IsToldOf, is_check_write};
 
 use super::refusal::Refusal;
 use fisca_grid::{RowSink, hand_over};
@@ -28,7 +28,7 @@ fn text_of_count(alloc: Global, parameters: usize) -> Result<String, AllocError>
 
 /// The refusal of parameter files, with the path of the file that is at fault.
 fn refuse(alloc: Global, files: &[SourceFile], fault: ParamFault) -> Refusal
-    ensures { IsParamsRefusal result }
+    ensures { IsToldOf files.now fault result }
 {
     let (place, line) = match fault {
         ParamFault::Yaml { file, fault } => (file, fault.line),

@@ -1,4 +1,5 @@
 pub mod Alike
+pub mod Before
 pub mod Compared
 pub mod Coprime
 pub mod Cut

@@ -1,5 +1,5 @@
 -- Products whose factors were divided crosswise are in lowest terms.
-use Rattle.std.proofs.Common.{◌≡◌, ℕ, ◌*◌, ◌/◌, ◌<◌, pos, ◌*ℤ◌, unsigned_abs, Bool, arith, ap, sym, ◌∙◌}
+use Rattle.std.proofs.Common.{◌≡◌, ℕ, ◌*◌, ◌/◌, ◌<◌, pos, ◌*ℤ◌, unsigned_abs, Bool, arith, ap, refl, sym, ◌∙◌}
 use Rattle.std.specs.Int.{IsGcd}
 use Rattle.std.proofs.Math.Nat.{mul-div_cancel', mul-le-mul_left}
 use Rattle.fisca_num.specs.Rational.{IsLowest, signed}
@@ -53,3 +53,10 @@ product_number x y negative over under p q r s h =
     let same : signed negative (p * q) *ℤ pos (x.denominator * y.denominator) ≡ x.numerator *ℤ y.numerator *ℤ pos (r * s) =
     signed_same negative _ _ _ _ (regrouped p q r s over under _ _ _ _ a c b d) ∙ ap (λ z. z *ℤ pos (r * s)) (sym h.sign) in
     number_of_same _ _ some (some_product _ _ x.lowest.positive y.lowest.positive) same
+
+-- whole numbers need no divisor
+pub whole_product : (x y : Number) → x.denominator ≡ 1 → y.denominator ≡ 1 → number_of (record { numerator = x.numerator *ℤ y.numerator; denominator = 1 }) ≡ product_of x y
+unfolding product_of
+whole_product x y p q =
+    let e : 1 ≡ x.denominator * y.denominator = rw (p, q) refl in
+    ap (λ d. number_of (record { numerator = x.numerator *ℤ y.numerator; denominator = d })) e

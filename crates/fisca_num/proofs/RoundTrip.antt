@@ -19,14 +19,12 @@ use Rattle.fisca_num.specs.Digits.{ten_pos}
 use Rattle.fisca_num.specs.Operations.{number_of, only_number_of}
 use Rattle.fisca_num.specs.Literal.{is_point, is_minus, is_negative, unsigned_part, may_follow_digit, are_digits_or_none, digits_in, has_no_leading_zero, is_whole, is_zero_digit, are_few, digits_ratio, number_of_parts, number_of_literal}
 use Rattle.fisca_num.proofs.Alike.{signed_same}
+use Rattle.fisca_num.proofs.Before.{not_point}
 use Rattle.fisca_num.proofs.Forms.{AreParts, value-append, valued}
 use Rattle.fisca_num.proofs.Written.{whole_below}
 
 digit_test : (c : ℕ) → digit_value c < 10 → is_ascii_digit c ≡ true
 digit_test c h = let r : IsInRange 48 57 c = digit_from_value c h in grind (arith, nat_tests)
-
-not_point : (c : ℕ) → is_ascii_digit c ≡ true → is_point c ≡ false
-not_point c h = grind (arith, nat_tests)
 
 not_sign : (c : ℕ) → is_ascii_digit c ≡ true → (is_minus c || (c == 43)) ≡ false
 not_sign c h = grind (arith, nat_tests)

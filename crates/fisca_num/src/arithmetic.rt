@@ -7,7 +7,7 @@ ghost use Rattle.fisca_num.specs.Operations.{number_of, number_over, sum_of, dif
 use crate::divisors::{gcd, quotient_by};
 use crate::faults::NumFault;
 use crate::fractions::Fraction;
-use crate::reduction::{from_lowest, reduce, reduce_shared, reduce_word_sum};
+use crate::reduction::{from_lowest, from_whole, reduce, reduce_shared, reduce_word_sum};
 
 impl Fraction {
     /// The fraction `numerator / denominator` in lowest terms.
@@ -62,6 +62,26 @@ impl Fraction {
     pub fn mul(self, other: Fraction) -> Result<Fraction, NumFault>
         ensures { result ≡ product_of self other }
     {
+        if self.denominator == 1 && other.denominator == 1 {
+            self.mul_whole(other)
+        } else {
+            self.mul_crosswise(other)
+        }
+    }
+
+    /// The product of whole numbers, which needs no divisor.
+    fn mul_whole(self, other: Fraction) -> Result<Fraction, NumFault>
+        requires left { self.denominator ≡ 1 }
+        requires right { other.denominator ≡ 1 }
+        ensures { result ≡ product_of self other }
+    {
+        from_whole(multiplied(self.numerator, other.numerator))
+    }
+
+    /// The product, each numerator freed of what it shares with the other denominator.
+    fn mul_crosswise(self, other: Fraction) -> Result<Fraction, NumFault>
+        ensures { result ≡ product_of self other }
+    {
         let size = self.numerator.unsigned_abs();
         let other_size = other.numerator.unsigned_abs();
         let over = gcd(size, other.denominator);
@@ -97,6 +117,13 @@ fn added(numerator: i64, other: i64) -> i128
     ensures bound { unsigned_abs numerator < 2 ^ 63 → unsigned_abs other < 2 ^ 63 → unsigned_abs result < 2 ^ 64 }
 {
     i128::from(numerator) + i128::from(other)
+}
+
+/// The product of two numerators.
+fn multiplied(numerator: i64, other: i64) -> i128
+    ensures { result ≡ numerator *ℤ other }
+{
+    i128::from(numerator) * i128::from(other)
 }
 
 /// A numerator brought to a denominator that is `by` times as large.

@@ -1,5 +1,5 @@
 //! Decimal literals.
-ghost use Rattle.std.specs.Prelude.{◌≡◌, ℕ, ◌+◌, ◌*◌, ◌<◌, ◌≤◌, ◌^◌, ◌==◌, ◌&&◌, ◌||◌, min, length, drop, take, true, false, not, if◌then◌else◌, MatchOption};
+ghost use Rattle.std.specs.Prelude.{◌≡◌, ◌≢◌, ◌⊎◌, ℕ, ◌+◌, ◌*◌, ◌<◌, ◌≤◌, ◌^◌, ◌==◌, ◌&&◌, ◌||◌, min, length, drop, take, true, false, not, if◌then◌else◌, MatchOption};
 ghost use Rattle.std.specs.List.{before_first, after_first, position_or_len};
 ghost use Rattle.std.specs.Str.Parse.{digits_value};
 ghost use Rattle.fisca_num.specs.Literal.{is_point, is_negative, unsigned_part, are_digits_or_none, digits_in, is_whole, IsRead, number_of_parts, number_of_literal};
@@ -18,6 +18,15 @@ const LIMIT: u64 = 0x7fff_ffff_ffff_ffff;
 
 /// Ten times this is the number from which the digits before a point are not told apart.
 const TENTH_OF_CAP: u64 = 1_000_000_000_000_000_000;
+
+/// What is read of the digits before the point.
+#[derive(Clone, Copy)]
+struct Whole {
+    /// The number that they write, or 10^19 where it is larger.
+    number: u64,
+    /// Where they end: the place of the first point, or the end of the text.
+    end: usize,
+}
 
 /// What is read of the digits after the point.
 #[derive(Clone, Copy)]
@@ -42,29 +51,31 @@ impl Fraction {
         ensures { result ≡ number_of_literal text.now }
     {
         let bytes = text.as_bytes();
-        let negative = begins_with_minus(bytes);
-        let (whole, places) = split_at_point(without_sign(bytes));
-        value_of_parts(negative, whole, places)
+        value_of_unsigned(begins_with_minus(bytes), without_sign(bytes))
     }
 }
 
-/// The value of the digits before and after a point.
-fn value_of_parts(negative: bool, whole: &[u8], places: &[u8]) -> Result<Fraction, NumFault>
-    ensures { result ≡ number_of_parts negative whole.now places.now }
+/// The value of a literal without its sign.
+fn value_of_unsigned(negative: bool, text: &[u8]) -> Result<Fraction, NumFault>
+    ensures { result ≡ number_of_parts negative (before_first is_point text.now) (after_first is_point text.now) }
 {
-    if whole.is_empty() && places.is_empty() {
-        return Err(NumFault::NotANumber);
-    }
-    let Some(number) = read_whole(whole) else {
+    let Some(whole) = read_whole(text) else {
         return Err(NumFault::NotANumber);
     };
+    if whole.end > 1 && text[0] == b'0' {
+        return Err(NumFault::NotANumber);
+    }
+    let places = after_point(text, whole.end);
+    if whole.end == 0 && places.is_empty() {
+        return Err(NumFault::NotANumber);
+    }
     let Some(read) = read_places(places) else {
         return Err(NumFault::NotANumber);
     };
-    if number > LIMIT || !read.few {
+    if whole.number > LIMIT || !read.few {
         return Err(NumFault::TooWide);
     }
-    decimal(negative, number, read.number, read.count)
+    decimal(negative, whole.number, read.number, read.count)
 }
 
 /// Whether the text begins with `-`.
@@ -84,55 +95,50 @@ fn without_sign(text: &[u8]) -> &[u8]
     }
 }
 
-/// What stands before the first point, and after it.
-fn split_at_point(text: &[u8]) -> (&[u8], &[u8])
-    ensures whole { result.0.now ≡ before_first is_point text.now }
-    ensures places { result.1.now ≡ after_first is_point text.now }
+/// What stands after the first point, which is at `end`, or nothing where there is none.
+fn after_point(text: &[u8], end: usize) -> &[u8]
+    requires { end ≡ position_or_len is_point text.now }
+    ensures { result.now ≡ after_first is_point text.now }
 {
-    let index = point_of(text);
-    if index < text.len() {
-        (&text[..index], &text[index + 1..])
+    if end < text.len() {
+        &text[end + 1..]
     } else {
-        (text, &[])
+        &[]
     }
 }
 
-/// The place of the first point, or the end of the text.
-fn point_of(text: &[u8]) -> usize
-    ensures { result ≡ position_or_len is_point text.now }
+/// Reads the digits before the first point.
+fn read_whole(text: &[u8]) -> Option<Whole>
+    ensures { MatchOption result (are_digits_or_none (before_first is_point text.now) ≡ false)
+        (λ w. (are_digits_or_none (before_first is_point text.now) ≡ true) × (w.end ≡ position_or_len is_point text.now)
+        × (w.number ≡ min (10 ^ 19) (digits_value 10 (digits_in (before_first is_point text.now))))) }
 {
-    for (index, byte) in text.iter().enumerate() {
-        if *byte == b'.' {
-            return index;
-        }
-    }
-    text.len()
-}
-
-/// The number that the digits before the point write, or 10^19 where it is larger.
-fn read_whole(text: &[u8]) -> Option<u64>
-    ensures { MatchOption result (is_whole text.now ≡ false)
-        (λ n. (is_whole text.now ≡ true) × (n ≡ min (10 ^ 19) (digits_value 10 (digits_in text.now)))) }
-{
-    if text.is_empty() {
-        return Some(0);
-    }
-    if text.len() > 1 && text[0] == b'0' {
-        return None;
-    }
     let mut number = 0u64;
     let mut digit = false;
-    for byte in text {
+    for (index, byte) in text.iter().enumerate() {
         if byte.is_ascii_digit() {
             digit = true;
             number = next_capped(number, *byte - b'0');
         } else if digit && *byte == b'_' {
             digit = false;
+        } else if *byte == b'.' {
+            return ended(number, index, digit);
         } else {
             return None;
         }
     }
-    if digit { Some(number) } else { None }
+    ended(number, text.len(), digit)
+}
+
+/// What was read up to `end`, where the digits may end there: after a digit, or before any.
+fn ended(number: u64, end: usize, digit: bool) -> Option<Whole>
+    ensures { MatchOption result ((digit ≡ false) × (end ≢ 0)) (λ w. ((digit ≡ true) ⊎ (end ≡ 0)) × (w.number ≡ number) × (w.end ≡ end)) }
+{
+    if digit || end == 0 {
+        Some(Whole { number, end })
+    } else {
+        None
+    }
 }
 
 /// The number with one more digit at its end, or 10^19 where it is larger.

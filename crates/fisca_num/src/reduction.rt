@@ -97,6 +97,14 @@ pub(crate) fn reduce_shared(
     from_lowest(negative, wide_quotient_by(size, divisor), denominator)
 }
 
+/// The number that a whole number is.
+pub(crate) fn from_whole(number: i128) -> Result<Fraction, NumFault>
+    ensures { result ≡ number_of (record { numerator = number; denominator = 1 }) }
+{
+    let (negative, size) = parts_of(number);
+    from_lowest(negative, size, 1)
+}
+
 /// The number with these parts, which are in lowest terms.
 pub(crate) fn from_lowest(
     negative: bool,

@@ -2,7 +2,7 @@ use Rattle.std.proofs.Common.{◌≡◌, ◌∙◌, ◌/◌, arith, ap, unsigned
 use Rattle.std.proofs.lemmas.Int.{ints}
 use Rattle.fisca_num.specs.Lowest.{gcd_pos}
 use Rattle.fisca_num.proofs.Products.{IsProduct, product_lowest, product_number}
-use Rattle.fisca_num.proofs.fractions.Fraction.mul.Goals as goal
+use Rattle.fisca_num.proofs.fractions.Fraction.mul_crosswise.Goals as goal
 
 pub quotient_by-requires : goal.quotient_by-requires
 quotient_by-requires c = gcd_pos _ _ _ c.gcd-over.ensures c.other.inside.lowest.positive

@@ -13,6 +13,7 @@ use Rattle.fisca_num.specs.Rational.{signed}
 use Rattle.fisca_num.specs.Operations.{number_of}
 use Rattle.fisca_num.specs.Digits.{ten_pos, value_after_is}
 use Rattle.fisca_num.specs.Literal.{is_form, is_whole, is_empty, are_digits_or_none, digits_in, is_zero_digit, are_few, digits_ratio, number_of_parts, IsRead}
+use Rattle.fisca_num.proofs.Places.{read_none}
 use Rattle.fisca_num.proofs.Alike.{number_of_same, signed_same, wide_value}
 
 after-append : (n : ℕ) (xs ys : List ℕ) → digits_value_after 10 n (xs ++ ys) ≡ digits_value_after 10 (digits_value_after 10 n xs) ys
@@ -109,6 +110,12 @@ pub value_read : (b : Bool) (ws ps : List ℕ) (whole number count : ℕ) (few :
 value_read b ws ps whole number count few x e h r f =
     let exact : whole ≡ digits_value 10 (digits_in ws) = omega arith in
     rw exact (trimmed_same b (digits_in ws) (digits_in ps) number count few r f) ∙ valued b ws ps x (sym r.few_is ∙ f)
+
+-- with no places
+pub value_whole : (b : Bool) (ws : List ℕ) (whole : ℕ) → AreParts ws [] → whole ≡ min (10 ^ 19) (digits_value 10 (digits_in ws)) → whole < 2 ^ 63 → number_of (record { numerator = signed b whole; denominator = 1 }) ≡ number_of_parts b ws []
+value_whole b ws whole x e h =
+    let same : whole ≡ whole * 10 ^ 0 + 0 = omega arith in
+    ap (λ n. number_of (record { numerator = signed b n; denominator = 1 })) same ∙ value_read b ws [] whole 0 0 true x e h read_none refl
 
 pub not_few : (b : Bool) → not b ≡ true → b ≡ false
 not_few true h = sym h

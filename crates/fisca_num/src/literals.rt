@@ -1,5 +1,5 @@
 //! Decimal literals.
-ghost use Rattle.std.specs.Prelude.{◌≡◌, ◌≢◌, ◌⊎◌, ℕ, ◌+◌, ◌*◌, ◌<◌, ◌≤◌, ◌^◌, ◌==◌, ◌&&◌, ◌||◌, min, length, drop, take, true, false, not, if◌then◌else◌, MatchOption};
+ghost use Rattle.std.specs.Prelude.{◌≡◌, ◌≢◌, ◌⊎◌, ℕ, ◌+◌, ◌*◌, ◌<◌, ◌≤◌, ◌^◌, ◌==◌, ◌&&◌, ◌||◌, min, length, [], drop, take, true, false, not, if◌then◌else◌, MatchOption};
 ghost use Rattle.std.specs.List.{before_first, after_first, position_or_len};
 ghost use Rattle.std.specs.Str.Parse.{digits_value};
 ghost use Rattle.fisca_num.specs.Literal.{is_point, is_negative, unsigned_part, are_digits_or_none, digits_in, is_whole, IsRead, number_of_parts, number_of_literal};
@@ -59,23 +59,55 @@ impl Fraction {
 fn value_of_unsigned(negative: bool, text: &[u8]) -> Result<Fraction, NumFault>
     ensures { result ≡ number_of_parts negative (before_first is_point text.now) (after_first is_point text.now) }
 {
-    let Some(whole) = read_whole(text) else {
+    let Some(Whole { number, end }) = read_whole(text) else {
         return Err(NumFault::NotANumber);
     };
-    if whole.end > 1 && text[0] == b'0' {
+    if end > 1 && text[0] == b'0' {
         return Err(NumFault::NotANumber);
     }
-    let places = after_point(text, whole.end);
-    if whole.end == 0 && places.is_empty() {
+    if end < text.len() {
+        value_of_parts(negative, &text[..end], number, &text[end + 1..])
+    } else {
+        value_of_whole(negative, text, number)
+    }
+}
+
+/// The value of a literal without a point, whose digits write `number`, or more where it is 10^19.
+fn value_of_whole(negative: bool, whole: &[u8], number: u64) -> Result<Fraction, NumFault>
+    requires whole { is_whole whole.now ≡ true }
+    requires number { number ≡ min (10 ^ 19) (digits_value 10 (digits_in whole.now)) }
+    ensures { result ≡ number_of_parts negative whole.now [] }
+{
+    if whole.is_empty() {
+        Err(NumFault::NotANumber)
+    } else if number > LIMIT {
+        Err(NumFault::TooWide)
+    } else {
+        from_lowest(negative, u128::from(number), 1)
+    }
+}
+
+/// The value of the digits before and after a point. Those before it write `number`, or more where it is 10^19.
+fn value_of_parts(
+    negative: bool,
+    whole: &[u8],
+    number: u64,
+    places: &[u8],
+) -> Result<Fraction, NumFault>
+    requires whole { is_whole whole.now ≡ true }
+    requires number { number ≡ min (10 ^ 19) (digits_value 10 (digits_in whole.now)) }
+    ensures { result ≡ number_of_parts negative whole.now places.now }
+{
+    if whole.is_empty() && places.is_empty() {
         return Err(NumFault::NotANumber);
     }
     let Some(read) = read_places(places) else {
         return Err(NumFault::NotANumber);
     };
-    if whole.number > LIMIT || !read.few {
+    if number > LIMIT || !read.few {
         return Err(NumFault::TooWide);
     }
-    decimal(negative, whole.number, read.number, read.count)
+    decimal(negative, number, read.number, read.count)
 }
 
 /// Whether the text begins with `-`.
@@ -92,18 +124,6 @@ fn without_sign(text: &[u8]) -> &[u8]
     match text {
         [b'-' | b'+', rest @ ..] => rest,
         _ => text,
-    }
-}
-
-/// What stands after the first point, which is at `end`, or nothing where there is none.
-fn after_point(text: &[u8], end: usize) -> &[u8]
-    requires { end ≡ position_or_len is_point text.now }
-    ensures { result.now ≡ after_first is_point text.now }
-{
-    if end < text.len() {
-        &text[end + 1..]
-    } else {
-        &[]
     }
 }
 

@@ -4,6 +4,7 @@ pub mod Compared
 pub mod Coprime
 pub mod Cut
 pub mod Division
+pub mod Fives
 pub mod Forms
 pub mod Halving
 pub mod Places

@@ -4,7 +4,7 @@ ghost use Rattle.std.specs.Int.{IsGcd};
 ghost use Rattle.fisca_num.specs.Halves.{IsHalved};
 
 /// The greatest word.
-const WORD: u128 = 0xffff_ffff_ffff_ffff;
+pub(crate) const WORD: u128 = 0xffff_ffff_ffff_ffff;
 
 /// `number / divisor`, without a division by 1.
 pub(crate) fn quotient_by(number: u64, divisor: u64) -> u64
@@ -45,7 +45,7 @@ pub(crate) fn gcd_with_word(a: u128, b: u64) -> u64
 }
 
 /// How often 2 divides a number.
-fn halvings(number: u64) -> u32
+pub(crate) fn halvings(number: u64) -> u32
     requires { 0 < number }
     ensures { IsHalved number result }
 {

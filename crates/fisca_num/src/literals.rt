@@ -6,9 +6,10 @@ ghost use Rattle.fisca_num.specs.Literal.{is_point, is_negative, unsigned_part, 
 ghost use Rattle.fisca_num.specs.Operations.{number_of};
 ghost use Rattle.fisca_num.specs.Rational.{signed};
 
+use crate::divisors::WORD;
 use crate::faults::NumFault;
 use crate::fractions::Fraction;
-use crate::reduction::{from_lowest, reduce_size};
+use crate::reduction::{from_lowest, reduce_size, reduce_tens};
 
 /// The most places of a literal, zeros at the end aside.
 const MOST_PLACES: u32 = 18;
@@ -212,10 +213,10 @@ fn decimal(negative: bool, whole: u64, places: u64, count: u32) -> Result<Fracti
     requires places { places < 10 ^ count }
     ensures { result ≡ number_of (record { numerator = signed negative (whole * 10 ^ count + places); denominator = 10 ^ count }) }
 {
-    if count == 0 {
-        return from_lowest(negative, u128::from(whole), 1);
-    }
     let denominator = 10u64.pow(count);
     let size = u128::from(whole) * u128::from(denominator) + u128::from(places);
-    reduce_size(negative, size, u128::from(denominator))
+    if size == 0 || size > WORD {
+        return reduce_size(negative, size, u128::from(denominator));
+    }
+    reduce_tens(negative, size as u64, denominator, count)
 }

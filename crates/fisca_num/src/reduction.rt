@@ -1,19 +1,18 @@
 //! Lowest terms.
-ghost use Rattle.std.specs.Prelude.{◌≡◌, ◌<◌, ◌*◌, ◌/◌, ◌^◌, unsigned_abs};
+ghost use Rattle.std.specs.Prelude.{◌≡◌, ◌<◌, ◌≤◌, ◌*◌, ◌/◌, ◌^◌, unsigned_abs};
 ghost use Rattle.std.specs.Int.{◌∣◌};
 ghost use Rattle.fisca_num.specs.Lowest.{IsCoprime};
 ghost use Rattle.fisca_num.specs.Operations.{number_of};
 ghost use Rattle.fisca_num.specs.Rational.{IsLowest, signed};
 
-use crate::divisors::{gcd, gcd_with_word, quotient_by, wide_gcd, wide_quotient_by};
+use crate::divisors::{
+    WORD, gcd, gcd_with_word, halvings, quotient_by, wide_gcd, wide_quotient_by,
+};
 use crate::faults::NumFault;
 use crate::fractions::Fraction;
 
 /// The greatest part of a fraction.
 const LIMIT: u128 = 0x7fff_ffff_ffff_ffff;
-
-/// The greatest word.
-const WORD: u128 = 0xffff_ffff_ffff_ffff;
 
 /// The number that `numerator / denominator` is.
 pub(crate) fn reduce(numerator: i128, denominator: u128) -> Result<Fraction, NumFault>
@@ -65,6 +64,28 @@ pub(crate) fn reduce_words(
         size,
         u128::from(quotient_by(denominator, divisor)),
     )
+}
+
+/// The same over a power of ten, which has no other divisors than twos and fives.
+pub(crate) fn reduce_tens(
+    negative: bool,
+    size: u64,
+    denominator: u64,
+    places: u32,
+) -> Result<Fraction, NumFault>
+    requires some { 0 < size }
+    requires tens { denominator ≡ 10 ^ places }
+    requires few { places ≤ 18 }
+    ensures { result ≡ number_of (record { numerator = signed negative size; denominator = denominator }) }
+{
+    let twos = halvings(size).min(places);
+    let mut left = size >> twos;
+    let mut under = denominator >> twos;
+    while left % 5 == 0 && under % 5 == 0 {
+        left /= 5;
+        under /= 5;
+    }
+    from_lowest(negative, u128::from(left), u128::from(under))
 }
 
 /// The number that a sum of two numerators over one denominator is.

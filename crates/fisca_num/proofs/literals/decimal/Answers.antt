@@ -1,5 +1,0 @@
-use Rattle.fisca_num.specs.Number.{lowest-whole}
-use Rattle.fisca_num.proofs.literals.decimal.Goals as goal
-
-pub from_lowest-requires : goal.from_lowest-requires
-from_lowest-requires c = lowest-whole _

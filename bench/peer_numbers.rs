@@ -191,9 +191,18 @@ impl Fraction {
         if places == 0 {
             return checked(negative, number as u128, 1);
         }
-        let denominator = 10u64.pow(places as u32);
-        let divisor = gcd(number, denominator);
-        checked(negative, (number / divisor) as u128, (denominator / divisor) as u128)
+        if number == 0 {
+            return checked(false, 0, 1);
+        }
+        // A power of ten has no other divisors than twos and fives.
+        let twos = number.trailing_zeros().min(places as u32);
+        let mut left = number >> twos;
+        let mut under = 10u64.pow(places as u32) >> twos;
+        while left % 5 == 0 && under % 5 == 0 {
+            left /= 5;
+            under /= 5;
+        }
+        checked(negative, left as u128, under as u128)
     }
 }
 

@@ -9,7 +9,7 @@ use Rattle.std.proofs.lemmas.List.Sums.{passes_at_first, position_or_len_is, pre
 use Rattle.std.specs.Str.Parse.{digits_value, digits_value_after}
 use Rattle.fisca_num.specs.declared.literals.Whole.{Whole}
 use Rattle.fisca_num.specs.Literal.{is_point, are_digits, are_digits_or_none, digits_in, is_whole}
-use Rattle.fisca_num.proofs.Reading.{is_rest, zero_in_front, no_zero_in_front}
+use Rattle.fisca_num.proofs.Reading.{is_rest, zero_in_front}
 
 -- no point stands before the place i
 abbrev pub IsWithoutPoint : List ℕ → ℕ → Type 0
@@ -104,16 +104,6 @@ first_before xs end e some = get_or-take (position_or_len is_point xs) xs 0 0 (o
 
 pub leading_zero : (xs : List ℕ) (end : ℕ) → end ≡ position_or_len is_point xs → 1 < end → get_or xs 0 0 ≡ 48 → is_whole (before_first is_point xs) ≡ false
 leading_zero xs end e some zero = zero_in_front (before_first is_point xs) (omega (arith, length_before xs)) (first_before xs end e (omega arith) ∙ zero)
-
-whole_of : (cs : List ℕ) → are_digits_or_none cs ≡ true → (length cs ≤ 1) ⊎ (get_or cs 0 0 ≡ 48 → ⊥) → is_whole cs ≡ true
-whole_of [] h e = refl
-whole_of (c ∷ cs) h e = no_zero_in_front (c ∷ cs) (omega arith) (elim e [ inl p ↦ inl (omega arith) | inr p ↦ inr p ]) ∙ h
-
-pub whole_before : (xs : List ℕ) (end : ℕ) → end ≡ position_or_len is_point xs → are_digits_or_none (before_first is_point xs) ≡ true → (end ≤ 1) ⊎ (get_or xs 0 0 ≡ 48 → ⊥) → is_whole (before_first is_point xs) ≡ true
-whole_before xs end e h first = whole_of (before_first is_point xs) h (elim (cases_lt 1 end) [
-  | inl more ↦ elim first [ inl p ↦ absurd (omega arith) | inr p ↦ inr (λ q. p (sym (first_before xs end e (omega arith)) ∙ q)) ]
-  | inr less ↦ inl (omega (arith, length_before xs))
-])
 
 pub not_whole : (cs : List ℕ) → are_digits_or_none cs ≡ false → is_whole cs ≡ false
 not_whole cs h = rw h refl

@@ -1,4 +1,4 @@
 mod Counts
 mod Cuts
 mod Prefixes
-mod Asked
+mod ManyWords

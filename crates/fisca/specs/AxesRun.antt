@@ -1,5 +1,5 @@
 -- What `fisca axes` answers and writes.
-use Rattle.std.specs.Prelude.{◌≡◌, ◌≤◌, ◌⊎◌, Bool, false, ℕ, List, [], ◌∷◌, ◌++◌, Option, Some, None, Result, Ok, Err, if◌then◌else◌}
+use Rattle.std.specs.Prelude.{◌≡◌, ◌⊎◌, Bool, false, ℕ, List, [], ◌∷◌, ◌++◌, Option, Some, None, Result, Ok, Err, if◌then◌else◌}
 use Rattle.std.specs.Fmt.{decimal}
 use Rattle.std.specs.Io.KnownBytes.{Keeps}
 use Rattle.std.specs.declared.convert.Infallible.{Infallible}
@@ -33,45 +33,45 @@ abbrev pub axes_row : List AxisSpec → Option Condition → ℕ → Row Infalli
 axes_row [] keep position = Nothing
 axes_row (axis ∷ axes) keep position = row_of keep position (step_of axis position)
 
--- the axes, at present one, and the condition of a run
-pub record Asked : Type 0 where
+-- the axes of a run, at present one, and its condition
+pub record FilteredAxes : Type 0 where
   pub axes : List AxisSpec
   pub keep : Option Condition
 
--- a text that is given has to state a condition
-abbrev pub stated : Option Condition → Result (Option Condition) Refusal
-stated None = Err BadCondition
-stated (Some condition) = Ok (Some condition)
+-- the condition that a text states, which it has to
+abbrev pub required_condition : Option Condition → Result (Option Condition) Refusal
+required_condition None = Err BadCondition
+required_condition (Some condition) = Ok (Some condition)
 
 -- the condition that a text states of the axis of this name, if a text is given
-abbrev pub keep_of : List ℕ → Option (List ℕ) → Result (Option Condition) Refusal
-keep_of name None = Ok None
-keep_of name (Some text) = stated (condition_of name text)
+abbrev pub optional_condition : List ℕ → Option (List ℕ) → Result (Option Condition) Refusal
+optional_condition name None = Ok None
+optional_condition name (Some text) = required_condition (condition_of name text)
 
 -- an axis with its condition
-abbrev pub with_keep : AxisSpec → Result (Option Condition) Refusal → Result Asked Refusal
-with_keep axis (Ok keep) = Ok (record { axes = axis ∷ []; keep = keep })
-with_keep axis (Err refusal) = Err refusal
+abbrev pub filtered_axis : AxisSpec → Result (Option Condition) Refusal → Result FilteredAxes Refusal
+filtered_axis axis (Ok keep) = Ok (record { axes = axis ∷ []; keep = keep })
+filtered_axis axis (Err refusal) = Err refusal
 
--- the axis has to be within its limits
-abbrev pub limited : List ℕ × AxisSpec → Option AxesFault → Option (List ℕ) → Result Asked Refusal
-limited named None keep = with_keep named.1 (keep_of named.0 keep)
-limited named (Some fault) keep = Err (Axes fault)
+-- a named axis, which has to be within its limits, with the condition of this text
+abbrev pub axis_within_limits : List ℕ × AxisSpec → Option AxesFault → Option (List ℕ) → Result FilteredAxes Refusal
+axis_within_limits named None keep = filtered_axis named.1 (optional_condition named.0 keep)
+axis_within_limits named (Some fault) keep = Err (Axes fault)
 
--- the word has to describe an axis
-abbrev pub read : Option (List ℕ × AxisSpec) → Option (List ℕ) → Result Asked Refusal
-read None keep = Err BadWord
-read (Some named) keep = limited named (axes_fault (named.1 ∷ []) (1 ∷ [])) keep
+-- the axis that a word describes, which it has to, with the condition of this text
+abbrev pub required_axis : Option (List ℕ × AxisSpec) → Option (List ℕ) → Result FilteredAxes Refusal
+required_axis None keep = Err BadWord
+required_axis (Some named) keep = axis_within_limits named (axes_fault (named.1 ∷ []) (1 ∷ [])) keep
 
--- what the words ask for, or the first refusal: the words, then the axes, then the condition. At present there is one axis
-abbrev pub asked : List (List ℕ) → Option (List ℕ) → Result Asked Refusal
-asked [] keep = Err (Axes NoAxes)
-asked (word ∷ []) keep = read (axis_of word) keep
-asked (word ∷ other ∷ words) keep = Err BadWord
+-- the axes and the condition that the words and this text ask for, or the first refusal: of the words, then of the axes, then of the condition. At present there is one axis
+abbrev pub axes_of_words : List (List ℕ) → Option (List ℕ) → Result FilteredAxes Refusal
+axes_of_words [] keep = Err (Axes NoAxes)
+axes_of_words (word ∷ []) keep = required_axis (axis_of word) keep
+axes_of_words (word ∷ other ∷ words) keep = Err BadWord
 
--- what a run over the axis answers, and what a sink that held `old` then holds. A start above the size is never accepted
-abbrev pub IsAxesRun : Asked → ℕ → Option ℕ → Option (List ℕ) → Option (List ℕ) → Result RunEnd Refusal → Type 0
-IsAxesRun run from limit old new (Ok end) = (from ≤ size_of run.axes) × IsRun (axes_row run.axes run.keep) (size_of run.axes) from limit old new (Ok end)
+-- what a run over the axes answers, and what a sink that held `old` then holds
+abbrev pub IsAxesRun : FilteredAxes → ℕ → Option ℕ → Option (List ℕ) → Option (List ℕ) → Result RunEnd Refusal → Type 0
+IsAxesRun run from limit old new (Ok end) = IsRun (axes_row run.axes run.keep) (size_of run.axes) from limit old new (Ok end)
 IsAxesRun run from limit old new (Err (Run fault)) = IsRun (axes_row run.axes run.keep) (size_of run.axes) from limit old new (Err fault)
 IsAxesRun run from limit old new (Err other) = (other ≡ Memory) × Keeps old new
 

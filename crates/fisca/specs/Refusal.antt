@@ -1,12 +1,9 @@
 -- The numbers, the exit statuses and the lines of refusals.
 use Rattle.std.specs.Prelude.{ℕ, List, [], ◌∷◌, ◌++◌, codes, string_bytes}
 use Rattle.std.specs.Fmt.{decimal}
-use Rattle.std.specs.declared.convert.Infallible.{Infallible}
 use Rattle.fisca_grid.specs.AxesFault.{name_of}
 use Rattle.fisca_params.specs.Names.{name_of as name_of_params}
-use Rattle.fisca_grid.specs.declared.axes.AxesFault.{AxesFault}
 use Rattle.fisca_grid.specs.declared.axes.AxesFault.TheVariants as axes
-use Rattle.fisca_grid.specs.declared.fault.RunFault.{RunFault}
 use Rattle.fisca_grid.specs.declared.fault.RunFault.TheVariants as run
 use Rattle.fisca.specs.declared.refusal.Refusal.{Refusal}
 use Rattle.fisca.specs.declared.refusal.Refusal.TheVariants.{Params, Axes, BadWord, BadCondition, Run, Write, Memory, TooManyFiles}

@@ -1,7 +1,8 @@
 -- How the words of a command line are read.
-use Rattle.std.specs.Prelude.{ℕ, ◌^◌, Bool, true, false, List, [], ◌∷◌, length, drop, Option, Some, None, option_map, option_and_then, codes, if◌then◌else◌, ◌==◌, ◌||◌, ◌&&◌, not, nat_eq, nat_lt}
+use Rattle.std.specs.Prelude.{ℕ, ◌^◌, Bool, false, List, [], ◌∷◌, length, drop, Option, Some, None, option_map, option_and_then, codes, if◌then◌else◌, ◌==◌, ◌||◌, ◌&&◌, not, nat_eq, nat_lt}
 use Rattle.std.specs.Char.{is_ascii_alphanumeric, is_ascii_digit}
 use Rattle.std.specs.List.{starts_with, list_all}
+use Rattle.std.specs.Option.{option_or}
 use Rattle.std.specs.Str.Parse.{digits_value}
 use Rattle.std.specs.Result.{result_ok}
 use Rattle.fisca_num.specs.Number.{Number}
@@ -26,6 +27,11 @@ abbrev pub around_first : List ℕ → List ℕ → Option (List ℕ × List ℕ
 around_first mark [] = None
 around_first mark (b ∷ bs) = if starts_with nat_eq (b ∷ bs) mark then Some ([], drop (length mark) (b ∷ bs)) else option_map (with_front b) (around_first mark bs)
 
+-- what stands before and behind the last place of the mark, where it stands in the text
+abbrev pub around_last : List ℕ → List ℕ → Option (List ℕ × List ℕ)
+around_last mark [] = None
+around_last mark (b ∷ bs) = option_or (option_map (with_front b) (around_last mark bs)) (if starts_with nat_eq (b ∷ bs) mark then Some ([], drop (length mark) (b ∷ bs)) else None)
+
 -- the number that decimal digits say, where there is at least one and the number is below 2^64
 abbrev pub count_of : List ℕ → Option ℕ
 count_of [] = None
@@ -43,9 +49,9 @@ bounds_of text = option_and_then (λ parts. option_and_then (λ min. option_map 
 abbrev pub axis_spec : Number × Number → ℕ → AxisSpec
 axis_spec bounds count = record { count = count; min = bounds.0; max = bounds.1 }
 
--- the axis that `MIN..MAX/COUNT` says. A second `/` would fit neither a literal nor a count, so it makes no difference at which one the text is cut
+-- the axis that `MIN..MAX/COUNT` says: bounds and a count around the last `/`
 abbrev pub spec_of : List ℕ → Option AxisSpec
-spec_of text = option_and_then (λ parts. option_and_then (λ bounds. option_map (axis_spec bounds) (count_of parts.1)) (bounds_of parts.0)) (around_first (codes "/") text)
+spec_of text = option_and_then (λ parts. option_and_then (λ bounds. option_map (axis_spec bounds) (count_of parts.1)) (bounds_of parts.0)) (around_last (codes "/") text)
 
 -- the name and the axis that a word `NAME=MIN..MAX/COUNT` says
 abbrev pub axis_of : List ℕ → Option (List ℕ × AxisSpec)

@@ -1,12 +1,12 @@
 //! `fisca axes`: the values of an axis that meet a condition.
 
-ghost use Rattle.std.specs.Prelude.{◌≡◌, ◌≢◌, ℕ, length, ◌+◌, ◌++◌, ◌∷◌, [], map, cond, option_map, IfOk, IfErr, OnOk, Ok, Err, Some, None, MatchResult, string_bytes};
+ghost use Rattle.std.specs.Prelude.{◌≡◌, ◌≢◌, ℕ, ◌<◌, length, slice_get, ◌+◌, ◌++◌, ◌∷◌, [], map, cond, option_map, IfOk, IfErr, IfSome, OnOk, Ok, Err, Some, None, MatchResult, string_bytes};
 ghost use Rattle.std.specs.Fmt.{decimal};
-ghost use Rattle.fisca_grid.specs.Axes.{axes_fault};
+ghost use Rattle.fisca_grid.specs.Axes.{axes_fault, size_of, step_of};
 ghost use Rattle.fisca_grid.specs.Sink.{one_more};
 ghost use Rattle.fisca.specs.Condition.{is_kept};
 ghost use Rattle.fisca.specs.Words.{axis_of};
-ghost use Rattle.fisca.specs.AxesRun.{asked, read, limited, keep_of, IsAxesRun, IsRefused, is_write, line_of};
+ghost use Rattle.fisca.specs.AxesRun.{axes_of_words, required_axis, axis_within_limits, optional_condition, IsAxesRun, IsRefused, is_write, line_of};
 
 use super::condition::{Condition, read_condition};
 use super::refusal::Refusal;
@@ -17,7 +17,6 @@ use fisca_grid::{
 use fisca_num::Fraction;
 use std::alloc::{AllocError, Global};
 use std::convert::Infallible;
-use std::fmt::Write;
 
 /// The rows of one axis: a line for each value that meets the condition.
 #[derive(Debug, Drop)]
@@ -46,24 +45,29 @@ impl Rows for AxisRows {
         position: u64,
         line: &mut String,
     ) -> Result<Selection, RowFault<Infallible>> {
-        let value = self.axes.step(0, position);
-        if !is_kept(self.keep, value) {
+        if !self.is_kept(position) {
             return Ok(Selection::Dropped);
         }
-        match write_line(position, value, line) {
+        match write_line(position, self.axes.step(0, position), line) {
             Ok(()) => Ok(Selection::Kept),
             Err(_) => Err(RowFault::Memory),
         }
     }
 }
 
-/// Whether a value meets the condition, if there is one.
-fn is_kept(keep: Option<Condition>, value: Fraction) -> bool
-    ensures { result ≡ is_kept keep value }
-{
-    match keep {
-        None => true,
-        Some(condition) => condition.is_met_by(value),
+impl AxisRows {
+    /// Whether the value at a position meets the condition, if there is one. The value is not worked out for that.
+    fn is_kept(&self, position: u64) -> bool
+        requires { position < size_of self.now.axes }
+        ensures { IfSome (slice_get self.now.axes 0) (λ axis. IfOk (step_of axis position) (λ value. result ≡ is_kept self.now.keep value)) }
+    {
+        match self.keep {
+            None => true,
+            Some(condition) => {
+                let order = self.axes.compare(0, position, condition.constant);
+                condition.comparison.is_met_by(order)
+            }
+        }
     }
 }
 
@@ -80,10 +84,8 @@ fn write_line(position: u64, value: Fraction, line: &mut String) -> Result<(), A
 fn write_position(position: u64, line: &mut String) -> Result<(), AllocError>
     ensures { OnOk result (string_bytes line.new ≡ string_bytes line.old ++ (decimal position ++ 9 ∷ [])) }
 {
-    match write!(line, "{position}\t") {
-        Ok(()) => Ok(()),
-        Err(_) => Err(AllocError),
-    }
+    line.push_str(itoa::Buffer::new().format(position))?;
+    line.push('\t')
 }
 
 /// The grid of one axis.
@@ -100,7 +102,7 @@ fn build(alloc: Global, axis: AxisSpec) -> Result<Axes, Refusal>
 
 /// The condition that a text states of the axis of this name, if a text is given.
 fn read_keep(name: &str, keep: Option<&str>) -> Result<Option<Condition>, Refusal>
-    ensures { result ≡ keep_of name.now (option_map (λ text. text.now) keep.entry) }
+    ensures { result ≡ optional_condition name.now (option_map (λ text. text.now) keep.entry) }
 {
     match keep {
         None => Ok(None),
@@ -118,8 +120,8 @@ fn limit_rows(
     axis: AxisSpec,
     keep: Option<&str>,
 ) -> Result<AxisRows, Refusal>
-    ensures ok { IfOk result (λ rows. limited (name.now, axis) (axes_fault (axis ∷ []) (1 ∷ [])) (option_map (λ text. text.now) keep.entry) ≡ Ok (record { axes = rows.axes; keep = rows.keep })) }
-    ensures err { IfErr result (λ refusal. refusal ≢ Refusal.Memory → limited (name.now, axis) (axes_fault (axis ∷ []) (1 ∷ [])) (option_map (λ text. text.now) keep.entry) ≡ Err refusal) }
+    ensures ok { IfOk result (λ rows. axis_within_limits (name.now, axis) (axes_fault (axis ∷ []) (1 ∷ [])) (option_map (λ text. text.now) keep.entry) ≡ Ok (record { axes = rows.axes; keep = rows.keep })) }
+    ensures err { IfErr result (λ refusal. refusal ≢ Refusal.Memory → axis_within_limits (name.now, axis) (axes_fault (axis ∷ []) (1 ∷ [])) (option_map (λ text. text.now) keep.entry) ≡ Err refusal) }
 {
     let axes = build(alloc, axis)?;
     let keep = read_keep(name, keep)?;
@@ -128,8 +130,8 @@ fn limit_rows(
 
 /// The rows that a word and a condition ask for.
 fn read_rows(alloc: Global, word: &str, keep: Option<&str>) -> Result<AxisRows, Refusal>
-    ensures ok { IfOk result (λ rows. read (axis_of word.now) (option_map (λ text. text.now) keep.entry) ≡ Ok (record { axes = rows.axes; keep = rows.keep })) }
-    ensures err { IfErr result (λ refusal. refusal ≢ Refusal.Memory → read (axis_of word.now) (option_map (λ text. text.now) keep.entry) ≡ Err refusal) }
+    ensures ok { IfOk result (λ rows. required_axis (axis_of word.now) (option_map (λ text. text.now) keep.entry) ≡ Ok (record { axes = rows.axes; keep = rows.keep })) }
+    ensures err { IfErr result (λ refusal. refusal ≢ Refusal.Memory → required_axis (axis_of word.now) (option_map (λ text. text.now) keep.entry) ≡ Err refusal) }
 {
     match read_axis(word) {
         Some((name, axis)) => limit_rows(alloc, name, axis, keep),
@@ -139,8 +141,8 @@ fn read_rows(alloc: Global, word: &str, keep: Option<&str>) -> Result<AxisRows, 
 
 /// The rows that the words and a condition ask for: at present of one word.
 fn read_words(alloc: Global, words: &[String], keep: Option<&str>) -> Result<AxisRows, Refusal>
-    ensures ok { IfOk result (λ rows. asked (map (λ word. string_bytes word) words.now) (option_map (λ text. text.now) keep.entry) ≡ Ok (record { axes = rows.axes; keep = rows.keep })) }
-    ensures err { IfErr result (λ refusal. refusal ≢ Refusal.Memory → asked (map (λ word. string_bytes word) words.now) (option_map (λ text. text.now) keep.entry) ≡ Err refusal) }
+    ensures ok { IfOk result (λ rows. axes_of_words (map (λ word. string_bytes word) words.now) (option_map (λ text. text.now) keep.entry) ≡ Ok (record { axes = rows.axes; keep = rows.keep })) }
+    ensures err { IfErr result (λ refusal. refusal ≢ Refusal.Memory → axes_of_words (map (λ word. string_bytes word) words.now) (option_map (λ text. text.now) keep.entry) ≡ Err refusal) }
 {
     match words {
         [] => Err(Refusal::Axes(AxesFault::NoAxes)),
@@ -173,7 +175,7 @@ pub fn axes_words<S: RowSink>(
     rows: Option<u64>,
     sink: &mut S,
 ) -> Result<RunEnd, Refusal>
-    ensures answer { MatchResult (asked (map (λ word. string_bytes word) words.now) (option_map (λ text. text.now) keep.entry))
+    ensures answer { MatchResult (axes_of_words (map (λ word. string_bytes word) words.now) (option_map (λ text. text.now) keep.entry))
         (λ run. IsAxesRun run from rows (S.taken sink.old) (S.taken sink.new) result)
         (λ refusal. IsRefused refusal (S.taken sink.old) (S.taken sink.new) result) }
     ensures failures { S.failures sink.new ≡ cond (is_write result) (one_more (S.failures sink.old)) (S.failures sink.old) }

@@ -1,7 +1,7 @@
 //! The condition on an axis's values.
 
 ghost use Rattle.std.specs.Prelude.{◌≡◌, ℕ, ◌<◌, MatchOption, Some, None, length, option_map};
-ghost use Rattle.fisca.specs.Condition.{after, past_spaces, comparison_of, comparison_in, condition_of, is_met_by, meets};
+ghost use Rattle.fisca.specs.Condition.{after, past_spaces, comparison_of, comparison_in, condition_of, is_met_by};
 
 use fisca_num::Fraction;
 use std::cmp::Ordering;
@@ -25,7 +25,7 @@ pub enum Comparison {
 
 impl Comparison {
     /// Whether a value meets the comparison, by the value's order to the constant.
-    fn is_met_by(self, order: Ordering) -> bool
+    pub fn is_met_by(self, order: Ordering) -> bool
         ensures { result ≡ is_met_by self order }
     {
         match self {
@@ -83,17 +83,6 @@ fn read_comparison(text: &str) -> Option<(Comparison, &str)>
 pub struct Condition {
     pub comparison: Comparison,
     pub constant: Fraction,
-}
-
-impl Condition {
-    ghost use Rattle.fisca.specs.Condition.{meets};
-
-    /// Whether a value meets the condition.
-    pub fn is_met_by(self, value: Fraction) -> bool
-        ensures { result ≡ meets self value }
-    {
-        self.comparison.is_met_by(value.cmp(&self.constant))
-    }
 }
 
 /// The comparison and the constant that a text states.

@@ -3,7 +3,7 @@
 ghost use Rattle.std.specs.Prelude.{◌≡◌, ℕ, ◌<◌, MatchOption, Some, None, length, option_map};
 ghost use Rattle.std.specs.List.{list_all};
 ghost use Rattle.std.specs.Char.{is_ascii_digit};
-ghost use Rattle.fisca.specs.Words.{around_first, is_word_byte, is_identifier, count_of, bounds_of, spec_of, axis_of};
+ghost use Rattle.fisca.specs.Words.{around_first, around_last, is_word_byte, is_identifier, count_of, bounds_of, spec_of, axis_of};
 
 use fisca_grid::AxisSpec;
 use fisca_num::Fraction;
@@ -33,6 +33,14 @@ fn around_first<'a>(text: &'a str, mark: &str) -> Option<(&'a str, &'a str)>
     ensures { MatchOption result (around_first mark.now text.now ≡ None) (λ parts. around_first mark.now text.now ≡ Some (parts.0.now, parts.1.now)) }
 {
     text.split_once(mark)
+}
+
+/// What stands before and behind the last place of the mark.
+fn around_last<'a>(text: &'a str, mark: &str) -> Option<(&'a str, &'a str)>
+    requires { 0 < length mark.now }
+    ensures { MatchOption result (around_last mark.now text.now ≡ None) (λ parts. around_last mark.now text.now ≡ Some (parts.0.now, parts.1.now)) }
+{
+    text.rsplit_once(mark)
 }
 
 /// The number that decimal digits say, where there is one and it is below 2^64.
@@ -67,7 +75,7 @@ fn read_bounds(text: &str) -> Option<(Fraction, Fraction)>
 fn read_spec(text: &str) -> Option<AxisSpec>
     ensures { result ≡ spec_of text.now }
 {
-    let (bounds, count) = around_first(text, "/")?;
+    let (bounds, count) = around_last(text, "/")?;
     let (min, max) = read_bounds(bounds)?;
     let count = read_count(count)?;
     Some(AxisSpec { count, min, max })

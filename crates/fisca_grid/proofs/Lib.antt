@@ -8,3 +8,5 @@ pub mod Integers
 pub mod Steps
 pub mod Groups
 pub mod Positions
+pub mod Orders
+pub mod Specs

@@ -7,11 +7,12 @@ use Rattle.std.proofs.lemmas.Bool.Decides.{nat_tests}
 use Rattle.std.proofs.lemmas.List.{append-nil}
 use Rattle.std.proofs.lemmas.List.Elements.{filter-append, Contains-append_right}
 use Rattle.fisca_grid.specs.Row.{Row, Nothing, Line, Fault, text_of}
-use Rattle.fisca_grid.specs.Lines.{line_at, lines, AtEnd, MoreFrom, FaultAt, run_end}
+use Rattle.fisca_grid.specs.Lines.{line_at, lines, AtEnd, FaultAt, run_end}
 use Rattle.fisca_grid.specs.Run.{texts, IsProperPrefix, IsBrokenOff, IsRun, IsRowWritten}
 use Rattle.fisca_grid.specs.Continued.{lines_before, limit_after, IsResumable}
 use Rattle.fisca_grid.specs.declared.rows.Selection.{Selection}
 use Rattle.fisca_grid.specs.declared.rows.Selection.TheVariants.{Kept, Dropped}
+use Rattle.fisca_grid.specs.declared.fault.RunEnd.TheVariants as answer
 use Rattle.fisca_grid.specs.declared.fault.RunFault.{RunFault}
 use Rattle.fisca_grid.specs.declared.fault.RunFault.TheVariants as fault
 use Rattle.fisca_grid.proofs.Grown.{trans, grown_then_kept}
@@ -149,14 +150,14 @@ module _ {F : Type 0} (row : ℕ → Row F) (size from : ℕ) (limit : Option �
       ∙ (ap (λ xs. xs ++ lines_before position (lines row size position left)) (before_below position w.done w.below)
       ∙ (ap (λ xs. w.done ++ xs) (before_from position (lines row size position left) (lines-from row size position left)) ∙ append-nil w.done)))
 
-  pub stopped_at_end : IsWritten row size from limit old new position left → position ≡ size → (run_end row size from limit ≡ AtEnd) × Appends old new (texts (lines row size from limit))
-  stopped_at_end w is =
+  pub stopped_at_end : IsWritten row size from limit old new position left → from ≤ position → position ≡ size → IsRun row size from limit old new (Ok answer.End)
+  stopped_at_end w above is =
       let here : run_end row size position left ≡ AtEnd = ap (λ p. run_end row size p left) is ∙ run_end-over row size left in
-      (w.ends ∙ here, all_written w (lines-over row size position left (omega arith)))
+      (omega arith, w.ends ∙ here, all_written w (lines-over row size position left (omega arith)))
 
-  pub stopped_at_limit : IsWritten row size from limit old new position left → position < size → left ≡ Some 0 → (run_end row size from limit ≡ MoreFrom position) × Appends old new (texts (lines row size from limit))
-  stopped_at_limit w within is =
-      (w.ends ∙ (ap (run_end row size position) is ∙ run_end-stopped row size position within), all_written w (ap (lines row size position) is))
+  pub stopped_at_limit : IsWritten row size from limit old new position left → from ≤ position → position < size → left ≡ Some 0 → IsRun row size from limit old new (Ok (answer.More position))
+  stopped_at_limit w above within is =
+      (omega arith, w.ends ∙ (ap (run_end row size position) is ∙ run_end-stopped row size position within), all_written w (ap (lines row size position) is))
 
   stopped_at_fault : (x : F) → IsWritten row size from limit old new position left → position < size → ¬ (left ≡ Some 0) → row position ≡ Fault x → (run_end row size from limit ≡ FaultAt position x) × Appends old new (texts (lines row size from limit))
   stopped_at_fault x w within some is =

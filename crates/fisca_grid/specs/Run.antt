@@ -1,5 +1,5 @@
 -- What a run answers, and what it has written then.
-use Rattle.std.specs.Prelude.{◌≡◌, ℕ, ◌<◌, ◌++◌, Bool, true, false, List, take, length, Contains, Option, Result, Ok, Err}
+use Rattle.std.specs.Prelude.{◌≡◌, ℕ, ◌<◌, ◌≤◌, ◌++◌, Bool, true, false, List, take, length, Contains, Option, Result, Ok, Err}
 use Rattle.std.specs.List.{flat_map}
 use Rattle.std.specs.Io.KnownBytes.{Appends, Keeps}
 use Rattle.fisca_grid.specs.Row.{Row, Nothing, Line, Fault}
@@ -34,9 +34,9 @@ pub record IsBrokenOff (position : ℕ) (all : List (ℕ × List ℕ)) (old new 
   pub prefix : IsProperPrefix part text
   pub written : Appends old new (texts (lines_before position all) ++ part)
 
--- what a run answers, where a sink held `old` and then holds `new`
+-- what a run answers, where a sink held `old` and then holds `new`. It ends only where its start is a position or the size
 abbrev pub IsRun : {F : Type 0} → (ℕ → Row F) → ℕ → ℕ → Option ℕ → Option (List ℕ) → Option (List ℕ) → Result RunEnd (RunFault F) → Type 0
-IsRun row size from limit old new (Ok end) = (run_end row size from limit ≡ told_end end) × Appends old new (texts (lines row size from limit))
+IsRun row size from limit old new (Ok end) = (from ≤ size) × (run_end row size from limit ≡ told_end end) × Appends old new (texts (lines row size from limit))
 IsRun row size from limit old new (Err fault.BadPosition) = (size < from) × Keeps old new
 IsRun row size from limit old new (Err (fault.Eval position x)) = (run_end row size from limit ≡ FaultAt position x) × Appends old new (texts (lines row size from limit))
 IsRun row size from limit old new (Err (fault.Write position)) = IsBrokenOff position (lines row size from limit) old new

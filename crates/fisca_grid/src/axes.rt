@@ -3,11 +3,13 @@
 ghost use Rattle.std.specs.Prelude.{◌≡◌, ◌≢◌, ℕ, [], ◌∷◌, ◌≤◌, ◌<◌, ◌*◌, ◌+◌, ◌^◌, ◌+ℤ◌, ◌-ℤ◌, ◌*ℤ◌, pos, unsigned_abs, length, sum, IfOk, IfErr, IfSome, Some, None, Ok, true, slice_get};
 ghost use Rattle.std.specs.Int.{◌∣◌, IsGcd};
 ghost use Rattle.std.specs.Option.{ForSome};
+ghost use Rattle.fisca_num.specs.Number.{number_cmp};
 ghost use Rattle.fisca_num.specs.Operations.{number_of};
 ghost use Rattle.fisca_grid.specs.Axes.{axes_fault, axis_fault, is_bound, step_of, size_of, IsLine};
 
 use fisca_num::Fraction;
 use std::alloc::{AllocError, AllocFailed, Global};
+use std::cmp::Ordering;
 use std::marker::Model;
 use thiserror::Error;
 
@@ -90,6 +92,15 @@ fn times(a: i64, by: u64) -> i64
     a * by as i64
 }
 
+/// A product of words.
+fn wide_product(a: i64, by: u64) -> i128
+    requires above { unsigned_abs a < 2 ^ 63 }
+    requires below { by < 2 ^ 63 }
+    ensures { result ≡ a *ℤ pos by }
+{
+    i128::from(a) * i128::from(by)
+}
+
 /// The difference of two words whose sizes are at most 10^12.
 fn way(from: i64, to: i64) -> i64
     requires from { unsigned_abs from ≤ 1000000000000 }
@@ -156,12 +167,31 @@ impl Axis {
         }
     }
 
+    /// The numerator of the value at a place, over the denominator.
+    fn numerator_at(&self, place: u64) -> i64
+        requires { place < self.now.spec.count }
+        ensures value { result ≡ self.now.first +ℤ pos place *ℤ self.now.increment }
+        ensures within { unsigned_abs result < 2 ^ 63 }
+    {
+        along(self.first, self.increment, place)
+    }
+
     /// The value at a place.
     fn value(&self, place: u64) -> Fraction
         requires { place < self.now.spec.count }
         ensures { step_of self.now.spec place ≡ Ok result }
     {
-        fraction(along(self.first, self.increment, place), self.denominator)
+        fraction(self.numerator_at(place), self.denominator)
+    }
+
+    /// How the value at a place stands to a number. Nothing is brought to lowest terms.
+    fn compare(&self, place: u64, number: Fraction) -> Ordering
+        requires { place < self.now.spec.count }
+        ensures { IfOk (step_of self.now.spec place) (λ value. result ≡ number_cmp value number) }
+    {
+        let left = wide_product(self.numerator_at(place), number.denominator());
+        let right = wide_product(number.numerator(), self.denominator);
+        left.cmp(&right)
     }
 }
 
@@ -275,6 +305,16 @@ impl Axes {
         ensures { IfSome (slice_get self.now axis) (λ spec. step_of spec position ≡ Ok result) }
     {
         self.axes[axis].value(position)
+    }
+
+    /// How the value of an axis at a position of the grid stands to a number: as `step(axis, position).cmp(&number)`,
+    /// without working out the value's lowest terms.
+    pub fn compare(&self, axis: usize, position: u64, number: Fraction) -> Ordering
+        requires axis { axis < length self.now }
+        requires position { ForSome (slice_get self.now axis) (λ spec. position < spec.count) }
+        ensures { IfSome (slice_get self.now axis) (λ spec. IfOk (step_of spec position) (λ value. result ≡ number_cmp value number)) }
+    {
+        self.axes[axis].compare(position, number)
     }
 }
 

@@ -44,6 +44,41 @@ fn steps_divide_the_way_exactly(rt: HostRuntime) -> Result<(), Fail> {
 }
 
 #[test]
+fn values_are_compared_exactly(rt: HostRuntime) -> Result<(), Fail> {
+    let table = [
+        (axis("-0.5", "0.25", 4)?, 0, "-0.25", Ordering::Less),
+        (axis("-0.5", "0.25", 4)?, 1, "-0.25", Ordering::Equal),
+        (axis("-0.5", "0.25", 4)?, 2, "-0.25", Ordering::Greater),
+        (
+            axis("0", "1", 4)?,
+            1,
+            "0.333333333333333333",
+            Ordering::Greater,
+        ),
+        (
+            axis("0", "1", 4)?,
+            1,
+            "0.333333333333333334",
+            Ordering::Less,
+        ),
+        (axis("0", "1", 4)?, 3, "1", Ordering::Equal),
+        (
+            axis("7", "9", 1)?,
+            0,
+            "-9223372036854775807",
+            Ordering::Greater,
+        ),
+    ];
+    for (spec, position, literal, wanted) in table {
+        let axes = Axes::build(rt.alloc(), &[spec], &[1])?;
+        assert!(rt; position < axes.size());
+        let number = Fraction::from_decimal(literal)?;
+        assert_eq!(rt; axes.compare(0, position, number), wanted, "{literal}");
+    }
+    Ok(())
+}
+
+#[test]
 fn the_first_fault_of_an_axis_is_told(rt: HostRuntime) -> Result<(), Fail> {
     let table = [
         (axis("7", "9", 0)?, AxesFault::BadCount),

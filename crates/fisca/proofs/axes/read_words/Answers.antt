@@ -1,5 +1,5 @@
 use Rattle.std.proofs.Common.{string_bytes, option_map}
-use Rattle.fisca.proofs.Asked.{too_many}
+use Rattle.fisca.proofs.ManyWords.{too_many}
 use Rattle.fisca.proofs.axes.read_words.Goals as goal
 
 pub returns-in_default-clause-err : goal.returns-in_default-clause-err

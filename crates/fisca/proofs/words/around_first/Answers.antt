@@ -1,4 +1,3 @@
-use Rattle.std.proofs.Common.{rules}
 use Rattle.fisca.proofs.Cuts.{around_first_is}
 use Rattle.fisca.proofs.words.around_first.Goals as goal
 

@@ -38,7 +38,7 @@ pub record FilteredAxes : Type 0 where
   pub axes : List AxisSpec
   pub keep : Option Condition
 
--- the condition that a text states, which it has to
+-- a condition, which a text that is given has to state
 abbrev pub required_condition : Option Condition → Result (Option Condition) Refusal
 required_condition None = Err BadCondition
 required_condition (Some condition) = Ok (Some condition)
@@ -53,17 +53,17 @@ abbrev pub filtered_axis : AxisSpec → Result (Option Condition) Refusal → Re
 filtered_axis axis (Ok keep) = Ok (record { axes = axis ∷ []; keep = keep })
 filtered_axis axis (Err refusal) = Err refusal
 
--- a named axis, which has to be within its limits, with the condition of this text
+-- a named axis, which has to be within its limits, with the condition that this text states of it
 abbrev pub axis_within_limits : List ℕ × AxisSpec → Option AxesFault → Option (List ℕ) → Result FilteredAxes Refusal
 axis_within_limits named None keep = filtered_axis named.1 (optional_condition named.0 keep)
 axis_within_limits named (Some fault) keep = Err (Axes fault)
 
--- the axis that a word describes, which it has to, with the condition of this text
+-- the axis that a word describes, as it has to, with the condition that this text states of it
 abbrev pub required_axis : Option (List ℕ × AxisSpec) → Option (List ℕ) → Result FilteredAxes Refusal
 required_axis None keep = Err BadWord
 required_axis (Some named) keep = axis_within_limits named (axes_fault (named.1 ∷ []) (1 ∷ [])) keep
 
--- the axes and the condition that the words and this text ask for, or the first refusal: of the words, then of the axes, then of the condition. At present there is one axis
+-- the axes that the words describe, with the condition that this text states, or the first refusal: of the words, then of the axes, then of the condition. At present there is one axis
 abbrev pub axes_of_words : List (List ℕ) → Option (List ℕ) → Result FilteredAxes Refusal
 axes_of_words [] keep = Err (Axes NoAxes)
 axes_of_words (word ∷ []) keep = required_axis (axis_of word) keep

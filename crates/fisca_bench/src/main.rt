@@ -3,6 +3,7 @@
 #![tactic(auto)]
 
 mod numbers;
+mod params;
 mod periods;
 mod yaml;
 
@@ -20,6 +21,7 @@ fn main(rt: HostRuntime) -> io::Result<()> {
         [] => list(&rt),
         [subject, rest @ ..] => match subject.as_str() {
             "numbers" => numbers::run(&rt, rt.alloc(), rest),
+            "params" => params::run(&rt, rt.alloc(), rest),
             "periods" => periods::run(&rt, rt.alloc(), rest),
             "yaml" => yaml::run(&rt, rt.alloc(), rest),
             _ => list(&rt),
@@ -31,6 +33,7 @@ fn main(rt: HostRuntime) -> io::Result<()> {
 fn list(rt: &impl Print) -> io::Result<()> {
     println!(rt; "fisca_bench SUBJECT WORD.. COUNT")?;
     println!(rt; "numbers add|mul|cmp|text|decimal whole|hundredths|unlike COUNT")?;
+    println!(rt; "params read|value_at|calc [whole|hundredths] COUNT")?;
     println!(rt; "periods read|text|offset|named|sub|compare|hash COUNT")?;
     println!(rt; "yaml NAME COUNT")
 }

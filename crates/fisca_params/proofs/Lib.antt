@@ -1,4 +1,5 @@
 pub mod DateMaps
+pub mod Days
 pub mod Indexed
 pub mod Latest
 pub mod Ordered

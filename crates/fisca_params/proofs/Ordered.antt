@@ -1,30 +1,70 @@
--- A place put where its file goes in order.
-use Rattle.std.proofs.Common.{◌≡◌, ℕ, zero, suc, ◌<◌, Bool, true, false, cond, List, [], ◌∷◌, length, get_or, map, refl, ap, arith}
-use Rattle.std.proofs.lemmas.List.{get_or_default}
-use Rattle.std.proofs.lemmas.List.Sorted.{All-permutation, IsPermutation-insert}
-use Rattle.std.specs.List.{insert}
+-- Files in a map by path and place, which go in one after another.
+use Rattle.std.proofs.Common.{◌≡◌, ℕ, ◌<◌, Bool, true, false, cond, List, [], ◌∷◌, map, refl, sym, ◌∙◌, ap, arith}
+use Rattle.std.specs.BTreeMap.{insert_entry}
+use Rattle.std.specs.Cmp.{nat_cmp_is}
+use Rattle.std.specs.Cmp.Lexicographic.{slice_cmp}
+use Rattle.std.specs.Ordering.{nat_cmp, ordering_then, is_lt, match_ordering}
+use Rattle.std.specs.declared.cmp.Ordering.{Ordering}
+use Rattle.std.specs.declared.cmp.Ordering.TheVariants.{Less, Equal, Greater}
 use Rattle.fisca_params.specs.Source.{Source}
 use Rattle.fisca_params.specs.Files.{is_path_before, put_by_path}
-use Rattle.fisca_params.specs.Order.{index_for}
+use denote.Ref.{Bor}
 
-insert-step : (f : ℕ → Source) (place y : ℕ) (ys : List ℕ) (v : Bool) (k : ℕ) → map f (insert ys k place) ≡ put_by_path (f place) (map f ys) →
-    map f (insert (y ∷ ys) (cond v 0 (suc k)) place) ≡ cond v (f place ∷ f y ∷ map f ys) (f y ∷ put_by_path (f place) (map f ys))
-insert-step f place y ys true k h = refl
-insert-step f place y ys false k h = ap (λ gs. f y ∷ gs) h
+abbrev pub Key : Type 0
+Key = Bor (List ℕ) × ℕ
 
-pub insert-index : (f : ℕ → Source) (place : ℕ) (xs : List ℕ) → map f (insert xs (index_for (f place).path (map f xs)) place) ≡ put_by_path (f place) (map f xs)
-insert-index f place [] = refl
-insert-index f place (y ∷ ys) =
-    insert-step f place y ys (is_path_before (f place).path (f y).path) (index_for (f place).path (map f ys)) (insert-index f place ys)
+abbrev pub Placed : Type 0
+Placed = Key × Bor Source
 
-within_cons : (xs : List ℕ) (place n : ℕ) → place < n → ((k : ℕ) → k < length xs → get_or xs k 0 < n) → (k d : ℕ) → k < length (place ∷ xs) → get_or (place ∷ xs) k d < n
-within_cons xs place n p h zero d q = p
-within_cons xs place n p h (suc k) d q =
-    let inside : k < length xs = omega arith in
-    let same : get_or xs k d ≡ get_or xs k 0 = get_or_default xs k d 0 inside in
-    let below : get_or xs k 0 < n = h k inside in
-    rw same below
+-- by path, then place
+abbrev pub key_cmp : Key → Key → Ordering
+key_cmp a b = ordering_then (slice_cmp nat_cmp a.0.now b.0.now) (nat_cmp a.1 b.1)
 
-pub within-insert : (xs : List ℕ) (at place n : ℕ) → place < n → ((k : ℕ) → k < length xs → get_or xs k 0 < n) → (k : ℕ) → k < length (insert xs at place) → get_or (insert xs at place) k 0 < n
-within-insert xs at place n p h k q =
-    All-permutation (λ x. x < n) (place ∷ xs) (insert xs at place) (IsPermutation-insert xs at place) (within_cons xs place n p h) k 0 q
+abbrev pub source_of : Placed → Source
+source_of e = e.1.now
+
+-- each stands under its own path, and under a place before n
+abbrev pub Kept : ℕ → List Placed → Type 0
+Kept n [] = Unit
+Kept n (e ∷ es) = (e.0.0.now ≡ e.1.now.path) × (e.0.1 < n) × Kept n es
+
+before_or_behind : {X : Type 0} (o : Ordering) (a b c : X) → match_ordering (ordering_then o Greater) a b c ≡ cond (is_lt o) a c
+before_or_behind Less a b c = refl
+before_or_behind Equal a b c = refl
+before_or_behind Greater a b c = refl
+
+-- a later place goes behind the same path
+insert-behind : (e : Placed) (es : List Placed) (k : Key) (f : Bor Source) → e.0.1 < k.1 →
+    insert_entry key_cmp (e ∷ es) k f ≡ cond (is_lt (slice_cmp nat_cmp k.0.now e.0.0.now)) ((k, f) ∷ e ∷ es) (e ∷ insert_entry key_cmp es k f)
+insert-behind e es k f p =
+    let later : Greater ≡ nat_cmp k.1 e.0.1 = nat_cmp_is k.1 e.0.1 Greater p in
+    ap (λ o. match_ordering (ordering_then (slice_cmp nat_cmp k.0.now e.0.0.now) o) ((k, f) ∷ e ∷ es) ((e.0, f) ∷ es) (e ∷ insert_entry key_cmp es k f)) (sym later)
+    ∙ before_or_behind (slice_cmp nat_cmp k.0.now e.0.0.now) ((k, f) ∷ e ∷ es) ((e.0, f) ∷ es) (e ∷ insert_entry key_cmp es k f)
+
+map-cond : (v : Bool) (xs ys : List Placed) → map source_of (cond v xs ys) ≡ cond v (map source_of xs) (map source_of ys)
+map-cond true xs ys = refl
+map-cond false xs ys = refl
+
+pub insert-in_order : (es : List Placed) (k : Key) (f : Bor Source) → Kept k.1 es → k.0.now ≡ f.now.path →
+    map source_of (insert_entry key_cmp es k f) ≡ put_by_path f.now (map source_of es)
+insert-in_order [] k f h own = refl
+insert-in_order (e ∷ es) k f h own =
+    ap (map source_of) (insert-behind e es k f h.1)
+    ∙ map-cond (is_lt (slice_cmp nat_cmp k.0.now e.0.0.now)) ((k, f) ∷ e ∷ es) (e ∷ insert_entry key_cmp es k f)
+    ∙ ap (λ p. cond (is_lt (slice_cmp nat_cmp p e.0.0.now)) (f.now ∷ e.1.now ∷ map source_of es) (e.1.now ∷ map source_of (insert_entry key_cmp es k f))) own
+    ∙ ap (λ p. cond (is_lt (slice_cmp nat_cmp f.now.path p)) (f.now ∷ e.1.now ∷ map source_of es) (e.1.now ∷ map source_of (insert_entry key_cmp es k f))) h.0
+    ∙ ap (λ gs. cond (is_path_before f.now.path e.1.now.path) (f.now ∷ e.1.now ∷ map source_of es) (e.1.now ∷ gs)) (insert-in_order es k f h.2 own)
+
+Kept-more : (n m : ℕ) (es : List Placed) → n < m → Kept n es → Kept m es
+Kept-more n m [] p h = h
+Kept-more n m (e ∷ es) p h = (h.0, omega (arith, h.1), Kept-more n m es p h.2)
+
+Kept-cond : (v : Bool) (m : ℕ) (xs ys : List Placed) → Kept m xs → Kept m ys → Kept m (cond v xs ys)
+Kept-cond true m xs ys h k = h
+Kept-cond false m xs ys h k = k
+
+pub Kept-insert : (es : List Placed) (k : Key) (f : Bor Source) (m : ℕ) → Kept k.1 es → k.0.now ≡ f.now.path → k.1 < m → Kept m (insert_entry key_cmp es k f)
+Kept-insert [] k f m h own p = (own, p, h)
+Kept-insert (e ∷ es) k f m h own p =
+    let old : Kept m (e ∷ es) = Kept-more k.1 m (e ∷ es) p h in
+    rw (insert-behind e es k f h.1) (Kept-cond (is_lt (slice_cmp nat_cmp k.0.now e.0.0.now)) m ((k, f) ∷ e ∷ es) (e ∷ insert_entry key_cmp es k f) (own, p, old) (old.0, old.1, Kept-insert es k f m h.2 own p))

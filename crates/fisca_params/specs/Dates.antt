@@ -1,5 +1,5 @@
 -- Values that hold from a date on.
-use Rattle.std.specs.Prelude.{Bool, true, ◌&&◌, List, [], ◌∷◌, Option, Some, None, option_and_then, if◌then◌else◌}
+use Rattle.std.specs.Prelude.{ℕ, ◌+◌, ◌*◌, Bool, true, ◌&&◌, List, [], ◌∷◌, Option, Some, None, option_and_then, if◌then◌else◌}
 use Rattle.std.specs.Ordering.{is_lt, match_ordering}
 use Rattle.fisca_time.specs.Instant.{CivilDate, date_cmp}
 use Rattle.fisca_params.specs.declared.dates.Dated.{Dated}
@@ -40,3 +40,7 @@ in_time_with sorted (d ∷ ds) = in_time_with (put_in_time d sorted) ds
 -- in order of time
 abbrev pub in_time : {V : Type 0} → List (Dated V) → List (Dated V)
 in_time ds = in_time_with [] ds
+
+-- a date as one number, in order of time
+abbrev pub day_number : CivilDate → ℕ
+day_number d = d.year * 65536 + (d.month * 256 + d.day)

@@ -6,7 +6,6 @@ pub mod Lookup
 pub mod Lowest
 pub mod Names
 pub mod Nodes
-pub mod Order
 pub mod Paths
 pub mod Scale
 pub mod Source

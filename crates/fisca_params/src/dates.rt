@@ -1,7 +1,9 @@
 //! Values that hold from a date on.
-ghost use Rattle.std.specs.Prelude.{◌≡◌, [], IsTrue, IfOk, map, option_and_then};
+ghost use Rattle.std.specs.Prelude.{◌≡◌, ◌<◌, [], IsTrue, IfOk, map, option_and_then};
+ghost use Rattle.std.specs.Ordering.{is_le};
+ghost use Rattle.fisca_time.specs.Instant.{date_cmp};
 ghost use Rattle.fisca_yaml.specs.Views.{node, entries_view};
-ghost use Rattle.fisca_params.specs.Dates.{value_at};
+ghost use Rattle.fisca_params.specs.Dates.{value_at, day_number};
 ghost use Rattle.fisca_params.specs.Content.{read_value, written_value, written_values, dates_by};
 ghost use Rattle.fisca_params.specs.Written.{dated_pair};
 
@@ -44,7 +46,9 @@ impl<V: Copy> Dates<V> {
     pub(crate) fn value_at(&self, instant: Instant) -> Option<V>
         ensures { result ≡ value_at self.now instant }
     {
-        let count = self.items.partition_point(|dated| dated.date <= instant);
+        let count = self
+            .items
+            .partition_point(|dated| is_reached(dated.date, instant));
         if count == 0 {
             return None;
         }
@@ -78,6 +82,23 @@ impl<V> Dates<V> {
             items: Vec::new(alloc),
         }
     }
+}
+
+/// A date as one number, in order of time: one comparison of numbers then takes the place of up to three.
+fn day_number(date: Instant) -> u32
+    ensures number { result ≡ day_number date }
+    ensures month { date.month < 256 }
+    ensures day { date.day < 256 }
+{
+    u32::from(date.year()) * 65_536 + (u32::from(date.month()) * 256 + u32::from(date.day()))
+}
+
+/// Whether a date is not after an instant.
+#[tactic(auto, using(crate::proofs::Days::reached_by_number))]
+fn is_reached(date: Instant, instant: Instant) -> bool
+    ensures { result ≡ is_le (date_cmp date instant) }
+{
+    day_number(date) <= day_number(instant)
 }
 
 /// A kind of value that a parameter may have.

@@ -1,9 +1,8 @@
 //! Reading parameter files.
-ghost use Rattle.std.specs.Prelude.{◌≡◌, ◌≢◌, ◌<◌, ◌≤◌, ℕ, Some, None, length, map, slice_index, IfOk, IfErr, OnOk};
+ghost use Rattle.std.specs.Prelude.{◌≡◌, ◌≢◌, ◌<◌, ◌≤◌, Some, None, length, map, IfOk, IfErr, OnOk};
 ghost use Rattle.fisca_params.specs.Answers.{Leaves};
 ghost use Rattle.fisca_params.specs.Files.{tree_of, with_file, with_files, in_path_order};
 ghost use Rattle.fisca_params.specs.Nodes.{IsIndexed};
-ghost use Rattle.fisca_params.specs.Order.{source_at, index_for};
 
 use crate::build::put_below;
 use crate::nodes::Nodes;
@@ -12,6 +11,7 @@ use crate::tree::ParamTree;
 use crate::{ParamFault, SourceFile};
 use fisca_yaml::{Kind, YamlFault, read};
 use std::alloc::{AllocError, Global};
+use std::collections::BTreeMap;
 
 impl ParamTree {
     /// Reads the parameter files among these files, in order of the bytes of their paths, and files of one path in the
@@ -27,58 +27,39 @@ impl ParamTree {
         ensures none { IfErr result (λ fault. fault ≢ ParamFault.Memory → tree_of files.now ≡ None) }
     {
         let mut nodes = Nodes::new(alloc)?;
-        let places = in_path_order(alloc, files)?;
-        put_sources(&mut nodes, alloc, files, &places)?;
+        let sorted = in_path_order(alloc, files)?;
+        put_sources(&mut nodes, alloc, &sorted)?;
         Ok(ParamTree { nodes })
     }
 }
 
-/// The places of the files in order of their paths.
-fn in_path_order(alloc: Global, files: &[SourceFile]) -> Result<Vec<usize>, AllocError>
-    ensures order { IfOk result (λ places. map (source_at files.now) places.items ≡ in_path_order files.now) }
-    ensures within { IfOk result (λ places. (k : ℕ) → k < length places.items → slice_index places.items k < length files.now) }
+/// The files in order of their paths, those of one path as they stand here. Each has its place here in its key.
+fn in_path_order<'f>(
+    alloc: Global,
+    files: &'f [SourceFile],
+) -> Result<BTreeMap<(&'f str, usize), &'f SourceFile>, AllocError>
+    ensures { IfOk result (λ sorted. map (λ e. e.1.now) sorted.entries ≡ in_path_order files.now) }
 {
-    let mut places = Vec::new(alloc);
+    let mut sorted = BTreeMap::new(alloc);
     for (place, file) in files.iter().enumerate() {
-        let at = index_for(files, &places, file.path());
-        places.insert(at, place)?;
+        sorted.insert((file.path(), place), file)?;
     }
-    Ok(places)
-}
-
-/// Where a file of this path goes among these files, which are in order.
-fn index_for(files: &[SourceFile], places: &[usize], path: &str) -> usize
-    requires { (k : ℕ) → k < length places.now → slice_index places.now k < length files.now }
-    ensures within { result ≤ length places.now }
-    ensures index { result ≡ index_for path.now (map (source_at files.now) places.now) }
-{
-    let mut at = 0;
-    'places: while at < places.len() {
-        let place = places[at];
-        if path < files[place].path() {
-            return at;
-        }
-        at += 1;
-    }
-    at
+    Ok(sorted)
 }
 
 /// Puts the nodes of these files into the tree, one file after another.
 fn put_sources(
     nodes: &mut Nodes,
     alloc: Global,
-    files: &[SourceFile],
-    places: &[usize],
+    sorted: &BTreeMap<(&str, usize), &SourceFile>,
 ) -> Result<(), ParamFault>
     requires root { 0 < length nodes.old.nodes.items }
     requires indexed { IsIndexed nodes.old.nodes.items nodes.old.children.items }
-    requires within { (k : ℕ) → k < length places.now → slice_index places.now k < length files.now }
-    ensures put { Leaves nodes.new.nodes.items result (with_files nodes.old.nodes.items (map (source_at files.now) places.now)) }
+    ensures put { Leaves nodes.new.nodes.items result (with_files nodes.old.nodes.items (map (λ e. e.1.now) sorted.now.entries)) }
     ensures indexed { OnOk result (IsIndexed nodes.new.nodes.items nodes.new.children.items) }
 {
-    for place in places {
-        let file = *place;
-        put_source(nodes, alloc, file, &files[file])?;
+    for (key, source) in sorted.iter() {
+        put_source(nodes, alloc, key.1, source)?;
     }
     Ok(())
 }

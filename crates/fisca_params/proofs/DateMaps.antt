@@ -10,7 +10,7 @@ use Rattle.fisca_time.specs.Instant.{CivilDate, date_cmp}
 use Rattle.fisca_yaml.specs.Node.{Node}
 use Rattle.fisca_yaml.specs.declared.tree.Entry.{Entry}
 use Rattle.fisca_yaml.specs.Views.{entries_view}
-use Rattle.fisca_params.specs.declared.dates.Dated.{Dated}
+use Rattle.fisca_params.specs.Dates.{Dated}
 use Rattle.fisca_params.specs.Dates.{is_before, is_in_order, put_in_time, in_time_with}
 use Rattle.fisca_params.specs.Content.{Written, onto, written_if_both, read_value, read_all, dates_by, are_instants, is_date_map}
 use Rattle.fisca_params.specs.Written.{dated_pair}

@@ -1,5 +1,5 @@
 -- Dates as numbers have the order of time.
-use Rattle.std.proofs.Common.{◌≡◌, ℕ, ◌+◌, ◌*◌, ◌<◌, arith}
+use Rattle.std.proofs.Common.{◌≡◌, ℕ, ◌+◌, ◌*◌, ◌/◌, ◌%◌, ◌<◌, refl, sym, ◌∙◌, ap, arith}
 use Rattle.std.proofs.Math.Dec.{leb}
 use Rattle.std.proofs.lemmas.Bool.Decides.{leb_tells}
 use Rattle.std.specs.Cmp.{ranks}
@@ -7,7 +7,7 @@ use Rattle.std.specs.Ordering.{MatchOrdering, nat_cmp, ordering_then, is_le}
 use Rattle.std.specs.declared.cmp.Ordering.{Ordering}
 use Rattle.std.specs.declared.cmp.Ordering.TheVariants.{Less, Equal, Greater}
 use Rattle.fisca_time.specs.Instant.{CivilDate, date_cmp}
-use Rattle.fisca_params.specs.Dates.{day_number}
+use Rattle.fisca_params.specs.Dates.{day_number, date_of_number}
 
 -- how two numbers rank
 abbrev Ranks : Ordering → ℕ → ℕ → Type 0
@@ -39,5 +39,18 @@ le_by_rank Less x y h = grind (arith, leb_tells)
 le_by_rank Equal x y h = grind (arith, leb_tells)
 le_by_rank Greater x y h = grind (arith, leb_tells)
 
-pub reached_by_number : (a b : CivilDate) → a.month < 256 → a.day < 256 → b.month < 256 → b.day < 256 → leb (day_number a) (day_number b) ≡ is_le (date_cmp a b)
-reached_by_number a b m d m' d' = le_by_rank (date_cmp a b) (day_number a) (day_number b) (days-rank a b m d m' d')
+number-date : (n : ℕ) → day_number (date_of_number n) ≡ n
+number-date n = omega arith
+
+pub date_of_its_number : (d : CivilDate) → d.month < 256 → d.day < 256 → date_of_number (day_number d) ≡ d
+date_of_its_number d m h =
+    let year : day_number d / 65536 ≡ d.year = omega arith in
+    let month : day_number d / 256 % 256 ≡ d.month = omega arith in
+    let day : day_number d % 256 ≡ d.day = omega arith in
+    rw (year, month, day) refl
+
+pub reached_by_number : (n : ℕ) (b : CivilDate) → b.month < 256 → b.day < 256 → leb n (day_number b) ≡ is_le (date_cmp (date_of_number n) b)
+reached_by_number n b m d =
+    let date = date_of_number n in
+    ap (λ k. leb k (day_number b)) (sym (number-date n))
+    ∙ le_by_rank (date_cmp date b) (day_number date) (day_number b) (days-rank date b (omega arith) (omega arith) m d)

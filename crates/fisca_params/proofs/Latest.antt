@@ -1,13 +1,15 @@
 -- The latest member of a list in order of time stands just before the first member that is after the instant.
-use Rattle.std.proofs.Common.{◌≡◌, ◌≢◌, ℕ, zero, suc, ◌-◌, ◌<◌, ◌≤◌, Bool, true, false, not, ◌&&◌, List, [], ◌∷◌, length, get_or, Some, None, refl, sym, ◌∙◌, ap, arith}
+use Rattle.std.proofs.Common.{◌≡◌, ℕ, zero, suc, ◌+◌, ◌-◌, ◌/◌, ◌<◌, ◌≤◌, Bool, true, false, not, ◌&&◌, List, [], ◌∷◌, length, get_or, Some, None, refl, sym, ◌∙◌, ap, arith}
+use Rattle.std.proofs.lemmas.List.{get_or_default}
+use Rattle.std.specs.List.{slice_get}
 use Rattle.std.proofs.lemmas.Cmp.{then_total, on_total, nat_cmp_total}
 use Rattle.std.specs.Cmp.{IsTotalOrder}
 use Rattle.std.specs.declared.cmp.Ordering.{Ordering}
 use Rattle.std.specs.declared.cmp.Ordering.TheVariants.{Less, Equal, Greater}
 use Rattle.std.specs.Ordering.{is_lt, is_le, ordering_reverse}
-use Rattle.std.specs.List.Sorted.{IsPartitionedBy, IsPartitionPoint}
+use Rattle.std.specs.List.Sorted.{IsPartitionedBy}
 use Rattle.fisca_time.specs.Instant.{CivilDate, date_cmp}
-use Rattle.fisca_params.specs.declared.dates.Dated.{Dated}
+use Rattle.fisca_params.specs.Dates.{Dated}
 use Rattle.fisca_params.specs.Dates.{is_before, latest, is_in_order}
 
 pub date_total : IsTotalOrder date_cmp
@@ -94,11 +96,63 @@ latest_last i (d ∷ ds) (suc n) o p h f x =
     let later_on : latest ds i ≡ Some (get_or ds n x) = latest_last i ds n (tail_in_order d ds o) (omega arith) (λ k y q. h (suc k) y (omega arith)) (λ k y q r. f (suc k) y (omega arith) (omega arith)) x in
     rw (here, later_on, first_before d ds o n x (omega arith)) refl
 
-abbrev pub IsPoint : {V : Type 0} → CivilDate → List (Dated V) → ℕ → Type 0
-IsPoint i ds n = IsPartitionPoint (λ d. is_reached i d ≡ true) (λ d. is_reached i d ≡ false) ds n
+abbrev pub ReachedAt : {V : Type 0} → CivilDate → List (Dated V) → ℕ → Type 0
+ReachedAt {V} i ds n = (x : Dated V) → is_reached i (get_or ds n x) ≡ true
 
-pub latest-at_none : {V : Type 0} (i : CivilDate) (ds : List (Dated V)) (n : ℕ) → IsPoint i ds n → n ≡ 0 → latest ds i ≡ None
-latest-at_none i ds n h e = latest_none i ds (λ k x p. h.1 k x (omega arith) p)
+abbrev pub NoneFrom : {V : Type 0} → CivilDate → List (Dated V) → ℕ → Type 0
+NoneFrom {V} i ds n = (k : ℕ) (x : Dated V) → n ≤ k → k < length ds → is_reached i (get_or ds k x) ≡ false
 
-pub latest-at : {V : Type 0} (i : CivilDate) (ds : List (Dated V)) (n : ℕ) → is_in_order ds ≡ true → n ≤ length ds → IsPoint i ds n → n ≢ 0 → (x : Dated V) → latest ds i ≡ Some (get_or ds (n - 1) x)
-latest-at i ds n o p h some x = latest_last i ds (n - 1) o (omega arith) (λ k y q. h.0 k y (omega arith) (omega arith)) (λ k y q r. h.1 k y (omega arith) r) x
+not_true : (b : Bool) → (b ≡ true → ⊥) → b ≡ false
+not_true true h = absurd (h refl)
+not_true false h = refl
+
+-- behind a member that is not reached, none is
+pub none-from : {V : Type 0} (i : CivilDate) (ds : List (Dated V)) (n : ℕ) → is_in_order ds ≡ true → n < length ds → ((x : Dated V) → is_reached i (get_or ds n x) ≡ false) → NoneFrom i ds n
+none-from i ds n o p h k x q r =
+    not_true (is_reached i (get_or ds k x)) (λ so. let at : is_reached i (get_or ds n x) ≡ true = reached-partitioned i ds o n k x q r so in let no : is_reached i (get_or ds n x) ≡ false = h x in cc)
+
+pub latest-none : {V : Type 0} (i : CivilDate) (ds : List (Dated V)) → NoneFrom i ds 0 → latest ds i ≡ None
+latest-none i ds h = latest_none i ds (λ k x p. h k x (omega arith) p)
+
+pub latest-at : {V : Type 0} (i : CivilDate) (ds : List (Dated V)) (n : ℕ) → is_in_order ds ≡ true → n < length ds → ReachedAt i ds n → NoneFrom i ds (n + 1) → (x : Dated V) → latest ds i ≡ Some (get_or ds n x)
+latest-at i ds n o p h f x = latest_last i ds n o p (λ k y q. reached-partitioned i ds o k n y q p (h y)) (λ k y q r. f k y (omega arith) r) x
+
+-- the member at a place, whatever stands past the end
+member_at : {V : Type 0} (ds : List (Dated V)) (n : ℕ) (e : Dated V) → n < length ds → e ≡ get_or ds n e → (x : Dated V) → get_or ds n x ≡ e
+member_at ds n e p at x = get_or_default ds n x e p ∙ sym at
+
+-- the place is reached, and none is from the end of so many members on
+abbrev pub IsBetween : {V : Type 0} → CivilDate → List (Dated V) → ℕ → ℕ → Type 0
+IsBetween i ds place size = (0 < size) × (place + size ≤ length ds) × ReachedAt i ds place × NoneFrom i ds (place + size)
+
+pub upper-half : {V : Type 0} (i : CivilDate) (ds : List (Dated V)) (place size step : ℕ) (e : Dated V) → IsBetween i ds place size → 1 < size → step ≡ size / 2 →
+    e ≡ get_or ds (place + size / 2) e → is_reached i e ≡ true → IsBetween i ds (place + step) (size - size / 2)
+upper-half i ds place size step e h some s at r =
+    let inside : place + size / 2 < length ds = omega (arith, h.1) in
+    let same : (place + step) + (size - size / 2) ≡ place + size = omega arith in
+    let here : place + step ≡ place + size / 2 = omega arith in
+    (omega arith, omega (arith, h.1), λ x. rw (here, member_at ds (place + size / 2) e inside at x) r, rw same h.3)
+
+pub lower-half : {V : Type 0} (i : CivilDate) (ds : List (Dated V)) (place size step : ℕ) (e : Dated V) → is_in_order ds ≡ true → IsBetween i ds place size → 1 < size → step ≡ 0 →
+    e ≡ get_or ds (place + size / 2) e → is_reached i e ≡ false → IsBetween i ds (place + step) (size - size / 2)
+lower-half i ds place size step e o h some s at r =
+    let inside : place + size / 2 < length ds = omega (arith, h.1) in
+    let here : place + step ≡ place = omega arith in
+    let none : NoneFrom i ds (place + size / 2) = none-from i ds (place + size / 2) o inside (λ x. rw (member_at ds (place + size / 2) e inside at x) r) in
+    (omega arith, omega (arith, h.1), rw here h.2, λ k x p q. none k x (omega arith) q)
+
+pub first-not : {V : Type 0} (i : CivilDate) (ds : List (Dated V)) (e : Dated V) → is_in_order ds ≡ true → 0 < length ds → e ≡ get_or ds 0 e → is_reached i e ≡ false → latest ds i ≡ None
+first-not i ds e o p at r = latest-none i ds (none-from i ds 0 o p (λ x. rw (member_at ds 0 e p at x) r))
+
+slice_get-at : {V : Type 0} (ds : List (Dated V)) (n : ℕ) (x : Dated V) → n < length ds → Some (get_or ds n x) ≡ slice_get ds n
+slice_get-at [] n x p = absurd (omega arith)
+slice_get-at (d ∷ ds) zero x p = refl
+slice_get-at (d ∷ ds) (suc n) x p = slice_get-at ds n x (omega arith)
+
+pub latest-between : {V : Type 0} (i : CivilDate) (ds : List (Dated V)) (place size : ℕ) (x : Dated V) → is_in_order ds ≡ true → IsBetween i ds place size → size ≤ 1 →
+    (place < length ds) × (latest ds i ≡ slice_get ds place)
+latest-between i ds place size x o h one =
+    let inside : place < length ds = omega (arith, h.0, h.1) in
+    let same : place + size ≡ place + 1 = omega (arith, h.0) in
+    let none : NoneFrom i ds (place + 1) = rw same at h.3 in
+    (inside, latest-at i ds place o inside h.2 none x ∙ slice_get-at ds place x inside)

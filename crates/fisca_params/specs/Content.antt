@@ -6,7 +6,7 @@ use Rattle.fisca_num.specs.Number.{Number}
 use Rattle.fisca_time.specs.Instant.{CivilDate, instant_of_text}
 use Rattle.fisca_yaml.specs.Node.{Node, null, scalar, list, map, Items, no_items, item, Entries, no_entries, entry}
 use Rattle.fisca_yaml.specs.Find.{get, get_entry, as_bool, as_number, as_text}
-use Rattle.fisca_params.specs.declared.dates.Dated.{Dated}
+use Rattle.fisca_params.specs.Dates.{Dated}
 use Rattle.fisca_params.specs.declared.bracket.Bracket.{Bracket}
 use Rattle.fisca_params.specs.declared.content.Content.{Content}
 use Rattle.fisca_params.specs.declared.content.Content.TheVariants as content

@@ -1,8 +1,12 @@
 -- Values that hold from a date on.
-use Rattle.std.specs.Prelude.{ℕ, ◌+◌, ◌*◌, Bool, true, ◌&&◌, List, [], ◌∷◌, Option, Some, None, option_and_then, if◌then◌else◌}
+use Rattle.std.specs.Prelude.{ℕ, ◌+◌, ◌*◌, ◌/◌, ◌%◌, Bool, true, ◌&&◌, List, [], ◌∷◌, Option, Some, None, option_and_then, if◌then◌else◌}
 use Rattle.std.specs.Ordering.{is_lt, match_ordering}
 use Rattle.fisca_time.specs.Instant.{CivilDate, date_cmp}
-use Rattle.fisca_params.specs.declared.dates.Dated.{Dated}
+
+-- a value from a date on, or none from it on
+pub record Dated (V : Type 0) : Type 0 where
+  pub date : CivilDate
+  pub value : Option V
 
 abbrev pub is_before : CivilDate → CivilDate → Bool
 is_before a b = is_lt (date_cmp a b)
@@ -44,3 +48,7 @@ in_time ds = in_time_with [] ds
 -- a date as one number, in order of time
 abbrev pub day_number : CivilDate → ℕ
 day_number d = d.year * 65536 + (d.month * 256 + d.day)
+
+-- the date of a number
+abbrev pub date_of_number : ℕ → CivilDate
+date_of_number n = record { year = n / 65536; month = n / 256 % 256; day = n % 256 }

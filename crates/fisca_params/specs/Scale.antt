@@ -7,7 +7,7 @@ use Rattle.fisca_num.specs.Operations.{sum_of, difference_of, product_of}
 use Rattle.fisca_num.specs.declared.faults.NumFault.{NumFault}
 use Rattle.fisca_time.specs.Instant.{CivilDate}
 use Rattle.fisca_params.specs.Dates.{value_at}
-use Rattle.fisca_params.specs.declared.dates.Dated.{Dated}
+use Rattle.fisca_params.specs.Dates.{Dated}
 use Rattle.fisca_params.specs.declared.fault.ParamFault.{ParamFault}
 use Rattle.fisca_params.specs.declared.fault.ParamFault.TheVariants as fault
 use Rattle.fisca_params.specs.declared.bracket.Bracket.{Bracket}

@@ -1,9 +1,9 @@
 //! Values that hold from a date on.
-ghost use Rattle.std.specs.Prelude.{◌≡◌, ◌<◌, [], IsTrue, IfOk, map, option_and_then};
+ghost use Rattle.std.specs.Prelude.{◌≡◌, ◌<◌, ◌^◌, [], None, IfOk, MatchOption, length, slice_get, map, option_and_then};
 ghost use Rattle.std.specs.Ordering.{is_le};
 ghost use Rattle.fisca_time.specs.Instant.{date_cmp};
 ghost use Rattle.fisca_yaml.specs.Views.{node, entries_view};
-ghost use Rattle.fisca_params.specs.Dates.{value_at, day_number};
+ghost use Rattle.fisca_params.specs.Dates.{value_at, latest, day_number};
 ghost use Rattle.fisca_params.specs.Content.{read_value, written_value, written_values, dates_by};
 ghost use Rattle.fisca_params.specs.Written.{dated_pair};
 
@@ -15,11 +15,42 @@ use std::alloc::{AllocError, Global};
 use std::collections::BTreeMap;
 use std::marker::Model;
 
-/// A value from a date on, or none from it on.
-#[derive(Clone, Copy, Debug)]
+/// A value from a date on, or none from it on. The date is kept as its number, which is in order of time.
+#[derive(Debug, Drop)]
 pub(crate) struct Dated<V> {
-    pub date: Instant,
-    pub value: Option<V>,
+    day: u64,
+    value: Option<V>,
+}
+
+impl<V> Model for Dated<V> {
+    ghost use Rattle.std.specs.Prelude.{◌<◌, ◌^◌};
+    ghost use Rattle.fisca_params.specs.Dates.{Dated, date_of_number};
+
+    ghost Value = { Dated V };
+
+    ghost view = { λ d. record { date = date_of_number d.day; value = d.value } };
+
+    ghost invariant = { λ d. d.day < 2 ^ 32 };
+}
+
+impl<V> Dated<V> {
+    /// This value, or none, from this date on.
+    #[tactic(auto, using(crate::proofs::Days::date_of_its_number))]
+    fn new(date: Instant, value: Option<V>) -> Dated<V>
+        ensures { result ≡ record { date = date; value = value } }
+    {
+        let day = day_number(date);
+        Dated { day, value }
+    }
+
+    /// Whether the date is not after an instant. The sign of a difference tells it, so that a search can go on by
+    /// sums: the processor foretells a jump on dates wrongly half of the time.
+    #[tactic(auto, using(crate::proofs::Days::reached_by_number))]
+    fn is_reached(&self, instant: Instant) -> bool
+        ensures { result ≡ is_le (date_cmp self.now.date instant) }
+    {
+        self.day.wrapping_sub(day_number(instant) + 1) >= 1 << 63
+    }
 }
 
 /// Values that hold from a date on, in order of time.
@@ -30,11 +61,9 @@ pub(crate) struct Dates<V> {
 
 impl<V> Model for Dates<V> {
     ghost use Rattle.std.specs.Prelude.{List, IsTrue};
-    ghost use Rattle.fisca_params.specs.declared.dates.Dated.{Dated};
+    ghost use Rattle.fisca_params.specs.Dates.{Dated, is_in_order};
 
     ghost Value = { List (Dated V) };
-
-    ghost use Rattle.fisca_params.specs.Dates.{is_in_order};
 
     ghost view = { λ d. d.items.items };
 
@@ -46,13 +75,32 @@ impl<V: Copy> Dates<V> {
     pub(crate) fn value_at(&self, instant: Instant) -> Option<V>
         ensures { result ≡ value_at self.now instant }
     {
-        let count = self
-            .items
-            .partition_point(|dated| is_reached(dated.date, instant));
-        if count == 0 {
-            return None;
+        let place = self.latest(instant)?;
+        self.items[place].value
+    }
+
+    /// The place of the latest date not after an instant.
+    fn latest(&self, instant: Instant) -> Option<usize>
+        ensures { MatchOption result (latest self.now instant ≡ None)
+            (λ place. (place < length self.now) × (latest self.now instant ≡ slice_get self.now place)) }
+    {
+        match self.items.first() {
+            Some(first) if first.is_reached(instant) => {}
+            _ => return None,
         }
-        self.items[count - 1].value
+        let mut place = 0;
+        let mut size = self.items.len();
+        'halves: while size > 1 {
+            let half = size / 2;
+            let step = if self.items[place + half].is_reached(instant) {
+                half
+            } else {
+                0
+            };
+            place += step;
+            size -= half;
+        }
+        Some(place)
     }
 
     /// The values of a map, which keeps them in order of time.
@@ -64,10 +112,7 @@ impl<V: Copy> Dates<V> {
     {
         let mut items = Vec::new(alloc);
         for (date, value) in sorted.iter() {
-            items.push(Dated {
-                date: *date,
-                value: *value,
-            })?;
+            items.push(Dated::new(*date, *value))?;
         }
         Ok(Dates { items })
     }
@@ -84,21 +129,14 @@ impl<V> Dates<V> {
     }
 }
 
-/// A date as one number, in order of time: one comparison of numbers then takes the place of up to three.
-fn day_number(date: Instant) -> u32
+/// A date as one number, in order of time.
+fn day_number(date: Instant) -> u64
     ensures number { result ≡ day_number date }
     ensures month { date.month < 256 }
     ensures day { date.day < 256 }
+    ensures bound { result < 2 ^ 32 }
 {
-    u32::from(date.year()) * 65_536 + (u32::from(date.month()) * 256 + u32::from(date.day()))
-}
-
-/// Whether a date is not after an instant.
-#[tactic(auto, using(crate::proofs::Days::reached_by_number))]
-fn is_reached(date: Instant, instant: Instant) -> bool
-    ensures { result ≡ is_le (date_cmp date instant) }
-{
-    day_number(date) <= day_number(instant)
+    u64::from(date.year()) * 65_536 + (u64::from(date.month()) * 256 + u64::from(date.day()))
 }
 
 /// A kind of value that a parameter may have.

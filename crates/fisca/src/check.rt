@@ -26,7 +26,7 @@ fn text_of_count(alloc: Global, parameters: usize) -> Result<String, AllocError>
     format!(in alloc; "entities 0, variables 0, parameters {parameters}\n")
 }
 
-/// The refusal of parameter files, with the path of the file that is at fault.
+/// The refusal of parameter files for a fault, with the path of the file that it names.
 fn refuse(alloc: Global, files: &[SourceFile], fault: ParamFault) -> Refusal
     ensures { IsToldOf files.now fault result }
 {
@@ -52,7 +52,7 @@ fn refuse(alloc: Global, files: &[SourceFile], fault: ParamFault) -> Refusal
 /// The first refusal in this order is told, and nothing is written before it:
 ///
 /// - `TooManyFiles` exactly where more than 1,000 of the files are not ignored.
-/// - `Params`, with path and line, exactly where the parameter files make no tree.
+/// - `Params`, with the path and line that the fault names, exactly where the parameter files make no tree.
 /// - `Write` only where the sink failed in this call: it has a proper beginning of the line.
 /// - `Memory` only where memory was refused.
 ///

@@ -6,3 +6,4 @@ pub mod Ordered
 pub mod PathTexts
 pub mod Thresholds
 pub mod Walks
+pub mod Worked

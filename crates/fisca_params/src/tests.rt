@@ -260,3 +260,72 @@ fn faults_name_their_file_and_line(rt: HostRuntime) -> Result<(), Fail> {
     );
     Ok(())
 }
+
+#[test]
+fn brackets_without_a_field_are_skipped(rt: HostRuntime) -> Result<(), Fail> {
+    let later =
+        "brackets:\n- {threshold: {2013-01-01: 0, 2015-01-01: null}, rate: {2013-01-01: 0.5}}\n- {threshold: {2013-01-01: 10}, rate: {2014-01-01: 1}}\n- {rate: {2013-01-01: 9}}\n- {threshold: {2013-01-01: 20}}\n";
+    let both =
+        "metadata:\n  type: other\nbrackets:\n- {threshold: {2013-01-01: 0}, rate: {2013-01-01: 1}, amount: {2014-01-01: 7}}\n";
+    let files = [
+        ("parameters/a/later.yaml", later),
+        ("parameters/a/both.yaml", both),
+    ];
+    let tree = read(rt.alloc(), &files)?;
+    assert!(rt; sum(&tree, "a", "later", "2013-12-31", 14) == whole(7));
+    assert!(rt; sum(&tree, "a", "later", "2014-01-01", 14) == whole(9));
+    assert!(rt; sum(&tree, "a", "later", "2015-01-01", 14) == whole(4));
+    assert!(rt; sum(&tree, "a", "both", "2013-01-01", 14) == whole(14));
+    assert!(rt; sum(&tree, "a", "both", "2014-01-01", 14) == whole(7));
+    Ok(())
+}
+
+#[test]
+fn values_go_before_brackets(rt: HostRuntime) -> Result<(), Fail> {
+    let both = "brackets: []\nvalues:\n  2010-01-01: 2\n  2000-01-01: 1\n";
+    let quoted =
+        "metadata: {\"type\": 'single_amount'}\nbrackets:\n- {amount: {2000-01-01: 5}, threshold: {2000-01-01: 3}}\n";
+    let files = [
+        ("parameters/a/both.yaml", both),
+        ("parameters/a/quoted.yaml", quoted),
+        ("parameters/a/index.yaml", "unit: none\n"),
+        ("parameters/a/index.yml", "reference:\n- none\n"),
+    ];
+    let tree = read(rt.alloc(), &files)?;
+    assert_eq!(rt; tree.count(), 2);
+    let two = Some((NodeKind::Number, number(2, 1)));
+    assert!(rt;
+        look(&tree, &["a", "both"], "2009-12-31") == Some((NodeKind::Number, number(1, 1)))
+    );
+    assert!(rt; look(&tree, &["a", "both"], "9999-12-31") == two);
+    assert!(rt; look(&tree, &["a", "both", "values"], "2010-01-01").is_none());
+    assert!(rt; sum(&tree, "a", "quoted", "2010-01-01", 3) == whole(5));
+    assert!(rt; sum(&tree, "a", "quoted", "2010-01-01", 2) == whole(0));
+    Ok(())
+}
+
+#[test]
+fn the_first_file_in_order_of_paths_is_at_fault(rt: HostRuntime) -> Result<(), Fail> {
+    let alloc = rt.alloc();
+    let later = ("parameters/b.yaml", "[");
+    let first = ("parameters/a.yaml", "x:\n");
+    assert_eq!(rt; fault(alloc, &[later, first])?.as_str(), "BadParameter 1:1");
+    let twice = ("parameters/a.yaml", "2000-01-01: {v: 1}\n");
+    let good = ("parameters/a.yaml", "2000-01-01: 1\n");
+    assert_eq!(rt; fault(alloc, &[good, twice])?.as_str(), "DuplicateName 1:1");
+    assert_eq!(rt;
+        fault(alloc, &[good, ("parameters/a.yaml", "[")])?.as_str(),
+        "BadFlow 1:1"
+    );
+    let inner = "2000-01-01: {value: {a: 1}}\n";
+    assert_eq!(rt;
+        fault(alloc, &[("parameters/a.yaml", inner)])?.as_str(),
+        "BadParameter 0:1"
+    );
+    let text = "brackets:\n- {threshold: {2000-01-01: a}}\n";
+    assert_eq!(rt;
+        fault(alloc, &[("parameters/a.yaml", text)])?.as_str(),
+        "BadParameter 0:2"
+    );
+    Ok(())
+}

@@ -1,13 +1,11 @@
 -- The definitions of values and of scale sums, worked out on small parameters.
 use Rattle.std.proofs.Common.{◌≡◌, ℕ, ◌<◌, ◌*◌, ◌^◌, List, [], ◌∷◌, Some, None, refl, sym, lit<}
-use Rattle.std.specs.Prelude.{ℤ, pos, negsuc, Bool, true, false, unsigned_abs, Result, Ok, Err}
+use Rattle.std.specs.Prelude.{pos, negsuc, Bool, true, false, Ok, Err}
 use Rattle.std.proofs.Math.Nat.{eq-one_of_dvd-one}
-use Rattle.fisca_num.specs.declared.faults.NumFault.{NumFault}
-use Rattle.fisca_num.specs.Rational.{IsSame, IsLowest, ratio_sum, ratio_difference, ratio_product}
+use Rattle.fisca_num.specs.Rational.{IsSame, ratio_sum, ratio_difference, ratio_product}
 use Rattle.fisca_num.specs.Number.{Number, ratio_of, whole_number, zero_number}
 use Rattle.fisca_num.specs.Operations.{sum_of, difference_of, product_of, only_number_of}
 use Rattle.fisca_time.specs.Instant.{CivilDate}
-use Rattle.fisca_params.specs.declared.bracket.Bracket.{Bracket}
 use Rattle.fisca_params.specs.declared.fault.ParamFault.TheVariants as fault
 use Rattle.fisca_params.specs.Dates.{Dated, value_at, in_time}
 use Rattle.fisca_params.specs.Scale.{ScaleText, scale_sum}
@@ -79,10 +77,13 @@ since v = from (day 2013 1 1) v ∷ []
 
 abbrev n0 : Number
 n0 = zero_number
+
 abbrev n1000 : Number
 n1000 = whole 1000 (lit< tt)
+
 abbrev fiftieth : Number
 fiftieth = part 50 (lit< tt) (lit< tt)
+
 abbrev tenth : Number
 tenth = part 10 (lit< tt) (lit< tt)
 
@@ -95,8 +96,14 @@ contribution = record {
 
 of_1500 : scale_sum contribution (day 2016 11 1) (whole 1500 (lit< tt)) ≡ Ok (whole 70 (lit< tt))
 of_1500 =
-    rw (difference_is n1000 n0 n1000 refl (lit< tt), product_is fiftieth n1000 (whole 20 (lit< tt)) refl (lit< tt), sum_is n0 (whole 20 (lit< tt)) (whole 20 (lit< tt)) refl (lit< tt),
-        difference_is (whole 1500 (lit< tt)) n1000 (whole 500 (lit< tt)) refl (lit< tt), product_is tenth (whole 500 (lit< tt)) (whole 50 (lit< tt)) refl (lit< tt), sum_is (whole 20 (lit< tt)) (whole 50 (lit< tt)) (whole 70 (lit< tt)) refl (lit< tt)) refl
+    rw (
+      difference_is n1000 n0 n1000 refl (lit< tt),
+      product_is fiftieth n1000 (whole 20 (lit< tt)) refl (lit< tt),
+      sum_is n0 (whole 20 (lit< tt)) (whole 20 (lit< tt)) refl (lit< tt),
+      difference_is (whole 1500 (lit< tt)) n1000 (whole 500 (lit< tt)) refl (lit< tt),
+      product_is tenth (whole 500 (lit< tt)) (whole 50 (lit< tt)) refl (lit< tt),
+      sum_is (whole 20 (lit< tt)) (whole 50 (lit< tt)) (whole 70 (lit< tt)) refl (lit< tt),
+    ) refl
 
 of_1000 : scale_sum contribution (day 2016 11 1) n1000 ≡ Ok (whole 20 (lit< tt))
 of_1000 =

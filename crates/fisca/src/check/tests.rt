@@ -54,9 +54,18 @@ fn a_household_rule_set_has_four_parameters(rt: HostRuntime) -> Result<(), Fail>
     let scale =
         "brackets:\n- {threshold: {2013-01-01: 0}, rate: {2013-01-01: 0.02}}\n- {threshold: {2013-01-01: 1000}, rate: {2013-01-01: 0.1}}\n";
     let files = [
-        ("parameters/benefits/basic_income.yaml", "values:\n  2015-12-01: 600\n"),
-        ("parameters/benefits/housing_allowance.yaml", "1980-01-01: {value: 0.25}\n"),
-        ("parameters/general/age_of_majority.yaml", "1962-07-01: 18\n"),
+        (
+            "parameters/benefits/basic_income.yaml",
+            "values:\n  2015-12-01: 600\n",
+        ),
+        (
+            "parameters/benefits/housing_allowance.yaml",
+            "1980-01-01: {value: 0.25}\n",
+        ),
+        (
+            "parameters/general/age_of_majority.yaml",
+            "1962-07-01: 18\n",
+        ),
         ("parameters/taxes/contribution.yaml", scale),
     ];
     let line = "entities 0, variables 0, parameters 4\n";
@@ -73,11 +82,20 @@ fn a_refusal_names_path_and_line(rt: HostRuntime) -> Result<(), Fail> {
     let alloc = rt.alloc();
     let good = ("parameters/a.yaml", "2000-01-01: 1\n");
     let tabbed = ("parameters/b/c.yml", "# none\nvalues:\n\t2000-01-01: 1\n");
-    assert_eq!(rt; told(alloc, &[good, tabbed])?.as_str(), "parameters/b/c.yml:3: Tab");
+    assert_eq!(rt;
+        told(alloc, &[good, tabbed])?.as_str(),
+        "parameters/b/c.yml:3: Tab"
+    );
     let flat = ("parameters/d.yaml", "a:\n  b: 1\n");
-    assert_eq!(rt; told(alloc, &[flat, good])?.as_str(), "parameters/d.yaml:2: BadParameter");
+    assert_eq!(rt;
+        told(alloc, &[flat, good])?.as_str(),
+        "parameters/d.yaml:2: BadParameter"
+    );
     let folder = ("parameters/a/e.yaml", "2000-01-01: 1\n");
-    assert_eq!(rt; told(alloc, &[folder, good])?.as_str(), "parameters/a/e.yaml:1: DuplicateName");
+    assert_eq!(rt;
+        told(alloc, &[folder, good])?.as_str(),
+        "parameters/a/e.yaml:1: DuplicateName"
+    );
     Ok(())
 }
 
@@ -93,8 +111,14 @@ fn the_first_fault_in_order_of_paths_is_told(rt: HostRuntime) -> Result<(), Fail
         told(alloc, &[last, middle, first, other, module])?.as_str(),
         "parameters/b.yaml:1: BadParameter"
     );
-    assert_eq!(rt; told(alloc, &[last, middle])?.as_str(), "parameters/m.yaml:1: BadParameter");
-    assert_eq!(rt; told(alloc, &[last, other])?.as_str(), "parameters/z.yaml:1: BadFlow");
+    assert_eq!(rt;
+        told(alloc, &[last, middle])?.as_str(),
+        "parameters/m.yaml:1: BadParameter"
+    );
+    assert_eq!(rt;
+        told(alloc, &[last, other])?.as_str(),
+        "parameters/z.yaml:1: BadFlow"
+    );
     Ok(())
 }
 

@@ -107,7 +107,7 @@ impl Fraction {
         ensures value { result ≡ self.numerator *ℤ pos other.denominator }
         ensures bound { unsigned_abs result < 2 ^ 126 }
     {
-        i128::from(self.numerator) * i128::from(other.denominator)
+        i128::from(self.numerator) * i128::from(other.denominator as i64)
     }
 }
 

@@ -1,5 +1,7 @@
 //! Laws of the definitions, each as the contract of a function that does nothing.
-ghost use Rattle.std.specs.Prelude.{◌≡◌, ◌≤◌, ◌↔◌, Result, List, ℕ, length};
+ghost use Rattle.std.specs.Prelude.{◌≡◌, ◌≤◌, ◌↔◌, Result, List, ℕ, length, ◌++◌};
+ghost use Rattle.std.specs.List.{fold};
+ghost use Rattle.std.specs.Hash as fed;
 ghost use Rattle.fisca_num.specs.declared.faults.NumFault.{NumFault};
 ghost use Rattle.fisca_num.specs.Literal.{number_of_literal};
 ghost use Rattle.fisca_num.specs.Number.{Number};
@@ -33,7 +35,7 @@ pub fn numerals_are_read_back()
     ensures { (v : Number) → (text : List ℕ) → (numeral : IsNumeralOf text v) → length numeral.places ≤ 18 → number_of_literal text ≡ Ok v }
 {}
 
-/// Law: equal fractions hash alike, whatever the hasher.
+/// Law: equal fractions hash alike, whatever the hasher: to each they write the numerator and then the denominator.
 pub fn equal_fractions_hash_alike<H: Hasher>(
     left: Fraction,
     right: Fraction,
@@ -42,7 +44,8 @@ pub fn equal_fractions_hash_alike<H: Hasher>(
 )
     requires same { one.old ≡ other.old }
     requires equal { left ≡ right }
-    ensures { one.new ≡ other.new }
+    ensures alike { one.new ≡ other.new }
+    ensures written { one.new ≡ fold H.write one.old (fed.i64 left.numerator ++ fed.u64 left.denominator) }
 {
     left.hash(one);
     right.hash(other);

@@ -2,6 +2,7 @@ pub mod Answer
 pub mod Digits
 pub mod Faults
 pub mod Halves
+pub mod Integers
 pub mod Literal
 pub mod Lowest
 pub mod Number

@@ -2,3 +2,5 @@ mod Counts
 mod Cuts
 mod Prefixes
 mod ManyWords
+mod Matches
+mod Parses

@@ -3,3 +3,4 @@ pub mod Condition
 pub mod Refusal
 pub mod AxesRun
 pub mod Check
+pub mod CommandLine

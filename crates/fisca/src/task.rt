@@ -1,5 +1,14 @@
 //! The command line, read by `clap`.
 
+ghost use Rattle.std.specs.Prelude.{◌≡◌, false, IfOk, map, string_bytes, codes};
+ghost use Rattle.clap.specs.Matches.{found_of};
+ghost use Rattle.clap.specs.declared.builder.command.Command.TheViews.{out-Command};
+ghost use Rattle.clap.specs.Walk.{rows_of, rule_of};
+ghost use Rattle.clap.specs.Simple.{app_of, subcommand_of};
+ghost use Rattle.clap.specs.Faults.{fault_of};
+ghost use Rattle.clap.specs.Kinds.{FailsBy};
+ghost use Rattle.fisca.specs.CommandLine.{axis_rule, option_rule, number_rule, axes_app, check_app, fisca_app, IsAxesTask, IsCheckTask, IsTaskOf};
+
 use clap::{Arg, ArgAction, ArgMatches, Command, Error, value_parser};
 use std::alloc::{AllocError, Global};
 
@@ -100,7 +109,10 @@ const FROM_LONG: &str = "Begin at this position, from 0 up to the number of posi
 const ROWS_HELP: &str = "End after this many lines [default: no limit]";
 
 /// An option with a whole number from 0 to 2^64-1.
-fn number<'a>(alloc: Global, id: &'a str, value: &'a str, help: &'a str) -> Arg<'a> {
+fn number<'a>(alloc: Global, id: &'a str, value: &'a str, help: &'a str) -> Arg<'a>
+    ensures rule { rule_of result ≡ number_rule id.entry.now }
+    ensures local { result.global ≡ false }
+{
     Arg::new(alloc, id)
         .long(id)
         .value_name(value)
@@ -108,19 +120,40 @@ fn number<'a>(alloc: Global, id: &'a str, value: &'a str, help: &'a str) -> Arg<
         .help(help)
 }
 
-/// The command `axes`.
-fn axes_command<'a>(alloc: Global) -> Result<Command<'a>, AllocError> {
-    let axis = Arg::new(alloc, "AXIS")
+/// The axes of `axes`.
+fn axis_argument<'a>(alloc: Global) -> Arg<'a>
+    ensures rule { rule_of result ≡ axis_rule }
+    ensures local { result.global ≡ false }
+{
+    Arg::new(alloc, "AXIS")
         .required(true)
         .action(ArgAction::Append)
         .num_args(1..)
         .help(AXIS_HELP)
-        .long_help(AXIS_LONG);
-    let keep = Arg::new(alloc, "keep")
+        .long_help(AXIS_LONG)
+}
+
+/// The condition of `axes`.
+fn keep_option<'a>(alloc: Global) -> Arg<'a>
+    ensures rule { rule_of result ≡ option_rule (codes "keep") }
+    ensures local { result.global ≡ false }
+{
+    Arg::new(alloc, "keep")
         .long("keep")
         .value_name("COND")
         .help(KEEP_HELP)
-        .long_help(KEEP_LONG);
+        .long_help(KEEP_LONG)
+}
+
+/// The command `axes`.
+fn axes_command<'a>(alloc: Global) -> Result<Command<'a>, AllocError>
+    ensures app { IfOk result (λ command. app_of command ≡ axes_app) }
+    ensures local { IfOk result (λ command. (out-Command command).has_globals ≡ false) }
+{
+    let axis = axis_argument(alloc);
+    let keep = keep_option(alloc);
+    let from = number(alloc, "from", "P", FROM_HELP).long_help(FROM_LONG);
+    let rows = number(alloc, "rows", "N", ROWS_HELP);
     Command::new(alloc, "axes")
         .about(AXES_ABOUT)
         .long_about(AXES_LONG)
@@ -128,12 +161,15 @@ fn axes_command<'a>(alloc: Global) -> Result<Command<'a>, AllocError> {
         .after_long_help(AXES_EXAMPLES)
         .arg(axis)?
         .arg(keep)?
-        .arg(number(alloc, "from", "P", FROM_HELP).long_help(FROM_LONG))?
-        .arg(number(alloc, "rows", "N", ROWS_HELP))
+        .arg(from)?
+        .arg(rows)
 }
 
 /// The command `check`.
-fn check_command<'a>(alloc: Global) -> Result<Command<'a>, AllocError> {
+fn check_command<'a>(alloc: Global) -> Result<Command<'a>, AllocError>
+    ensures app { IfOk result (λ command. app_of command ≡ check_app) }
+    ensures local { IfOk result (λ command. (out-Command command).has_globals ≡ false) }
+{
     let rules = Arg::new(alloc, "RULES").required(true).help(RULES_HELP);
     Command::new(alloc, "check")
         .about(CHECK_ABOUT)
@@ -143,7 +179,10 @@ fn check_command<'a>(alloc: Global) -> Result<Command<'a>, AllocError> {
 }
 
 /// The whole command line.
-fn command<'a>(alloc: Global) -> Result<Command<'a>, AllocError> {
+fn command<'a>(alloc: Global) -> Result<Command<'a>, AllocError>
+    ensures app { IfOk result (λ command. app_of command ≡ fisca_app) }
+    ensures local { IfOk result (λ command. (out-Command command).has_globals ≡ false) }
+{
     Command::new(alloc, "fisca")
         .about(ABOUT)
         .version("0.1.0")
@@ -154,16 +193,23 @@ fn command<'a>(alloc: Global) -> Result<Command<'a>, AllocError> {
         .subcommand(axes_command(alloc)?)
 }
 
-/// The task of `axes`.
-fn axes_task<'a>(alloc: Global, matches: &ArgMatches<'a>) -> Result<Task<'a>, AllocError> {
-    let mut words = Vec::new(alloc);
-    if let Some(given) = matches.get_strs("AXIS") {
-        for word in given {
-            words.push(String::from_str(alloc, word)?)?;
-        }
+/// Copies of texts.
+fn copies(alloc: Global, texts: &[&str]) -> Result<Vec<String>, AllocError>
+    ensures { IfOk result (λ copies. map (λ copy. string_bytes copy) copies.items ≡ map (λ text. text.now) texts.now) }
+{
+    let mut copies = Vec::new(alloc);
+    for text in texts {
+        copies.push(String::from_str(alloc, text)?)?;
     }
+    Ok(copies)
+}
+
+/// The task of `axes`.
+fn axes_task<'a>(alloc: Global, matches: &ArgMatches<'a>) -> Result<Task<'a>, AllocError>
+    ensures { IfOk result (λ task. IsAxesTask (rows_of (found_of matches.now)) task) }
+{
     Ok(Task::Axes {
-        words,
+        words: copies(alloc, matches.get_strs("AXIS").unwrap_or(&[]))?,
         keep: matches.get_str("keep"),
         from: matches.get_one::<u64>("from").unwrap_or(0),
         rows: matches.get_one::<u64>("rows"),
@@ -171,7 +217,9 @@ fn axes_task<'a>(alloc: Global, matches: &ArgMatches<'a>) -> Result<Task<'a>, Al
 }
 
 /// The task of `check`.
-fn check_task<'a>(matches: &ArgMatches<'a>) -> Task<'a> {
+fn check_task<'a>(matches: &ArgMatches<'a>) -> Task<'a>
+    ensures { IsCheckTask (rows_of (found_of matches.now)) result }
+{
     Task::Check {
         rules: matches.get_str("RULES").unwrap_or(""),
     }
@@ -179,12 +227,15 @@ fn check_task<'a>(matches: &ArgMatches<'a>) -> Task<'a> {
 
 /// The task that the words ask for, of which the first is the program's own name. A request for help
 /// or for the version is an error whose exit code is 0.
-pub fn read_task<'a>(alloc: Global, words: &'a [String]) -> Result<Task<'a>, Error> {
+pub fn read_task<'a>(alloc: Global, words: &'a [String]) -> Result<Task<'a>, Error>
+    ensures task { IfOk result (λ task. IsTaskOf (subcommand_of fisca_app (map (λ word. string_bytes word) words.entry.now)) task) }
+    ensures fault { FailsBy (fault_of fisca_app (map (λ word. string_bytes word) words.entry.now)) result }
+{
     let matches = command(alloc)?.try_get_matches_from(words)?;
     match matches.subcommand() {
         Some(("axes", inner)) => Ok(axes_task(alloc, inner)?),
         Some((_, inner)) => Ok(check_task(inner)),
-        None => Ok(Task::Check { rules: "" }),
+        None => unreachable!(),
     }
 }
 

@@ -225,8 +225,10 @@ fn check_task<'a>(matches: &ArgMatches<'a>) -> Task<'a>
     }
 }
 
-/// The task that the words ask for, of which the first is the program's own name. A request for help
-/// or for the version is an error whose exit code is 0.
+/// The task that the words ask for, of which the first is the program's own name: what `clap` finds in them by its own
+/// definition of matches, for the options above. An error has the kind of that definition's fault, or memory was refused;
+/// a request for help or for the version is one whose exit code is 0. Which options give which part of the task is this
+/// project's own rule.
 pub fn read_task<'a>(alloc: Global, words: &'a [String]) -> Result<Task<'a>, Error>
     ensures task { IfOk result (λ task. IsTaskOf (subcommand_of fisca_app (map (λ word. string_bytes word) words.entry.now)) task) }
     ensures fault { FailsBy (fault_of fisca_app (map (λ word. string_bytes word) words.entry.now)) result }

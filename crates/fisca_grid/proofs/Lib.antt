@@ -4,7 +4,7 @@ pub mod Progress
 pub mod Worked
 pub mod Remaining
 pub mod Rising
-pub mod Integers
+pub mod Sizes
 pub mod Steps
 pub mod Groups
 pub mod Positions

@@ -13,7 +13,7 @@ use Rattle.fisca_num.specs.Value.{IsNumberOf}
 use Rattle.fisca_num.specs.Operations.{number_of, is_number_of}
 use Rattle.fisca_grid.specs.declared.axes.AxisSpec.{AxisSpec}
 use Rattle.fisca_grid.specs.Axes.{step_of, IsLine}
-use Rattle.fisca_grid.proofs.Integers.{times_swap}
+use Rattle.fisca_num.specs.Integers.{times_swap}
 use Rattle.fisca_grid.proofs.Steps.{step_on_line}
 
 grown : (k : ℕ) → 0 < k → (x y : ℤ) (r : Ordering) → MatchOrdering r (x <ℤ y) (x ≡ y) (y <ℤ x) → MatchOrdering r ((x *ℤ pos k) <ℤ (y *ℤ pos k)) (x *ℤ pos k ≡ y *ℤ pos k) ((y *ℤ pos k) <ℤ (x *ℤ pos k))

@@ -17,7 +17,7 @@ use Rattle.std.proofs.Math.Nat.{eq-zero_of_zero-dvd, zero-mul, div-le_self, div-
 use Rattle.fisca_grid.specs.declared.axes.AxisSpec.{AxisSpec}
 use Rattle.fisca_grid.specs.Axes.{steps_of, way_of, step_ratio, step_of, IsLine, is_bound}
 use Rattle.std.proofs.lemmas.Bool.Decides.{nat_tests}
-use Rattle.fisca_grid.proofs.Integers.{sum-times, difference-times, times_assoc, times_swap, times_pos}
+use Rattle.fisca_num.specs.Integers.{sum-times, difference-times, times_assoc, times_swap, times_pos}
 
 -- two pairs that stand for one rational have the same lowest terms
 same_reduced : (p q v : Ratio) → IsSame p q → 0 < q.denominator → Reduces p v → Reduces q v

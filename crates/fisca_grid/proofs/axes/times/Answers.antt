@@ -1,6 +1,6 @@
 use Rattle.std.proofs.Common.{◌≡◌, ◌*ℤ◌, pos, SFits, to_z, of_z, w64, arith, refl}
 use Rattle.std.proofs.lemmas.Int.{ints, unsigned_abs-mul}
-use Rattle.fisca_grid.proofs.Integers.{product_fits}
+use Rattle.fisca_grid.proofs.Sizes.{product_fits}
 use Rattle.fisca_grid.proofs.axes.times.Goals as goal
 
 pub overflow_mul-result : goal.overflow_mul-result

@@ -1,6 +1,6 @@
 use Rattle.std.proofs.Common.{◌≡◌, unsigned_abs, to_z, of_z, w64, arith, refl}
 use Rattle.std.proofs.lemmas.Int.{ints}
-use Rattle.fisca_grid.proofs.Integers.{abs-line}
+use Rattle.fisca_grid.proofs.Sizes.{abs-line}
 use Rattle.fisca_grid.proofs.Steps.{below_within}
 use Rattle.fisca_grid.proofs.axes.Axis.numerator_at.Goals as goal
 

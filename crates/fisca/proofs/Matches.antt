@@ -6,7 +6,7 @@ use Rattle.clap.specs.Matches.{ReadsOne, one_text}
 use Rattle.clap.specs.Walk.{Text, one_of, rows_of}
 use Rattle.clap.specs.declared.parser.matches.Found.{Found}
 use Rattle.clap.proofs.WalkLemmas.{one_text-rows}
-use Rattle.fisca.specs.CommandLine.{IsNumberOf}
+use Rattle.fisca.specs.CommandLine.{IsOptionalNumber}
 use denote.Ref.{Bor}
 
 -- the text of an option, or another
@@ -29,9 +29,9 @@ read_weaker text (Some v) h = h.0
 read_weaker text None h = (h.0, h.1.0)
 
 -- what `get_one` gives of a number
-pub number_read : (found : Found) (id : Text) (r : Option ℕ) → (one_text found id ≡ None → r ≡ None) → ((text : List ℕ) → one_text found id ≡ Some text → ReadsOne IsRead text r) → IsNumberOf (one_of id (rows_of found)) r
-number_read found id r none value = subst (λ (o : Option Text). IsNumberOf o r) (one_text-rows found id) (read (one_text found id) refl)
+pub number_read : (found : Found) (id : Text) (r : Option ℕ) → (one_text found id ≡ None → r ≡ None) → ((text : List ℕ) → one_text found id ≡ Some text → ReadsOne IsRead text r) → IsOptionalNumber (one_of id (rows_of found)) r
+number_read found id r none value = subst (λ (o : Option Text). IsOptionalNumber o r) (one_text-rows found id) (read (one_text found id) refl)
   where
-    read : (o : Option Text) → one_text found id ≡ o → IsNumberOf o r
+    read : (o : Option Text) → one_text found id ≡ o → IsOptionalNumber o r
     read None e = none e
     read (Some text) e = read_weaker text r (value text e)

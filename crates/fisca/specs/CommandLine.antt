@@ -40,17 +40,17 @@ abbrev pub fisca_app : App
 fisca_app = with_subcommand (with_subcommand (on_top (λ s. record s { has_version = true; subcommand_required = true; arg_required_else_help = true }) (new_app (codes "fisca"))) check_app.top) axes_app.top
 
 -- what an option with a number gives: nothing where it has no text, else the number that its text says
-abbrev pub IsNumberOf : Option Text → Option ℕ → Type 0
-IsNumberOf None number = number ≡ None
-IsNumberOf (Some text) number = ReadsOne {E = ParseIntError} (ParsesUnsigned 64 10) text number
+abbrev pub IsOptionalNumber : Option Text → Option ℕ → Type 0
+IsOptionalNumber None number = number ≡ None
+IsOptionalNumber (Some text) number = ReadsOne {E = ParseIntError} (ParsesUnsigned 64 10) text number
 
 -- the task that the matches of `axes` say
 abbrev pub IsAxesTask : List Row → Task → Type 0
 IsAxesTask rows (Axes words keep from limit) =
     (map (λ word. string_bytes word) words.items ≡ unwrap_or (all_of (codes "AXIS") rows) [])
     × (option_map (λ text. text.now) keep ≡ first_of (codes "keep") rows)
-    × ((number : Option ℕ) × IsNumberOf (one_of (codes "from") rows) number × (from ≡ unwrap_or number 0))
-    × IsNumberOf (one_of (codes "rows") rows) limit
+    × ((number : Option ℕ) × IsOptionalNumber (one_of (codes "from") rows) number × (from ≡ unwrap_or number 0))
+    × IsOptionalNumber (one_of (codes "rows") rows) limit
 IsAxesTask rows (Check rules) = ⊥
 
 -- the task that the matches of `check` say

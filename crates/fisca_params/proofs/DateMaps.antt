@@ -69,3 +69,31 @@ among-one read sorted date (Some n) (Some ws) v e = rw e (at (read_all read ws))
     at : (r : Option (List (Dated _))) → option_map (in_time_with (map dated_pair sorted)) (onto (Some (record { date = date; value = v })) r) ≡ option_map (in_time_with (map dated_pair (insert_entry date_cmp sorted date v))) r
     at None = refl
     at (Some ds) = ap (λ s. Some (in_time_with s ds)) (sym (map-put sorted date v))
+
+-- what is left of a date map, put among values that are in order of time
+abbrev pub put_left : {V : Type 0} → (Node → Option V) → List (Dated V) → Option (List Written) → Option (List (Dated V))
+put_left read ds o = option_map (in_time_with ds) (option_and_then (read_all read) o)
+
+pub left-none : {V : Type 0} (read : Node → Option V) (o : Option (List Written)) → option_and_then (dates_by read) o ≡ put_left read [] o
+left-none read None = refl
+left-none read (Some ws) = refl
+
+pub left-no_date : {V : Type 0} (read : Node → Option V) (ds : List (Dated V)) (n : Option Node) (o : Option (List Written)) → put_left read ds (onto (written_if_both None n) o) ≡ None
+left-no_date read ds n o = refl
+
+pub left-no_value : {V : Type 0} (read : Node → Option V) (ds : List (Dated V)) (date : Option CivilDate) (n : Option Node) (o : Option (List Written)) →
+    option_and_then (read_value read) n ≡ None → put_left read ds (onto (written_if_both date n) o) ≡ None
+left-no_value read ds None n o e = refl
+left-no_value read ds (Some date) None o e = refl
+left-no_value read ds (Some date) (Some n) None e = refl
+left-no_value read ds (Some date) (Some n) (Some ws) e = rw e refl
+
+pub left-one : {V : Type 0} (read : Node → Option V) (ds : List (Dated V)) (date : CivilDate) (n : Option Node) (o : Option (List Written)) (v : Option V) →
+    option_and_then (read_value read) n ≡ Some v → put_left read ds (onto (written_if_both (Some date) n) o) ≡ put_left read (put_in_time (record { date = date; value = v }) ds) o
+left-one read ds date None o v e = cc
+left-one read ds date (Some n) None v e = refl
+left-one read ds date (Some n) (Some ws) v e = rw e (at (read_all read ws))
+  where
+    at : (r : Option (List (Dated _))) → option_map (in_time_with ds) (onto (Some (record { date = date; value = v })) r) ≡ option_map (in_time_with (put_in_time (record { date = date; value = v }) ds)) r
+    at None = refl
+    at (Some es) = refl

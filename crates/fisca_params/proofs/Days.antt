@@ -1,9 +1,9 @@
 -- Dates as numbers have the order of time.
 use Rattle.std.proofs.Common.{◌≡◌, ℕ, ◌+◌, ◌*◌, ◌/◌, ◌%◌, ◌<◌, refl, sym, ◌∙◌, ap, arith}
-use Rattle.std.proofs.Math.Dec.{leb}
+use Rattle.std.proofs.Math.Dec.{leb, ltb}
 use Rattle.std.proofs.lemmas.Bool.Decides.{leb_tells}
 use Rattle.std.specs.Cmp.{ranks}
-use Rattle.std.specs.Ordering.{MatchOrdering, nat_cmp, ordering_then, is_le}
+use Rattle.std.specs.Ordering.{MatchOrdering, nat_cmp, ordering_then, is_le, is_lt}
 use Rattle.std.specs.declared.cmp.Ordering.{Ordering}
 use Rattle.std.specs.declared.cmp.Ordering.TheVariants.{Less, Equal, Greater}
 use Rattle.fisca_time.specs.Instant.{CivilDate, date_cmp}
@@ -48,6 +48,18 @@ date_of_its_number d m h =
     let month : day_number d / 256 % 256 ≡ d.month = omega arith in
     let day : day_number d % 256 ≡ d.day = omega arith in
     rw (year, month, day) refl
+
+lt_by_rank : (o : Ordering) (x y : ℕ) → Ranks o x y → ltb x y ≡ is_lt o
+lt_by_rank Less x y h = grind (arith, leb_tells)
+lt_by_rank Equal x y h = grind (arith, leb_tells)
+lt_by_rank Greater x y h = grind (arith, leb_tells)
+
+pub before_by_number : (m n : ℕ) → ltb m n ≡ is_lt (date_cmp (date_of_number m) (date_of_number n))
+before_by_number m n =
+    let a = date_of_number m in
+    let b = date_of_number n in
+    ap (λ k. ltb k n) (sym (number-date m)) ∙ ap (λ k. ltb (day_number a) k) (sym (number-date n))
+    ∙ lt_by_rank (date_cmp a b) (day_number a) (day_number b) (days-rank a b (omega arith) (omega arith) (omega arith) (omega arith))
 
 pub reached_by_number : (n : ℕ) (b : CivilDate) → b.month < 256 → b.day < 256 → leb n (day_number b) ≡ is_le (date_cmp (date_of_number n) b)
 reached_by_number n b m d =

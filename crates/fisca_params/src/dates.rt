@@ -1,9 +1,9 @@
 //! Values that hold from a date on.
-ghost use Rattle.std.specs.Prelude.{◌≡◌, ◌<◌, ◌^◌, [], None, IfOk, MatchOption, length, slice_get, map, option_and_then};
+ghost use Rattle.std.specs.Prelude.{◌≡◌, ◌<◌, ◌^◌, [], None, IsTrue, IfOk, MatchOption, length, slice_get, map, option_and_then};
 ghost use Rattle.std.specs.Ordering.{is_le};
 ghost use Rattle.fisca_time.specs.Instant.{date_cmp};
 ghost use Rattle.fisca_yaml.specs.Views.{node, entries_view};
-ghost use Rattle.fisca_params.specs.Dates.{value_at, latest, day_number};
+ghost use Rattle.fisca_params.specs.Dates.{value_at, latest, is_before, put_in_time, IsBehind, day_number};
 ghost use Rattle.fisca_params.specs.Content.{read_value, written_value, written_values, dates_by};
 ghost use Rattle.fisca_params.specs.Written.{dated_pair};
 
@@ -41,6 +41,14 @@ impl<V> Dated<V> {
     {
         let day = day_number(date);
         Dated { day, value }
+    }
+
+    /// Whether the date is before another's.
+    #[tactic(auto, using(crate::proofs::Days::before_by_number))]
+    fn is_before(&self, other: &Dated<V>) -> bool
+        ensures { result ≡ is_before self.now.date other.now.date }
+    {
+        self.day < other.day
     }
 
     /// Whether the date is not after an instant. The sign of a difference tells it, so that a search can go on by
@@ -129,6 +137,38 @@ impl<V> Dates<V> {
     }
 }
 
+impl<V: Copy> Dates<V> {
+    /// No values, with room for so many.
+    fn with_capacity(alloc: Global, count: usize) -> Result<Dates<V>, AllocError>
+        ensures { IfOk result (λ dates. dates ≡ []) }
+    {
+        let items = Vec::with_capacity(alloc, count)?;
+        Ok(Dates { items })
+    }
+
+    /// Whether a value's date is after all dates here.
+    fn is_behind(&self, dated: &Dated<V>) -> bool
+        ensures { IsTrue result → IsBehind dated.now self.now }
+    {
+        match self.items.last() {
+            Some(last) => last.is_before(dated),
+            None => true,
+        }
+    }
+
+    /// Puts a value behind the others, where its date is after theirs.
+    fn push(&mut self, date: Instant, value: Option<V>) -> Result<bool, AllocError>
+        ensures { IfOk result (λ done. IsTrue done → self.new ≡ put_in_time (record { date = date; value = value }) self.old) }
+    {
+        let dated = Dated::new(date, value);
+        if !self.is_behind(&dated) {
+            return Ok(false);
+        }
+        self.items.push(dated)?;
+        Ok(true)
+    }
+}
+
 /// A date as one number, in order of time.
 fn day_number(date: Instant) -> u64
     ensures number { result ≡ day_number date }
@@ -172,8 +212,30 @@ impl DatedValue for bool {
     }
 }
 
-/// The values of a date map in order of time, where each is null or of this kind.
+/// The values of a date map in order of time, where each is null or of this kind. Dates are mostly written in order.
 pub(crate) fn dates_in<V: DatedValue>(
+    alloc: Global,
+    entries: &[Entry<'_>],
+) -> Result<Option<Dates<V>>, AllocError>
+    ensures { IfOk result (λ dates. dates ≡ option_and_then (dates_by V.reads) (written_values (entries_view entries.now))) }
+{
+    let mut dates = Dates::with_capacity(alloc, entries.len())?;
+    for entry in entries {
+        let Ok(date) = Instant::read(entry.key.as_str()) else {
+            return Ok(None);
+        };
+        let Some(value) = read_at::<V>(&entry.value) else {
+            return Ok(None);
+        };
+        if !dates.push(date, value)? {
+            return sorted_dates_in(alloc, entries);
+        }
+    }
+    Ok(Some(dates))
+}
+
+/// The same, whatever the order in which the dates are written.
+fn sorted_dates_in<V: DatedValue>(
     alloc: Global,
     entries: &[Entry<'_>],
 ) -> Result<Option<Dates<V>>, AllocError>

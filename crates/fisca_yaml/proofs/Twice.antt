@@ -2,7 +2,7 @@
 use Rattle.std.proofs.Common.{◌≡◌, ℕ, ◌+◌, ◌<◌, ◌≤◌, Bool, true, false, cond, ◌||◌, ◌⊎◌, List, [], ◌∷◌, ◌++◌, length, get_or, take, drop, map, is_some, Option, Some, None, inl, inr, ⊎_elim, refl, sym, ap, ap₂, ◌∙◌, arith}
 use Rattle.std.specs.List.{list_any}
 use Rattle.std.specs.Str.{bytes_eq}
-use Rattle.std.proofs.lemmas.List.{take_more, take_all, take-append-drop, length-map, get_or-map}
+use Rattle.std.proofs.lemmas.List.{take_more, take_all, take-map, take-append-drop, length-map, get_or-map}
 use Rattle.std.proofs.lemmas.List.Folds.{list_any-append}
 use Rattle.std.proofs.lemmas.Slice.Eq.{bytes_eq-Decides}
 use Rattle.fisca_yaml.specs.Node.{Node, keys, repeats}
@@ -100,6 +100,16 @@ module _ (es : List Entry) (i : ℕ) (d : Entry) (within : i < length es) where
 
   pub one_more_key : (q : List ℕ) → list_any (bytes_eq q) (take (i + 1) (keys (entries_view es))) ≡ list_any (bytes_eq q) (take i (keys (entries_view es))) || bytes_eq q (key (get_or es i d))
   one_more_key q = ap (list_any (bytes_eq q)) front_more ∙ any_push (bytes_eq q) (take i (keys (entries_view es))) (key (get_or es i d))
+
+  pub met : (q : List ℕ) → bytes_eq q (key (get_or es i d)) ≡ true → list_any (bytes_eq q) (keys (entries_view es)) ≡ true
+  met q e =
+      let ks = keys (entries_view es) in
+      let here : list_any (bytes_eq q) (take (i + 1) ks) ≡ true = one_more_key q ∙ ap (λ b. list_any (bytes_eq q) (take i ks) || b) e ∙ or_true (list_any (bytes_eq q) (take i ks)) in
+      ap (list_any (bytes_eq q)) (sym (take-append-drop (i + 1) ks)) ∙ any_longer (bytes_eq q) (take (i + 1) ks) (drop (i + 1) ks) here
+
+-- the keys of the first entries
+pub front_keys : (es : List Entry) (i : ℕ) → keys (entries_view (take i es)) ≡ take i (keys (entries_view es))
+front_keys es i = keys-map (take i es) ∙ sym (take-map key i es) ∙ ap (take i) (sym (keys-map es))
 
 pub all_keys : (es : List Entry) (i : ℕ) → length es ≤ i → take i (keys (entries_view es)) ≡ keys (entries_view es)
 all_keys es i h = let same = keys-map es in take_all i (keys (entries_view es)) (omega (arith, ap length same, length-map es key))

@@ -9,7 +9,7 @@ use Rattle.fisca_yaml.specs.declared.tree.Entry.{Entry}
 use Rattle.fisca_yaml.specs.Node.{keys, repeats}
 use Rattle.fisca_yaml.specs.Views.{entries_view}
 use Rattle.fisca_yaml.proofs.Twice.{found, not_yet, one_more_key, key, key-is, put, swap_eq, all_keys}
-use Rattle.fisca_yaml.proofs.keys.repeated.Goals as goal
+use Rattle.fisca_yaml.proofs.keys.repeated_among_many.Goals as goal
 
 pub returns-then-is_some : goal.returns-then-is_some
 returns-then-is_some c =

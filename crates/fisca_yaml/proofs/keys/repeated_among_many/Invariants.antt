@@ -6,7 +6,7 @@ use Rattle.std.specs.Cmp.Lexicographic.{slice_cmp}
 use Rattle.std.specs.Ordering.{nat_cmp}
 use Rattle.fisca_yaml.specs.Node.{keys, repeats}
 use Rattle.fisca_yaml.specs.Views.{entries_view}
-use Rattle.fisca_yaml.proofs.keys.repeated.Given as goal
+use Rattle.fisca_yaml.proofs.keys.repeated_among_many.Given as goal
 
 abbrev pub invariant-loop-entry : goal.invariant-loop-entry
 invariant-loop-entry l =

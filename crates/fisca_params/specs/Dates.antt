@@ -31,7 +31,7 @@ is_in_order [] = true
 is_in_order (d ∷ []) = true
 is_in_order (d ∷ e ∷ es) = is_before d.date e.date && is_in_order (e ∷ es)
 
--- each of these dates is before the first
+-- each date of the list is before this one
 abbrev pub IsBehind : {V : Type 0} → Dated V → List (Dated V) → Type 0
 IsBehind {V} d ds = (k : ℕ) (e : Dated V) → k < length ds → is_before (slice_index_or ds k e).date d.date ≡ true
 

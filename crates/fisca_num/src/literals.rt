@@ -89,6 +89,8 @@ fn value_of_whole(negative: bool, whole: &[u8], number: u64) -> Result<Fraction,
 }
 
 /// The value of the digits before and after a point. Those before it write `number`, or more where it is 10^19.
+/// A function of its own to the compiler too, so that whole numbers do not pay for its registers.
+#[inline(never)]
 fn value_of_parts(
     negative: bool,
     whole: &[u8],

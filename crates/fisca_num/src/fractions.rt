@@ -27,29 +27,23 @@ impl Model for Fraction {
 
 impl Fraction {
     /// The number 0.
-    pub const ZERO: Fraction = Fraction {
-        numerator: 0,
-        denominator: 1,
-    };
-
-    /// The number 1.
-    pub const ONE: Fraction = Fraction {
-        numerator: 1,
-        denominator: 1,
-    };
-
-    /// The constant 0, with a contract that says so.
     pub fn zero() -> Fraction
         ensures { result ≡ zero_number }
     {
-        Fraction::ZERO
+        Fraction {
+            numerator: 0,
+            denominator: 1,
+        }
     }
 
-    /// The constant 1, with a contract that says so.
+    /// The number 1.
     pub fn one() -> Fraction
         ensures { result ≡ one_number }
     {
-        Fraction::ONE
+        Fraction {
+            numerator: 1,
+            denominator: 1,
+        }
     }
 
     /// The numerator in lowest terms, which carries the sign.

@@ -9,3 +9,5 @@ pub mod Splits
 pub mod Steps
 pub mod Twice
 pub mod Worked
+pub mod WorkedFlow
+pub mod WorkedScalars

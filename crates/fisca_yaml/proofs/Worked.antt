@@ -1,174 +1,189 @@
--- Worked rows: the definitions compute.
-use Rattle.std.proofs.Common.{◌≡◌, ℕ, List, [], ◌∷◌, ◌++◌, true, false, Some, None, refl}
-use Rattle.std.specs.Prelude.{codes}
-use lib.Utf8.{encode}
-use Rattle.fisca_yaml.specs.Node.{Node, null, scalar, list, map, no_items, item, no_entries, entry}
+-- The definition beside each sentence of the format: lines, maps, lists and block texts.
+use Rattle.std.proofs.Common.{◌≡◌, ℕ, List, [], ◌∷◌, ◌++◌, Bool, true, false, Some, refl}
+use Rattle.std.specs.Prelude.{codes, ◌&&◌, not, is_some}
+use Rattle.fisca_yaml.specs.Node.{Node, Entries, null, scalar, list, map, no_items, item, no_entries, entry}
 use Rattle.fisca_yaml.specs.Flow.{flow_value, series}
 use Rattle.fisca_yaml.specs.Grouping.{tree, block}
 
-abbrev text : List (List ℕ) → List ℕ
+-- a text of these lines
+abbrev pub text : List (List ℕ) → List ℕ
 text [] = []
 text (l ∷ ls) = l ++ 10 ∷ text ls
 
-abbrev s : List ℕ → ℕ → Node
+-- a scalar without quotes, and an entry with one
+abbrev pub s : List ℕ → ℕ → Node
 s t n = scalar t false n
 
+abbrev pub holds : List ℕ → ℕ → List ℕ → Entries → Entries
+holds key n t es = entry key n (s t n) es
+
+-- none of these texts has a tree
+abbrev pub refused : List (List ℕ) → Bool
+refused [] = true
+refused (t ∷ ts) = not (is_some (tree 16 t)) && refused ts
+
+-- LINES
+
+-- A text may be empty.
 empty : tree 16 [] ≡ Some null
 empty = refl
 
-unclosed : tree 16 (codes "a: [1, 2") ≡ None
+-- Lines end with a line feed, or a carriage return and a line feed.
+carriage : tree 16 (codes "a: 1" ++ 13 ∷ 10 ∷ codes "b: ~") ≡ Some (map (holds (codes "a") 1 (codes "1") (entry (codes "b") 2 null no_entries)))
 unfolding block flow_value series
-unclosed = refl
+carriage = refl
 
-twice : tree 16 (text (codes "a: 1" ∷ codes "b: 2" ∷ codes "a: 3" ∷ [])) ≡ None
+-- A carriage return that stands alone is an ordinary character.
+return_alone : tree 16 (codes "a: 1" ++ 13 ∷ codes "b") ≡ Some (map (holds (codes "a") 1 (codes "1" ++ 13 ∷ codes "b") no_entries))
 unfolding block flow_value series
-twice = refl
+return_alone = refl
 
-same_indent : tree 16 (text (codes "a:" ∷ codes "- 1" ∷ [])) ≡ Some (map (entry (codes "a") 1 (list (item 2 (s (codes "1") 2) no_items)) no_entries))
+-- Blank lines count for nothing, nor do lines of blanks and a comment, wherever they stand.
+blank_lines : tree 16 (text ([] ∷ codes "# c" ∷ codes "a:" ∷ (32 ∷ 9 ∷ []) ∷ codes " b: 1" ∷ (9 ∷ codes "# c") ∷ codes "   # c" ∷ codes " c: 2" ∷ []))
+    ≡ Some (map (entry (codes "a") 3 (map (holds (codes "b") 5 (codes "1") (holds (codes "c") 8 (codes "2") no_entries))) no_entries))
 unfolding block flow_value series
-same_indent = refl
+blank_lines = refl
 
-goes_on : tree 16 (text (codes "a: 1" ∷ codes "  b: 2" ∷ [])) ≡ None
+-- A number sign behind a blank begins a comment, and no other does.
+comments : tree 16 (text (codes "a: b#c # d" ∷ (codes "e: f" ++ 9 ∷ codes "# g") ∷ codes "h: # i" ∷ []))
+    ≡ Some (map (holds (codes "a") 1 (codes "b#c") (holds (codes "e") 2 (codes "f") (entry (codes "h") 3 null no_entries))))
 unfolding block flow_value series
-goes_on = refl
+comments = refl
 
-bad_escape : tree 16 (codes "a: \"x\\q\"") ≡ None
-unfolding block flow_value series
-bad_escape = refl
-
-anchor : tree 16 (codes "a: &x 1") ≡ None
-unfolding block flow_value series
-anchor = refl
-
-merge : tree 16 (codes "<<: 1") ≡ None
-unfolding block flow_value series
-merge = refl
-
-two_colons : tree 16 (codes "a: b: c") ≡ None
-unfolding block flow_value series
-two_colons = refl
-
-trailing : tree 16 (codes "a: [1, 2,]") ≡ Some (map (entry (codes "a") 1 (list (item 1 (s (codes "1") 1) (item 1 (s (codes "2") 1) no_items))) no_entries))
-unfolding block flow_value series
-trailing = refl
-
-quoted_key : tree 16 (codes "{a: 1, \"b\":2}") ≡ Some (map (entry (codes "a") 1 (s (codes "1") 1) (entry (codes "b") 1 (s (codes "2") 1) no_entries)))
-unfolding block flow_value series
-quoted_key = refl
-
-too_deep : tree 16 (codes "[[[[[[[[[[[[[[[[[]]]]]]]]]]]]]]]]]") ≡ None
-unfolding block flow_value series
-too_deep = refl
-
-nested_items : tree 16 (text (codes "- - x" ∷ codes "  - y: 1 # c" ∷ codes "    z:" ∷ codes "# c" ∷ codes "- |2+" ∷ codes "   text: [" ∷ []))
-    ≡ Some (list (item 1 (list (item 1 (s (codes "x") 1) (item 2 (map (entry (codes "y") 2 (s (codes "1") 2) (entry (codes "z") 3 null no_entries))) no_items))) (item 5 (scalar [] true 5) no_items)))
-unfolding block flow_value series
-nested_items = refl
-
+-- One line of three dashes may come first.
 marked : tree 16 (text (codes "--- # c" ∷ codes "a: 'it''s' # c" ∷ [])) ≡ Some (map (entry (codes "a") 2 (scalar (codes "it's") true 2) no_entries))
 unfolding block flow_value series
 marked = refl
 
-marked_twice : tree 16 (text (codes "---" ∷ codes "---" ∷ [])) ≡ None
+-- A second one, one that comes later, three points, and a line that begins with a percent sign are refused.
+later_marks : refused (text (codes "---" ∷ codes "---" ∷ []) ∷ text (codes "a: 1" ∷ codes "---" ∷ []) ∷ text (codes "..." ∷ codes "a: 1" ∷ [])
+    ∷ text (codes "a: 1" ∷ codes "..." ∷ []) ∷ codes "%YAML" ∷ text (codes "a: 1" ∷ codes "%b: 1" ∷ []) ∷ []) ≡ true
 unfolding block flow_value series
-marked_twice = refl
+later_marks = refl
 
-tabbed : tree 16 (text (codes "a:" ∷ (9 ∷ codes "b: 1") ∷ [])) ≡ None
+-- Dashes that stand indented, or before more on their line, are no such line.
+dashes_in_key : tree 16 (codes "--- a: 1") ≡ Some (map (holds (codes "--- a") 1 (codes "1") no_entries))
 unfolding block flow_value series
-tabbed = refl
+dashes_in_key = refl
 
-hex : tree 16 (codes "\"\\x41\\u00e9\"") ≡ Some (scalar (65 ∷ 195 ∷ 169 ∷ []) true 1)
-unfolding block flow_value series encode
-hex = refl
-
-mixed : tree 16 (text (codes "a: 1" ∷ codes "- b" ∷ [])) ≡ None
+dashes_indented : tree 16 (codes "  ---") ≡ Some (s (codes "---") 1)
 unfolding block flow_value series
-mixed = refl
+dashes_indented = refl
 
-below : tree 16 (text (codes "a:" ∷ codes "  hello" ∷ [])) ≡ None
+-- No tab stands among the leading blanks of a line with content, not in a block text either.
+tabs : refused (text (codes "a:" ∷ (9 ∷ codes "b: 1") ∷ []) ∷ text ((32 ∷ 9 ∷ codes "a: 1") ∷ []) ∷ text (codes "a: |" ∷ (32 ∷ 32 ∷ 9 ∷ codes "b") ∷ []) ∷ []) ≡ true
 unfolding block flow_value series
-below = refl
+tabs = refl
 
-last_first : tree 16 (text (codes "a:" ∷ codes "  b: 1" ∷ codes "- 2" ∷ [])) ≡ None
-unfolding block flow_value series
-last_first = refl
+-- MAPS
 
-carriage : tree 16 (codes "a: 1" ++ 13 ∷ 10 ∷ codes "b: ~") ≡ Some (map (entry (codes "a") 1 (s (codes "1") 1) (entry (codes "b") 2 null no_entries)))
+-- An entry is a key, a colon, and a blank or the line's end.
+colon_inside : tree 16 (codes "a:b") ≡ Some (s (codes "a:b") 1)
 unfolding block flow_value series
-carriage = refl
+colon_inside = refl
 
-null_values : tree 16 (codes "{a: , b:, c: ~}") ≡ Some (map (entry (codes "a") 1 null (entry (codes "b") 1 null (entry (codes "c") 1 null no_entries))))
+tab_behind_colon : tree 16 (codes "a:" ++ 9 ∷ codes "b") ≡ Some (map (holds (codes "a") 1 (codes "b") no_entries))
 unfolding block flow_value series
-null_values = refl
+tab_behind_colon = refl
 
-lone_comma : tree 16 (codes "[,]") ≡ None
+-- A key is plain or quoted, and blanks may stand before its colon.
+spaced_key : tree 16 (text (codes "\"a b\" : [{}]" ∷ codes "c d : 1" ∷ codes "'e': 2" ∷ []))
+    ≡ Some (map (entry (codes "a b") 1 (list (item 1 (map no_entries) no_items)) (holds (codes "c d") 2 (codes "1") (holds (codes "e") 3 (codes "2") no_entries))))
 unfolding block flow_value series
-lone_comma = refl
+spaced_key = refl
 
-inner_blanks : tree 16 (codes "[ a b , c ] # d") ≡ Some (list (item 1 (s (codes "a b") 1) (item 1 (s (codes "c") 1) no_items)))
+dash_key : tree 16 (codes "-: 1") ≡ Some (map (holds (codes "-") 1 (codes "1") no_entries))
 unfolding block flow_value series
-inner_blanks = refl
+dash_key = refl
 
-hash_inside : tree 16 (codes "[a#b, #c]") ≡ None
+-- No key is empty, and none is the merge key, in whatever form.
+no_keys : refused (codes "\"\": 1" ∷ codes ": 1" ∷ codes "<<: 1" ∷ codes "'<<': 1" ∷ codes "{<<: 1}" ∷ codes "{'': 1}" ∷ []) ≡ true
 unfolding block flow_value series
-hash_inside = refl
+no_keys = refl
 
-flow_twice : tree 16 (codes "{a: 1, 'a': 2}") ≡ None
+-- All entries of a map stand at one indentation, which need not be 0.
+indented_map : tree 16 (text (codes "  a: 1" ∷ codes "  b: 2" ∷ [])) ≡ Some (map (holds (codes "a") 1 (codes "1") (holds (codes "b") 2 (codes "2") no_entries)))
 unfolding block flow_value series
-flow_twice = refl
+indented_map = refl
 
-keyless : tree 16 (codes "{a}") ≡ None
+uneven_entries : refused (text (codes "a:" ∷ codes "    b: 1" ∷ codes "  c: 2" ∷ []) ∷ text (codes "  a: 1" ∷ codes "b: 2" ∷ []) ∷ []) ≡ true
 unfolding block flow_value series
-keyless = refl
+uneven_entries = refl
 
-behind_quote : tree 16 (codes "a: 'x' y") ≡ None
+-- The value of an entry is what follows on its line, else the deeper lines below, else a list at the entry's own indentation, else null.
+entry_values : tree 16 (text (codes "a: 1" ∷ codes "b:" ∷ codes " c: 2" ∷ codes "d:" ∷ codes "- 3" ∷ codes "e:" ∷ []))
+    ≡ Some (map (holds (codes "a") 1 (codes "1") (entry (codes "b") 2 (map (holds (codes "c") 3 (codes "2") no_entries))
+    (entry (codes "d") 4 (list (item 5 (s (codes "3") 5) no_items)) (entry (codes "e") 6 null no_entries)))))
 unfolding block flow_value series
-behind_quote = refl
+entry_values = refl
 
-colon_at_end : tree 16 (codes "a: b:") ≡ None
+-- No deeper line follows a value that stands on its line, and no value on an entry's line holds a colon and a blank.
+value_on_its_line : refused (text (codes "a: 1" ∷ codes "  b: 2" ∷ []) ∷ text (codes "a: x" ∷ codes "  y" ∷ []) ∷ text (codes "a: [1]" ∷ codes "  - 2" ∷ [])
+    ∷ codes "a: b: c" ∷ codes "a: b:" ∷ (codes "a: b:" ++ 9 ∷ codes "c") ∷ codes "a: - b" ∷ []) ≡ true
 unfolding block flow_value series
-colon_at_end = refl
+value_on_its_line = refl
 
-text_then_item : tree 16 (text (codes "a: |" ∷ codes "  x" ∷ codes "- y" ∷ [])) ≡ None
+-- No key comes twice in a map, in whatever form. In two maps it may.
+twice : refused (text (codes "a: 1" ∷ codes "b: 2" ∷ codes "a: 3" ∷ []) ∷ text (codes "a: 1" ∷ codes "'a': 2" ∷ []) ∷ codes "{a: 1, 'a': 2}" ∷ []) ≡ true
 unfolding block flow_value series
-text_then_item = refl
+twice = refl
+
+in_two_maps : tree 16 (text (codes "a:" ∷ codes "  a: 1" ∷ [])) ≡ Some (map (entry (codes "a") 1 (map (holds (codes "a") 2 (codes "1") no_entries)) no_entries))
+unfolding block flow_value series
+in_two_maps = refl
+
+-- LISTS
+
+-- An item is a dash, and a blank or the line's end. What follows the dash stands at its own column.
+nested_items : tree 16 (text (codes "- - x" ∷ codes "  - y: 1 # c" ∷ codes "    z:" ∷ codes "# c" ∷ codes "- |2+" ∷ codes "   text: [" ∷ []))
+    ≡ Some (list (item 1 (list (item 1 (s (codes "x") 1) (item 2 (map (holds (codes "y") 2 (codes "1") (entry (codes "z") 3 null no_entries))) no_items))) (item 5 (scalar [] true 5) no_items)))
+unfolding block flow_value series
+nested_items = refl
 
 dashes : tree 16 (codes "- -x") ≡ Some (list (item 1 (s (codes "-x") 1) no_items))
 unfolding block flow_value series
 dashes = refl
 
-spaced_key : tree 16 (codes "\"a b\" : [{}]") ≡ Some (map (entry (codes "a b") 1 (list (item 1 (map no_entries) no_items)) no_entries))
+tab_behind_dash : tree 16 (text ((45 ∷ 9 ∷ codes "a: 1") ∷ codes "  b: 2" ∷ [])) ≡ Some (list (item 1 (map (holds (codes "a") 1 (codes "1") (holds (codes "b") 2 (codes "2") no_entries))) no_items))
 unfolding block flow_value series
-spaced_key = refl
+tab_behind_dash = refl
 
-dash_key : tree 16 (codes "-: 1") ≡ Some (map (entry (codes "-") 1 (s (codes "1") 1) no_entries))
+-- The value of an item without content is the deeper lines below, else null.
+item_values : tree 16 (text (codes "-" ∷ codes "  a: 1" ∷ codes "-" ∷ [])) ≡ Some (list (item 1 (map (holds (codes "a") 2 (codes "1") no_entries)) (item 3 null no_items)))
 unfolding block flow_value series
-dash_key = refl
+item_values = refl
 
-dashes_in_key : tree 16 (codes "--- a: 1") ≡ Some (map (entry (codes "--- a") 1 (s (codes "1") 1) no_entries))
+-- All items of a list stand at one indentation, and no line stands at one that is not open.
+uneven_items : refused (text (codes "- a" ∷ codes " - b" ∷ []) ∷ text (codes "- a: 1" ∷ codes " b: 2" ∷ []) ∷ text (codes "-   a: 1" ∷ codes "  b: 2" ∷ [])
+    ∷ text (codes "- x" ∷ codes "  y" ∷ []) ∷ []) ≡ true
 unfolding block flow_value series
-dashes_in_key = refl
+uneven_items = refl
 
-end_marker : tree 16 (text (codes "..." ∷ codes "a: 1" ∷ [])) ≡ None
+-- A block of deeper lines is a map or a list, and of one kind to its end.
+misfits : refused (text (codes "a: 1" ∷ codes "- b" ∷ []) ∷ text (codes "- a" ∷ codes "b: 1" ∷ []) ∷ text (codes "a:" ∷ codes "  hello" ∷ [])
+    ∷ text (codes "a:" ∷ codes "  [b]" ∷ []) ∷ text (codes "a:" ∷ codes "  b: 1" ∷ codes "- 2" ∷ []) ∷ text (codes "a: 1" ∷ codes "b" ∷ []) ∷ []) ≡ true
 unfolding block flow_value series
-end_marker = refl
+misfits = refl
 
-empty_key : tree 16 (codes "\"\": 1") ≡ None
+-- No line with content follows a scalar or a collection in brackets that is the whole text.
+below_the_whole : refused (text (codes "x" ∷ codes "y: 1" ∷ []) ∷ text (codes "[a]" ∷ codes "- b" ∷ []) ∷ text (codes "'x'" ∷ codes "  y" ∷ []) ∷ []) ≡ true
 unfolding block flow_value series
-empty_key = refl
+below_the_whole = refl
 
-directive : tree 16 (codes "%YAML") ≡ None
-unfolding block flow_value series
-directive = refl
+-- BLOCK TEXTS
 
-colon_alone : tree 16 (codes "[:]") ≡ None
-unfolding block flow_value series
-colon_alone = refl
-
-dash_in_flow : tree 16 (codes "[-]") ≡ Some (list (item 1 (s (codes "-") 1) no_items))
-unfolding block flow_value series
-dash_in_flow = refl
-
-comment_below_text : tree 16 (text (codes "a: |" ∷ codes "# c" ∷ codes "  x" ∷ codes "b: >-" ∷ [])) ≡ Some (map (entry (codes "a") 1 (scalar [] true 1) (entry (codes "b") 4 (scalar [] true 4) no_entries)))
+-- Signs and digits may stand behind `|` or `>`. All lines that are blank or deeper belong to the text, which is read as empty.
+comment_below_text : tree 16 (text (codes "a: |" ∷ codes "# c" ∷ codes "  x: [" ∷ [] ∷ codes " - 'y" ∷ codes "b: >-2 # d" ∷ []))
+    ≡ Some (map (entry (codes "a") 1 (scalar [] true 1) (entry (codes "b") 6 (scalar [] true 6) no_entries)))
 unfolding block flow_value series
 comment_below_text = refl
+
+-- Other text there is refused, and an item at the key's own indentation ends the text.
+beside_header : refused (codes "a: |x" ∷ codes "- >1 x" ∷ text (codes "a: |" ∷ codes "  x" ∷ codes "- y" ∷ []) ∷ []) ≡ true
+unfolding block flow_value series
+beside_header = refl
+
+-- Where no key and no dash comes before it, the sign begins a plain scalar.
+bar_alone : tree 16 (codes "| x") ≡ Some (s (codes "| x") 1)
+unfolding block flow_value series
+bar_alone = refl

@@ -4,7 +4,7 @@ use Rattle.std.specs.Int.{IsGcd}
 use Rattle.std.proofs.lemmas.Int.{ints}
 use Rattle.fisca_num.specs.declared.faults.NumFault.TheVariants.{TooWide}
 use Rattle.fisca_num.specs.Rational.{Ratio, IsLowest, IsWithin, Reduces, signed}
-use Rattle.fisca_num.specs.Number.{lowest-neg, within-neg}
+use Rattle.fisca_num.specs.Number.{lowest-neg, within-neg, lowest-whole}
 use Rattle.fisca_num.specs.Lowest.{IsCoprime, coprime_from_gcd}
 use Rattle.fisca_num.specs.Reduced.{divides_alike, quotient_pos, reduces_once}
 use Rattle.fisca_num.specs.Operations.{number_of, only_number_of}
@@ -31,12 +31,17 @@ itself r h = record { some = h.positive; same = refl; lowest = h }
 pub reduces_as : (b : Bool) (v : ℤ) (size d : ℕ) → v ≡ signed b size → IsLowest (signed b size) d → Reduces (record { numerator = signed b size; denominator = d }) (record { numerator = v; denominator = d })
 reduces_as b v size d e h = rw e (itself (record { numerator = signed b size; denominator = d }) h)
 
-pub beyond : (b : Bool) (size d : ℕ) → IsLowest (signed b size) d → (size < 2 ^ 63 → d < 2 ^ 63 → ⊥) → Err TooWide ≡ number_of (record { numerator = signed b size; denominator = d })
-beyond b size d h wide = only_number_of (record { numerator = signed b size; denominator = d }) (Err TooWide) (record {
+pub reduces_whole : (n v : ℤ) → v ≡ n → Reduces (record { numerator = n; denominator = 1 }) (record { numerator = v; denominator = 1 })
+reduces_whole n v e = rw e (itself (record { numerator = n; denominator = 1 }) (lowest-whole n))
+
+pub outside : (r : Ratio) → IsLowest r.numerator r.denominator → (unsigned_abs r.numerator < 2 ^ 63 → r.denominator < 2 ^ 63 → ⊥) → Err TooWide ≡ number_of r
+outside r h wide = only_number_of r (Err TooWide) (record {
   some = h.positive;
-  wide = λ v x w. let same = reduces_once (record { numerator = signed b size; denominator = d }) v (record { numerator = signed b size; denominator = d }) x (itself _ h) in
-      wide (rw (ap unsigned_abs same.0, size-signed b size) at w.above) (rw same.1 at w.below);
+  wide = λ v x w. let same = reduces_once r v r x (itself r h) in wide (rw (ap unsigned_abs same.0) at w.above) (rw same.1 at w.below);
 })
+
+pub beyond : (b : Bool) (size d : ℕ) → IsLowest (signed b size) d → (size < 2 ^ 63 → d < 2 ^ 63 → ⊥) → Err TooWide ≡ number_of (record { numerator = signed b size; denominator = d })
+beyond b size d h wide = outside (record { numerator = signed b size; denominator = d }) h (λ p q. wide (rw (size-signed b size) at p) q)
 
 pub within_of : (b : Bool) (v : ℤ) (size d : ℕ) → v ≡ signed b size → size < 2 ^ 63 → d < 2 ^ 63 → IsWithin v d
 within_of b v size d e p q = record { above = rw (e, size-signed b size) p; below = q }

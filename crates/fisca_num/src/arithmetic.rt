@@ -24,14 +24,26 @@ impl Fraction {
     pub fn add(self, other: Fraction) -> Result<Fraction, NumFault>
         ensures { result ≡ sum_of self other }
     {
-        if self.denominator == other.denominator {
-            self.add_like(other)
-        } else {
-            self.add_unlike(other)
+        if self.denominator != other.denominator {
+            return self.add_unlike(other);
         }
+        if self.denominator == 1 {
+            return self.add_whole(other);
+        }
+        self.add_like(other)
+    }
+
+    /// The sum of whole numbers, which needs no divisor.
+    fn add_whole(self, other: Fraction) -> Result<Fraction, NumFault>
+        requires left { self.denominator ≡ 1 }
+        requires like { self.denominator ≡ other.denominator }
+        ensures { result ≡ sum_of self other }
+    {
+        from_whole(added(self.numerator, other.numerator))
     }
 
     /// The sum over one denominator.
+    #[inline(never)]
     fn add_like(self, other: Fraction) -> Result<Fraction, NumFault>
         requires { self.denominator ≡ other.denominator }
         ensures { result ≡ sum_of self other }
@@ -41,6 +53,7 @@ impl Fraction {
     }
 
     /// The sum over two denominators, of which only what they share is looked for in it.
+    #[inline(never)]
     fn add_unlike(self, other: Fraction) -> Result<Fraction, NumFault>
         ensures { result ≡ sum_of self other }
     {
@@ -79,6 +92,7 @@ impl Fraction {
     }
 
     /// The product, each numerator freed of what it shares with the other denominator.
+    #[inline(never)]
     fn mul_crosswise(self, other: Fraction) -> Result<Fraction, NumFault>
         ensures { result ≡ product_of self other }
     {

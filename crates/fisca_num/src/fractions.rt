@@ -27,23 +27,29 @@ impl Model for Fraction {
 
 impl Fraction {
     /// The number 0.
+    pub const ZERO: Fraction = Fraction {
+        numerator: 0,
+        denominator: 1,
+    };
+
+    /// The number 1.
+    pub const ONE: Fraction = Fraction {
+        numerator: 1,
+        denominator: 1,
+    };
+
+    /// The constant `ZERO`, with its contract.
     pub fn zero() -> Fraction
         ensures { result ≡ zero_number }
     {
-        Fraction {
-            numerator: 0,
-            denominator: 1,
-        }
+        Fraction::ZERO
     }
 
-    /// The number 1.
+    /// The constant `ONE`, with its contract.
     pub fn one() -> Fraction
         ensures { result ≡ one_number }
     {
-        Fraction {
-            numerator: 1,
-            denominator: 1,
-        }
+        Fraction::ONE
     }
 
     /// The numerator in lowest terms, which carries the sign.

@@ -14,6 +14,9 @@ use crate::fractions::Fraction;
 /// The greatest part of a fraction.
 const LIMIT: u128 = 0x7fff_ffff_ffff_ffff;
 
+/// The same as a numerator.
+const MOST: i128 = 0x7fff_ffff_ffff_ffff;
+
 /// The number that `numerator / denominator` is.
 pub(crate) fn reduce(numerator: i128, denominator: u128) -> Result<Fraction, NumFault>
     ensures { result ≡ number_of (record { numerator = numerator; denominator = denominator }) }
@@ -122,8 +125,13 @@ pub(crate) fn reduce_shared(
 pub(crate) fn from_whole(number: i128) -> Result<Fraction, NumFault>
     ensures { result ≡ number_of (record { numerator = number; denominator = 1 }) }
 {
-    let (negative, size) = parts_of(number);
-    from_lowest(negative, size, 1)
+    if number < -MOST || number > MOST {
+        return Err(NumFault::TooWide);
+    }
+    Ok(Fraction {
+        numerator: number as i64,
+        denominator: 1,
+    })
 }
 
 /// The number with these parts, which are in lowest terms.

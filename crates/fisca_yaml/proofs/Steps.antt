@@ -1,6 +1,6 @@
 -- Steps along the bytes of a line.
 use Rattle.std.proofs.Common.{◌≡◌, ℕ, zero, suc, ◌+◌, ◌<◌, ◌≤◌, Bool, true, false, ltb, List, [], ◌∷◌, ◌++◌, length, get_or, take, drop, Some, None, refl, sym, ap, ap₂, ◌∙◌, arith, append_assoc}
-use Rattle.std.specs.Prelude.{◌==◌, ◌&&◌}
+use Rattle.std.specs.Prelude.{◌==◌, ◌&&◌, is_some}
 use Rattle.std.proofs.lemmas.List.{at_drop_more, take_more}
 use Rattle.std.proofs.lemmas.Bool.Decides.{nat_tests}
 use Rattle.fisca_yaml.specs.Rows.{is_blank, ends_mark, indented, following}
@@ -101,6 +101,10 @@ key_ends bs i after h e = at_drop_more (key_split after) bs i 0 h ∙ key_commen
 
 pub key_here : (bs : List ℕ) (i : ℕ) (after : Bool) → i < length bs → ((get_or bs i 0 == 35) && after) ≡ false → ((get_or bs i 0 == 58) && ends_mark (drop (i + 1) bs)) ≡ true → key_split after (drop i bs) ≡ Some ([], drop (i + 1) bs)
 key_here bs i after h e f = at_drop_more (key_split after) bs i 0 h ∙ key_mark after (get_or bs i 0) (drop (i + 1) bs) e f
+
+pub key_stops : (bs : List ℕ) (i : ℕ) (after : Bool) → i < length bs → ((get_or bs i 0 == 35) && after) ≡ false → ((get_or bs i 0 == 58) && ends_mark (drop (i + 1) bs)) ≡ true
+    → is_some (prepend (take i bs) (key_split after (drop i bs))) ≡ true
+key_stops bs i after h e f = ap (λ r. is_some (prepend (take i bs) r)) (key_here bs i after h e f)
 
 -- a plain scalar in brackets
 word_going : (after : Bool) (b : ℕ) (bs : List ℕ) → stops after b bs ≡ false → word after (b ∷ bs) ≡ b ∷ word (is_blank b) bs

@@ -1,4 +1,4 @@
-ghost use Rattle.std.specs.Prelude.{◌≡◌, ◌≢◌, ◌+◌, ◌<◌, ◌≤◌, ◌&&◌, length, Some, None, MatchOption, slice_index, take, drop, option_map, is_some, false, ◌==◌};
+ghost use Rattle.std.specs.Prelude.{◌≡◌, ◌≢◌, ◌+◌, ◌<◌, ◌≤◌, ◌&&◌, length, Some, None, MatchOption, slice_index, take, drop, option_map, is_some, true, false, ◌==◌};
 ghost use Rattle.fisca_yaml.specs.Rows.{ends_mark};
 ghost use Rattle.fisca_yaml.specs.Scalars.{key_split, before_comment, trim_end, is_null_word, is_key};
 ghost use Rattle.fisca_yaml.specs.Flow.{stops, ends_key, ends_value, word, past_word};
@@ -42,31 +42,35 @@ pub(crate) fn colon(bytes: &[u8]) -> Option<usize>
     None
 }
 
-/// The length of a line up to a comment.
-#[tactic(auto, using(crate::proofs::Steps::comment_more, crate::proofs::Steps::comment_here))]
-fn comment(bytes: &[u8]) -> usize
-    ensures within { result ≤ length bytes.now }
-    ensures ascii { result < length bytes.now → slice_index bytes.now result < 128 }
-    ensures value { before_comment false bytes.now ≡ take result bytes.now }
+/// The length of a line up to a comment, unless a colon stands before it that a blank or the end follows.
+#[tactic(auto, using(crate::proofs::Steps::key_more, crate::proofs::Steps::key_ends, crate::proofs::Steps::key_stops, crate::proofs::Steps::comment_more, crate::proofs::Steps::comment_here))]
+fn value_len(bytes: &[u8]) -> Option<usize>
+    ensures { MatchOption result (is_some (key_split false bytes.now) ≡ true) (λ n. (n ≤ length bytes.now) × (n < length bytes.now → slice_index bytes.now n < 128)
+        × (is_some (key_split false bytes.now) ≡ false) × (before_comment false bytes.now ≡ take n bytes.now)) }
 {
     let mut at = 0;
     let mut after = false;
     'bytes: while at < bytes.len() {
         let b = bytes[at];
         if is_comment(b, after) {
-            return at;
+            return Some(at);
+        }
+        if begins_mark(bytes, at) {
+            return None;
         }
         after = is_blank(b);
         at += 1;
     }
-    at
+    Some(at)
 }
 
-/// A line up to a comment.
-pub(crate) fn before_comment(text: &str) -> &str
-    ensures { result.now ≡ before_comment false text.now }
+/// A line up to a comment, unless a colon stands before it that a blank or the end follows.
+pub(crate) fn value_text(text: &str) -> Option<&str>
+    ensures { MatchOption result (is_some (key_split false text.now) ≡ true)
+        (λ t. (is_some (key_split false text.now) ≡ false) × (t.now ≡ before_comment false text.now)) }
 {
-    &text[..comment(text.as_bytes())]
+    let n = value_len(text.as_bytes())?;
+    Some(&text[..n])
 }
 
 /// Whether a plain word stands for nothing.

@@ -14,7 +14,7 @@ use crate::line::Line;
 use crate::lines::Lines;
 use crate::marks::{around, begins, ends_line, is_bracket, is_quote, may_begin, trim_end};
 use crate::misfit::{is_open, misplaced};
-use crate::plain::{before_comment, colon};
+use crate::plain::value_text;
 use crate::quoted::read_quoted;
 use crate::tree::{Text, Tree, leaf, quoted_scalar};
 use std::alloc::Global;
@@ -72,10 +72,10 @@ fn read_plain_value<'a>(line: Line<'a>) -> Result<Tree<'a>, YamlFault>
     if !may_begin(bytes) {
         return Err(at(line.number, refused_kind(bytes)));
     }
-    if colon(bytes).is_some() {
-        return Err(at(line.number, Kind::Unsupported));
+    match value_text(line.content) {
+        Some(text) => Ok(leaf(line.number, trim_end(text))),
+        None => Err(at(line.number, Kind::Unsupported)),
     }
-    Ok(leaf(line.number, trim_end(before_comment(line.content))))
 }
 
 /// A value that stands on its line. No line may be deeper than the floor behind it.

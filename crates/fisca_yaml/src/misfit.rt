@@ -42,14 +42,14 @@ pub(crate) fn misfit(alloc: Global, line: Line<'_>, depth: usize) -> YamlFault {
 /// The fault of an entry or a scalar by itself.
 fn look_over(alloc: Global, line: Line<'_>, depth: usize) -> Result<(), YamlFault> {
     let Some((key, rest)) = line.entry(alloc)? else {
-        let _value = read_on_line(alloc, line, depth)?;
+        let _value = read_on_line(alloc, &line, depth)?;
         return Ok(());
     };
     if !is_key(key.as_str()) {
         return Err(at(line.number, Kind::Unsupported));
     }
     if let Some(value) = Line::following(line.number, 0, rest) {
-        let _value = read_on_line(alloc, value, depth)?;
+        let _value = read_on_line(alloc, &value, depth)?;
     }
     Ok(())
 }

@@ -1,9 +1,9 @@
-ghost use Rattle.std.specs.Prelude.{◌≡◌, ◌≢◌, ℕ, ◌^◌, length, ◌∷◌, ◌<◌, ◌-◌, Some, None, Ok, Err, IfOk, OnOk, IfErr, IsTrue, is_some};
+ghost use Rattle.std.specs.Prelude.{◌≡◌, ◌≢◌, ℕ, ◌^◌, length, ◌∷◌, ◌<◌, ◌-◌, Some, None, Ok, Err, IfOk, OnOk, IfErr, IsTrue, List, MatchResult, is_some};
 ghost use Rattle.fisca_yaml.specs.Rows.{rank, begins_item, following};
 ghost use Rattle.fisca_yaml.specs.Grouping.{Group, front, after, groups, items_of, entries_of, item_value, entry_value, entry_rest, block, map_of, tree, IsTree, Within, document};
 ghost use Rattle.fisca_yaml.specs.Node.{Node};
 ghost use Rattle.fisca_yaml.specs.Lines.{row};
-ghost use Rattle.fisca_yaml.specs.Views.{node, items_view, entries_view, keyed_view};
+ghost use Rattle.fisca_yaml.specs.Views.{node, items_view, entries_view, AddsEntry};
 ghost use Rattle.fisca_yaml.specs.Answers.{Gives};
 
 use crate::fault::{Kind, YamlFault, at};
@@ -60,7 +60,7 @@ fn read_tree(alloc: Global, text: &str) -> Result<Tree<'_>, YamlFault>
             if head.opens(alloc)? {
                 read_block(alloc, head, &mut lines, 0, MAX_DEPTH)
             } else {
-                read_alone(alloc, head, &mut lines, 0, MAX_DEPTH)
+                read_alone(alloc, &head, &mut lines, 0, MAX_DEPTH)
             }
         }
     }
@@ -140,7 +140,7 @@ fn read_item<'a>(
             if inner.opens(alloc)? {
                 read_block(alloc, inner, rest, floor, depth)
             } else {
-                read_beside(alloc, inner, rest, line.indent, floor, depth)
+                read_beside(alloc, &inner, rest, line.indent, floor, depth)
             }
         }
     }
@@ -193,38 +193,44 @@ fn read_entries<'a>(
             let fault = misplaced(alloc, line, open, depth);
             return Err(first_fault(alloc, &entries, None, fault));
         }
-        let (key, value) = read_entry(alloc, line, rest, depth, &entries)?;
-        push_entry(&mut entries, key, line.number, value)?;
+        read_entry(alloc, &line, rest, depth, &mut entries)?;
         next = rest.next_deeper(floor);
     }
     Ok(entries)
 }
 
-/// The key of an entry, and its value from what follows the colon and the deeper lines. These entries came before.
+/// Puts an entry behind those before it: its key, and its value from what follows the colon and the deeper lines. It is moved
+/// there once, since texts and trees take several words.
 #[cycle(read)]
 fn read_entry<'a>(
     alloc: Global,
-    line: Line<'a>,
+    line: &Line<'a>,
     rest: &mut Lines<'a>,
     depth: usize,
-    before: &[Entry<'a>],
-) -> Result<(Text<'a>, Tree<'a>), YamlFault>
-    ensures value { Gives keyed_view result (entry_value depth (block depth) (record { head = row line.entry; inside = front (rank (row line.entry)) rest.old })) }
-    ensures rest { OnOk result (rest.new ≡ after (rank (row line.entry)) rest.old) }
+    entries: &mut Vec<Entry<'a>>,
+) -> Result<(), YamlFault>
+    ensures value { MatchResult result
+        (λ _. (p : List ℕ × Node) × ((entry_value depth (block depth) (record { head = row line.now; inside = front (rank (row line.now)) rest.old }) ≡ Some p)
+        × AddsEntry entries.old.items entries.new.items p.0 line.now.number p.1))
+        (λ f. f.kind ≢ Kind.Memory → entry_value depth (block depth) (record { head = row line.now; inside = front (rank (row line.now)) rest.old }) ≡ None) }
+    ensures rest { OnOk result (rest.new ≡ after (rank (row line.now)) rest.old) }
 {
     let Some((key, tail)) = line.entry(alloc)? else {
-        let fault = misfit(alloc, line, depth);
-        return Err(first_fault(alloc, before, None, fault));
+        let fault = misfit(alloc, *line, depth);
+        return Err(first_fault(alloc, entries, None, fault));
     };
     if !is_key(key.as_str()) {
         let fault = at(line.number, Kind::Unsupported);
-        return Err(first_fault(alloc, before, None, fault));
+        return Err(first_fault(alloc, entries, None, fault));
     }
     match read_value(alloc, line, tail, rest, depth) {
-        Ok(value) => Ok((key, value)),
+        Ok(value) => {
+            push_entry(entries, key, line.number, value)?;
+            Ok(())
+        }
         Err(fault) => {
             let last = Some((key.as_str(), line.number));
-            Err(first_fault(alloc, before, last, fault))
+            Err(first_fault(alloc, entries, last, fault))
         }
     }
 }
@@ -233,18 +239,18 @@ fn read_entry<'a>(
 #[cycle(read)]
 fn read_value<'a>(
     alloc: Global,
-    line: Line<'a>,
+    line: &Line<'a>,
     tail: &'a str,
     rest: &mut Lines<'a>,
     depth: usize,
 ) -> Result<Tree<'a>, YamlFault>
     requires { length tail.now < 2 ^ 32 }
-    ensures value { Gives node result (entry_rest depth (block depth) line.entry.indent (following line.entry.number 0 tail.now) (front (rank (row line.entry)) rest.old)) }
-    ensures rest { OnOk result (rest.new ≡ after (rank (row line.entry)) rest.old) }
+    ensures value { Gives node result (entry_rest depth (block depth) line.now.indent (following line.now.number 0 tail.now) (front (rank (row line.now)) rest.old)) }
+    ensures rest { OnOk result (rest.new ≡ after (rank (row line.now)) rest.old) }
 {
     let floor = line.rank();
     match Line::following(line.number, 0, tail) {
         None => read_below(alloc, rest, floor, depth),
-        Some(inner) => read_beside(alloc, inner, rest, line.indent, floor, depth),
+        Some(inner) => read_beside(alloc, &inner, rest, line.indent, floor, depth),
     }
 }

@@ -22,10 +22,10 @@ use std::alloc::Global;
 /// The value that begins and ends on a line: a scalar or a collection in brackets.
 pub(crate) fn read_on_line<'a>(
     alloc: Global,
-    line: Line<'a>,
+    line: &Line<'a>,
     depth: usize,
 ) -> Result<Tree<'a>, YamlFault>
-    ensures { Gives node result (on_line depth (row line.entry)) }
+    ensures { Gives node result (on_line depth (row line.now)) }
 {
     let bytes = line.content.as_bytes();
     if is_bracket(bytes) {
@@ -38,8 +38,8 @@ pub(crate) fn read_on_line<'a>(
 }
 
 /// A collection in brackets, up to the line's end.
-fn read_bracketed<'a>(alloc: Global, line: Line<'a>, depth: usize) -> Result<Tree<'a>, YamlFault>
-    ensures { Gives node result (ended (flow_value depth line.entry.number line.entry.content.now)) }
+fn read_bracketed<'a>(alloc: Global, line: &Line<'a>, depth: usize) -> Result<Tree<'a>, YamlFault>
+    ensures { Gives node result (ended (flow_value depth line.now.number line.now.content.now)) }
 {
     let mut flow = Flow::new(line.content);
     let tree = read_flow(alloc, line.number, &mut flow, depth)?;
@@ -51,8 +51,8 @@ fn read_bracketed<'a>(alloc: Global, line: Line<'a>, depth: usize) -> Result<Tre
 }
 
 /// A quoted scalar, up to the line's end.
-fn read_quoted_value<'a>(alloc: Global, line: Line<'a>) -> Result<Tree<'a>, YamlFault>
-    ensures { Gives node result (quoted_value line.entry.number (quoted line.entry.content.now)) }
+fn read_quoted_value<'a>(alloc: Global, line: &Line<'a>) -> Result<Tree<'a>, YamlFault>
+    ensures { Gives node result (quoted_value line.now.number (quoted line.now.content.now)) }
 {
     let Some((text, rest)) = read_quoted(alloc, line.content)? else {
         return Err(at(line.number, Kind::BadQuote));
@@ -65,8 +65,8 @@ fn read_quoted_value<'a>(alloc: Global, line: Line<'a>) -> Result<Tree<'a>, Yaml
 }
 
 /// A plain scalar, up to the line's end or a comment.
-fn read_plain_value<'a>(line: Line<'a>) -> Result<Tree<'a>, YamlFault>
-    ensures { Gives node result (plain_value line.entry.number line.entry.content.now) }
+fn read_plain_value<'a>(line: &Line<'a>) -> Result<Tree<'a>, YamlFault>
+    ensures { Gives node result (plain_value line.now.number line.now.content.now) }
 {
     let bytes = line.content.as_bytes();
     if !may_begin(bytes) {
@@ -81,34 +81,32 @@ fn read_plain_value<'a>(line: Line<'a>) -> Result<Tree<'a>, YamlFault>
 /// A value that stands on its line. No line may be deeper than the floor behind it.
 pub(crate) fn read_alone<'a>(
     alloc: Global,
-    line: Line<'a>,
+    line: &Line<'a>,
     rest: &mut Lines<'a>,
     floor: usize,
     depth: usize,
 ) -> Result<Tree<'a>, YamlFault>
-    ensures value { Gives node result (alone (front floor rest.old) (on_line depth (row line.entry))) }
+    ensures value { Gives node result (alone (front floor rest.old) (on_line depth (row line.now))) }
     ensures rest { OnOk result (rest.new ≡ after floor rest.old) }
 {
-    let tree = read_on_line(alloc, line, depth)?;
-    match rest.next_deeper(floor) {
-        None => Ok(tree),
-        Some(deeper) => {
-            let open = is_open(floor, deeper.indent);
-            Err(misplaced(alloc, deeper, open, depth))
-        }
-    }
+    let Some(deeper) = rest.next_deeper(floor) else {
+        return read_on_line(alloc, line, depth);
+    };
+    let _value = read_on_line(alloc, line, depth)?;
+    let open = is_open(floor, deeper.indent);
+    Err(misplaced(alloc, deeper, open, depth))
 }
 
 /// A value beside a key or a dash that stands at this indentation.
 pub(crate) fn read_beside<'a>(
     alloc: Global,
-    line: Line<'a>,
+    line: &Line<'a>,
     rest: &mut Lines<'a>,
     indent: usize,
     floor: usize,
     depth: usize,
 ) -> Result<Tree<'a>, YamlFault>
-    ensures value { Gives node result (beside depth indent (row line.entry) (front floor rest.old)) }
+    ensures value { Gives node result (beside depth indent (row line.now) (front floor rest.old)) }
     ensures rest { OnOk result (rest.new ≡ after floor rest.old) }
 {
     let bytes = line.content.as_bytes();
@@ -151,14 +149,14 @@ fn is_sign(b: u8) -> bool
 /// A block text, whose lines are deeper than its key or dash.
 fn read_text<'a>(
     alloc: Global,
-    line: Line<'a>,
+    line: &Line<'a>,
     rest: &mut Lines<'a>,
     indent: usize,
     floor: usize,
     depth: usize,
 ) -> Result<Tree<'a>, YamlFault>
-    requires { begins_text (row line) ≡ true }
-    ensures value { Gives node result (text_block indent (row line.entry) (front floor rest.old)) }
+    requires { begins_text (row line.now) ≡ true }
+    ensures value { Gives node result (text_block indent (row line.now) (front floor rest.old)) }
     ensures rest { OnOk result (rest.new ≡ after floor rest.old) }
 {
     if !is_header(tail(line.content)) {

@@ -97,7 +97,7 @@ read_items-returns-in_err-value-clause-value t c =
 pub read_entries-loop-next-smaller : goal.read_entries-loop-next-smaller
 read_entries-loop-next-smaller t c =
     let l = c.loop-next in
-    let left = c.in_ok-key.ensures.rest in
+    let left = c.in_ok-read_entry.ensures.rest in
     let took : Takes c.args.floor c.read_entry.new.rest (option_map row c.next_deeper-next.result) c.next_deeper-next.new.self = takes c.args.floor c.read_entry.new.rest row c.next_deeper-next.result c.next_deeper-next.new.self c.next_deeper-next.ensures.none c.next_deeper-next.ensures.some in
     let fewer = Takes-fewer c.args.floor (rank (row c.in-Some.line)) l.rest (option_map row c.next_deeper-next.result) c.next_deeper-next.new.self (rw left at took) in
     omega (arith, fewer, waiting-map row c.next_deeper-next.result, ap waiting c.in-Some.is)
@@ -111,12 +111,13 @@ read_entries-loop-next-preserved t c =
     let value = entry_value c.args.depth (block c.args.depth) in
     let next = option_map row c.next_deeper-next.result in
     let new = c.next_deeper-next.new.self in
-    let left = c.in_ok-key.ensures.rest in
+    let left = c.in_ok-read_entry.ensures.rest in
     let below : f ≤ r = grind arith in
     let here : rank line ≡ r = grind arith in
     let took : Takes f c.read_entry.new.rest next new = takes f c.read_entry.new.rest row c.next_deeper-next.result new c.next_deeper-next.ensures.none c.next_deeper-next.ensures.some in
     let before : entries_of value r (groups r (pending f (option_map row l.next) l.rest)) ≡ entries_of value r (groups r (line ∷ front f l.rest)) = ap (λ o. entries_of value r (groups r (pending f (option_map row o) l.rest))) c.in-Some.is in
-    let more = entries_more value f r line l.rest below here l.entries.items c.push_entry.new.entries.items c.in_ok-key.key (node c.in_ok-key.value) next new c.read_entry.new.rest c.in_ok-key.ensures.value c.in_ok-push_entry.ensures.ok left took in
+    let put = c.in_ok-read_entry.ensures.value in
+    let more = entries_more value f r line l.rest below here l.entries.items c.read_entry.new.entries.items put.0.0 put.0.1 next new c.read_entry.new.rest put.1.0 put.1.1 left took in
     let shallow : front r c.read_entry.new.rest ≡ [] = ap (front r) left ∙ ap (λ k. front r (after k l.rest)) here ∙ front_after r l.rest in
     record {
       turn = l.invariant.turn ∙ ap (option_map (entries_before l.entries.items)) before ∙ more;
@@ -133,8 +134,8 @@ read_entries-returns-clause-value t c =
     let done : entries_of value r (groups r (pending c.args.floor (option_map row l.next) l.rest)) ≡ Some no_entries = ap (λ o. entries_of value r (groups r (pending c.args.floor (option_map row o) l.rest))) c.in_default.is in
     ap (λ k. entries_of value k (groups k (row c.args.head ∷ front c.args.floor c.args.rest.now))) (sym same) ∙ l.invariant.turn ∙ ap (option_map (entries_before l.entries.items)) done ∙ ap Some (entries_before-no_entries l.entries.items)
 
-pub read_entries-returns-in_err-key-clause-value : goal.read_entries-returns-in_err-key-clause-value
-read_entries-returns-in_err-key-clause-value t c =
+pub read_entries-returns-in_err-read_entry-clause-value : goal.read_entries-returns-in_err-read_entry-clause-value
+read_entries-returns-in_err-read_entry-clause-value t c =
     let l = c.loop-next in
     let line = row c.in-Some.line in
     let f = c.args.floor in
@@ -146,7 +147,7 @@ read_entries-returns-in_err-key-clause-value t c =
     let before : entries_of value r (groups r (pending f (option_map row l.next) l.rest)) ≡ entries_of value r (groups r (line ∷ front f l.rest)) = ap (λ o. entries_of value r (groups r (pending f (option_map row o) l.rest))) c.in-Some.is in
     let p = err_from_is_err_and c.from_residual.result c.from_residual.ensures.1 in
     rw (p.1, p.2) (λ k. ap (λ k. entries_of value k (groups k (row c.args.head ∷ front c.args.floor c.args.rest.now))) (sym same) ∙ l.invariant.turn
-    ∙ ap (option_map (entries_before l.entries.items)) (before ∙ entries_none value f r line l.rest below here (c.in_err-key.ensures.value k)))
+    ∙ ap (option_map (entries_before l.entries.items)) (before ∙ entries_none value f r line l.rest below here (c.in_err-read_entry.ensures.value k)))
 
 pub read_below-returns-else-branch-clause-value : goal.read_below-returns-else-branch-clause-value
 read_below-returns-else-branch-clause-value t c k =
@@ -156,3 +157,6 @@ read_below-returns-else-branch-clause-value t c k =
     let lines : front c.args.floor c.args.rest.now ≡ head ∷ front c.args.floor rest = ap (front c.args.floor) taken.0 ∙ front_deeper c.args.floor head rest taken.1 in
     let closed : opens head ≡ false = sym c.in_ok-opens-in-Some.ensures ∙ c.if-branch.false in
     ap (block c.args.depth) lines ∙ block-closed c.args.depth head (front c.args.floor rest) closed
+
+pub read_entry-returns-in_ok-push_entry-in-Ok-clause-value : goal.read_entry-returns-in_ok-push_entry-in-Ok-clause-value
+read_entry-returns-in_ok-push_entry-in-Ok-clause-value t c = ((c.in-Some.key, node c.in-Ok.value), (search rules, c.in_ok-push_entry-in-Ok.ensures.ok))

@@ -1,5 +1,5 @@
 -- The definition beside each sentence of the format: scalars, and what they mean.
-use Rattle.std.proofs.Common.{◌≡◌, [], ◌∷◌, true, false, Some, None, refl}
+use Rattle.std.proofs.Common.{◌≡◌, [], ◌∷◌, ◌++◌, true, false, Some, None, refl}
 use Rattle.std.specs.Prelude.{codes}
 use lib.Utf8.{encode}
 use Rattle.fisca_yaml.specs.Node.{null, scalar, map, no_entries, entry}
@@ -19,7 +19,7 @@ unfolding block flow_value series
 first_signs = refl
 
 -- Nor with `?`, `:` or `-` before a blank or the line's end.
-first_marks : refused (codes "a: ? x" ∷ codes "a: ?" ∷ codes "a: : x" ∷ codes "a: :" ∷ codes "a: - x" ∷ codes "a: -" ∷ codes "? a" ∷ []) ≡ true
+first_marks : refused ((codes "a: " ++ 63 ∷ codes " x") ∷ (codes "a: " ++ 63 ∷ []) ∷ codes "a: : x" ∷ codes "a: :" ∷ codes "a: - x" ∷ codes "a: -" ∷ (63 ∷ codes " a") ∷ []) ≡ true
 unfolding block flow_value series
 first_marks = refl
 

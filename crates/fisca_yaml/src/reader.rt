@@ -20,6 +20,9 @@ use std::alloc::Global;
 /// The longest text, in bytes.
 const MAX_TEXT: usize = 1024 * 1024;
 
+/// For how many entries a map has room at first: most maps of rule files have one or two.
+const FIRST_ENTRIES: usize = 2;
+
 /// How many lists and maps may stand in one another.
 const MAX_DEPTH: usize = 16;
 
@@ -185,7 +188,7 @@ fn read_entries<'a>(
 {
     let rank = head.rank();
     let indent = head.indent;
-    let mut entries = Vec::new(alloc);
+    let mut entries = Vec::with_capacity(alloc, FIRST_ENTRIES)?;
     let mut next = Some(head);
     while let Some(line) = next {
         if line.rank() != rank {

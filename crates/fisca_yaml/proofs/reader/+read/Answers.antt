@@ -145,7 +145,7 @@ read_entries-returns-in_err-read_entry-clause-value t c =
     let below : f ≤ r = grind arith in
     let here : rank line ≡ r = grind arith in
     let before : entries_of value r (groups r (pending f (option_map row l.next) l.rest)) ≡ entries_of value r (groups r (line ∷ front f l.rest)) = ap (λ o. entries_of value r (groups r (pending f (option_map row o) l.rest))) c.in-Some.is in
-    let p = err_from_is_err_and c.from_residual.result c.from_residual.ensures.1 in
+    let p = err_from_is_err_and c.from_residual-in_err-read_entry.result c.from_residual-in_err-read_entry.ensures.1 in
     rw (p.1, p.2) (λ k. ap (λ k. entries_of value k (groups k (row c.args.head ∷ front c.args.floor c.args.rest.now))) (sym same) ∙ l.invariant.turn
     ∙ ap (option_map (entries_before l.entries.items)) (before ∙ entries_none value f r line l.rest below here (c.in_err-read_entry.ensures.value k)))
 

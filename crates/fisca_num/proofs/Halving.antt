@@ -109,21 +109,21 @@ pub record IsStep (x y w k gap : ℕ) : Type 0 where
   pub x_word : x < 2 ^ 64
   pub y_word : y < 2 ^ 64
   pub other : x ≡ y → ⊥
-  pub difference : w ≡ (y + (2 ^ 64 - x)) % 2 ^ 64
+  pub difference : w ≡ (x + (2 ^ 64 - y)) % 2 ^ 64
   pub halved : IsHalved w k
   pub gap_is : gap ≡ abs_diff y x
 
 gap_up : (x y w k gap : ℕ) → IsStep x y w k gap → x < y → (gap ≡ y - x) × IsHalved gap k
 gap_up x y w k gap s h =
     let e : gap ≡ y - x = s.gap_is ∙ omega arith in
-    let f : w ≡ gap = omega (arith, s.difference, s.y_word) in
-    (e, rw f at s.halved)
+    let f : w + gap ≡ 2 ^ 64 = omega (arith, s.difference, s.y_word) in
+    (e, opposite_halved w k gap f s.halved)
 
 gap_down : (x y w k gap : ℕ) → IsStep x y w k gap → y < x → (gap ≡ x - y) × IsHalved gap k
 gap_down x y w k gap s h =
     let e : gap ≡ x - y = s.gap_is ∙ omega arith in
-    let f : w + gap ≡ 2 ^ 64 = omega (arith, s.difference, s.x_word) in
-    (e, opposite_halved w k gap f s.halved)
+    let f : w ≡ gap = omega (arith, s.difference, s.x_word) in
+    (e, rw f at s.halved)
 
 pub step_gcd : (x y w k gap g : ℕ) → IsStep x y w k gap → IsGcd (min x y) (gap / 2 ^ k) g → IsGcd x y g
 step_gcd x y w k gap g s h =

@@ -79,7 +79,7 @@ fn odd_gcd(a: u64, b: u64) -> u64
     let mut x = a;
     let mut y = b;
     while x != y {
-        let twos = halvings(y.wrapping_sub(x));
+        let twos = halvings(x.wrapping_sub(y));
         let less = x.min(y);
         y = y.abs_diff(x) >> twos;
         x = less;

@@ -5,7 +5,7 @@ use Rattle.fisca_num.proofs.divisors.odd_gcd.Goals as goal
 
 pub loop-x-preserved : goal.loop-x-preserved
 loop-x-preserved c =
-    let s : IsStep c.loop-x.x c.loop-x.y ((c.loop-x.y + (2 ^ 64 - c.loop-x.x)) % 2 ^ 64) c.halvings-twos.result c.abs_diff.result = record {
+    let s : IsStep c.loop-x.x c.loop-x.y ((c.loop-x.x + (2 ^ 64 - c.loop-x.y)) % 2 ^ 64) c.halvings-twos.result c.abs_diff.result = record {
       x_odd = c.loop-x.invariant.x_odd;
       y_odd = c.loop-x.invariant.y_odd;
       x_word = omega arith;

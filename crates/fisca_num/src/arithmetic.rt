@@ -7,7 +7,9 @@ ghost use Rattle.fisca_num.specs.Operations.{number_of, number_over, sum_of, dif
 use crate::divisors::{gcd, quotient_by};
 use crate::faults::NumFault;
 use crate::fractions::Fraction;
-use crate::reduction::{from_lowest, from_whole, reduce, reduce_shared, reduce_word_sum};
+use crate::reduction::{
+    from_lowest, from_whole, from_word, reduce, reduce_shared, reduce_word_sum,
+};
 
 impl Fraction {
     /// The fraction `numerator / denominator` in lowest terms.
@@ -39,7 +41,10 @@ impl Fraction {
         requires like { self.denominator ≡ other.denominator }
         ensures { result ≡ sum_of self other }
     {
-        from_whole(added(self.numerator, other.numerator))
+        match self.numerator.checked_add(other.numerator) {
+            Some(sum) => from_word(sum),
+            None => Err(NumFault::TooWide),
+        }
     }
 
     /// The sum over one denominator.

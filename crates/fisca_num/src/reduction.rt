@@ -14,8 +14,8 @@ use crate::fractions::Fraction;
 /// The greatest part of a fraction.
 const LIMIT: u128 = 0x7fff_ffff_ffff_ffff;
 
-/// The same as a numerator.
-const MOST: i128 = 0x7fff_ffff_ffff_ffff;
+/// The least numerator.
+const LEAST: i64 = -0x7fff_ffff_ffff_ffff;
 
 /// The number that `numerator / denominator` is.
 pub(crate) fn reduce(numerator: i128, denominator: u128) -> Result<Fraction, NumFault>
@@ -125,11 +125,21 @@ pub(crate) fn reduce_shared(
 pub(crate) fn from_whole(number: i128) -> Result<Fraction, NumFault>
     ensures { result ≡ number_of (record { numerator = number; denominator = 1 }) }
 {
-    if number < -MOST || number > MOST {
+    match i64::try_from(number) {
+        Ok(word) => from_word(word),
+        Err(_) => Err(NumFault::TooWide),
+    }
+}
+
+/// The number that a whole number is which fits a word.
+pub(crate) fn from_word(number: i64) -> Result<Fraction, NumFault>
+    ensures { result ≡ number_of (record { numerator = number; denominator = 1 }) }
+{
+    if number < LEAST {
         return Err(NumFault::TooWide);
     }
     Ok(Fraction {
-        numerator: number as i64,
+        numerator: number,
         denominator: 1,
     })
 }

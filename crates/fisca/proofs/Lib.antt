@@ -4,3 +4,4 @@ mod Prefixes
 mod ManyWords
 mod Matches
 mod Parses
+mod Parts

@@ -3,6 +3,7 @@ use Rattle.std.specs.Prelude.{◌≡◌, ℕ, ◌<◌, ◌≤◌, ◌++◌, Bool
 use Rattle.std.specs.Fmt.{decimal}
 use Rattle.std.specs.Io.KnownBytes.{Appends, Keeps}
 use Rattle.fisca_grid.specs.Run.{IsProperPrefix}
+use Rattle.fisca_params.specs.Answers.{Refuses}
 use Rattle.fisca_params.specs.Source.{Source}
 use Rattle.fisca_params.specs.Paths.{names_of}
 use Rattle.fisca_params.specs.Files.{tree_of}
@@ -27,7 +28,7 @@ text_of tree = text_of_count (count_by is_counted tree)
 
 -- the parameter files make this tree, and are not too many
 abbrev pub IsAccepted : List Source → List TreeNode → Type 0
-IsAccepted files tree = (count_of_files files ≤ 1000) × (tree_of files ≡ Some tree)
+IsAccepted files tree = (count_of_files files ≤ 1000) × (tree_of files ≡ Ok tree)
 
 -- the file of a fault, by its place among the files, and the line there
 abbrev pub place_of : ParamFault → Option (ℕ × ℕ)
@@ -53,7 +54,7 @@ abbrev pub IsCheck : List Source → Option (List ℕ) → Option (List ℕ) →
 IsCheck files old new (Ok done) = (tree : List TreeNode) × IsAccepted files tree × Appends old new (text_of tree)
 IsCheck files old new (Err TooManyFiles) = (1000 < count_of_files files) × Keeps old new
 IsCheck files old new (Err (Params path line fault)) =
-    (count_of_files files ≤ 1000) × (tree_of files ≡ None) × StandsAt files (place_of fault) (string_bytes path) line × Keeps old new
+    (count_of_files files ≤ 1000) × Refuses fault (tree_of files) × StandsAt files (place_of fault) (string_bytes path) line × Keeps old new
 IsCheck files old new (Err Write) = (tree : List TreeNode) × IsAccepted files tree × ((part : List ℕ) × IsProperPrefix part (text_of tree) × Appends old new part)
 IsCheck files old new (Err Memory) = Keeps old new
 IsCheck files old new (Err (Axes fault)) = ⊥

@@ -3,4 +3,5 @@ pub mod Condition
 pub mod Refusal
 pub mod AxesRun
 pub mod Check
+pub mod LastLine
 pub mod CommandLine

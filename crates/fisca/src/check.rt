@@ -1,7 +1,8 @@
 //! `fisca check`: whether the files of a rule set are accepted, and what they hold.
 
-ghost use Rattle.std.specs.Prelude.{◌≡◌, ℕ, ◌<◌, cond, IfOk, OnOk, IsTrue, ◌↔◌, string_bytes, length};
+ghost use Rattle.std.specs.Prelude.{◌≡◌, ℕ, ◌<◌, cond, IfOk, IfSome, OnOk, IsTrue, ◌↔◌, string_bytes, length};
 ghost use Rattle.fisca_grid.specs.Sink.{one_more};
+ghost use Rattle.fisca_params.specs.Answers.{file_of};
 ghost use Rattle.fisca.specs.Check.{count_of_files, text_of_count, IsCheck, IsToldOf, is_check_write};
 
 use super::refusal::Refusal;
@@ -28,6 +29,7 @@ fn text_of_count(alloc: Global, parameters: usize) -> Result<String, AllocError>
 
 /// The refusal of parameter files for a fault, with the path of the file that it names.
 fn refuse(alloc: Global, files: &[SourceFile], fault: ParamFault) -> Refusal
+    requires { IfSome (file_of fault) (λ file. file < length files.now) }
     ensures { IsToldOf files.now fault result }
 {
     let (place, line) = match fault {
@@ -36,11 +38,7 @@ fn refuse(alloc: Global, files: &[SourceFile], fault: ParamFault) -> Refusal
         ParamFault::DuplicateName { file, line } => (file, line),
         _ => return Refusal::Memory,
     };
-    let path = match files.get(place) {
-        Some(file) => file.path(),
-        None => "",
-    };
-    match String::from_str(alloc, path) {
+    match String::from_str(alloc, files[place].path()) {
         Ok(path) => Refusal::Params { path, line, fault },
         Err(_) => Refusal::Memory,
     }
@@ -52,7 +50,8 @@ fn refuse(alloc: Global, files: &[SourceFile], fault: ParamFault) -> Refusal
 /// The first refusal in this order is told, and nothing is written before it:
 ///
 /// - `TooManyFiles` exactly where more than 1,000 of the files are not ignored.
-/// - `Params`, with the path and line that the fault names, exactly where the parameter files make no tree.
+/// - `Params` exactly where the parameter files make no tree: what is wrong with the first file, in order of the paths,
+///   that makes none with those before it, its path, and the line that the fault names.
 /// - `Write` only where the sink failed in this call: it has a proper beginning of the line.
 /// - `Memory` only where memory was refused.
 ///

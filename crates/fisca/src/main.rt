@@ -5,6 +5,7 @@ mod axes;
 mod check;
 mod condition;
 mod folder;
+mod last_line;
 mod refusal;
 mod task;
 mod words;
@@ -14,6 +15,7 @@ use check::check_rules;
 use clap::error::ErrorKind;
 use fisca_grid::{RunEnd, StreamSink};
 use folder::{FolderFault, read_rules};
+use last_line::write_end;
 use refusal::Refusal;
 use std::io::{BufWriter, Write};
 use std::process::ExitCode;
@@ -93,7 +95,7 @@ fn run_task(rt: &HostRuntime, task: Task<'_>) -> u8 {
             let mut sink = StreamSink::new(writer);
             let answer = axes_words(rt.alloc(), words.as_slice(), keep, from, rows, &mut sink);
             match answer {
-                Ok(end) => end_run(rt, end, sink.into_writer()),
+                Ok(end) => end_run(rt, end, sink),
                 Err(refusal) => refuse(rt, refusal, sink.into_writer()),
             }
         }
@@ -140,13 +142,9 @@ fn finish<W: Write + Drop>(rt: &HostRuntime, mut writer: W) -> u8 {
 }
 
 /// Writes how the run ended, and hands over what still waits in the buffer.
-fn end_run<W: Write + Drop>(rt: &HostRuntime, end: RunEnd, mut writer: W) -> u8 {
-    let told = match end {
-        RunEnd::End => writeln!(writer, "end"),
-        RunEnd::More(position) => writeln!(writer, "more {position}"),
-    };
-    match told {
-        Ok(()) => finish(rt, writer),
+fn end_run<W: Write + Drop>(rt: &HostRuntime, end: RunEnd, mut sink: StreamSink<W>) -> u8 {
+    match write_end(end, &mut sink) {
+        Ok(()) => finish(rt, sink.into_writer()),
         Err(_) => tell(rt, NOT_WRITTEN, WRITE_FAILED),
     }
 }

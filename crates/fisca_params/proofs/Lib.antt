@@ -4,6 +4,8 @@ pub mod Indexed
 pub mod Latest
 pub mod Ordered
 pub mod PathTexts
+pub mod Refusals
 pub mod Thresholds
 pub mod Walks
 pub mod Worked
+pub mod WorkedTrees

@@ -1,5 +1,5 @@
 -- What the methods of a text find in a path.
-use Rattle.std.proofs.Common.{◌≡◌, ℕ, ◌-◌, ◌<◌, ◌∷◌, [], true, false, eqb, List, length, take, drop, Option, Some, None, option_map, MatchOption, refl, ap, ◌∙◌, ◌+◌, arith, option_and_then, count_by, length-drop}
+use Rattle.std.proofs.Common.{◌≡◌, ℕ, ◌-◌, ◌<◌, ◌∷◌, [], true, false, eqb, List, length, take, drop, Option, Some, None, option_map, MatchOption, refl, ap, ◌∙◌, ◌+◌, arith, count_by, length-drop}
 use Rattle.std.proofs.lemmas.Str.Pattern.{starts_text, ends_text}
 use Rattle.std.specs.Str.Pattern.{FindsTextPrefix, FindsTextSuffix, StripsPrefix, StripsSuffix}
 use Rattle.fisca_params.specs.Paths.{after_start, without_ending, names_in}
@@ -7,6 +7,7 @@ use Rattle.std.specs.List.{position_or_len, before_first, after_first}
 use Rattle.std.proofs.lemmas.List.Splits.{slice_split_none, slice_split_first, length-slice_split}
 use Rattle.std.proofs.lemmas.List.Sums.{fails_before_first}
 use Rattle.fisca_yaml.specs.Node.{Node}
+use Rattle.fisca_params.specs.Results.{and_then}
 use Rattle.fisca_params.specs.Tree.{TreeNode, put_below, enter}
 use denote.Ref.{Bor}
 
@@ -37,11 +38,11 @@ names_cut path (Some x) h =
     (rw (h.1, h.2) (slice_split_first (λ b. eqb b 47) path 0 h.0), rw h.2 (shorter path h.0))
 
 put_names : (t : List TreeNode) (folder : ℕ) (name : List ℕ) (names : List (List ℕ)) (c : ℕ) (n : Node) → length names ≡ c + 1 →
-    put_below t folder (name ∷ names) n ≡ option_and_then (λ e. put_below e.tree e.place names n) (enter t folder name)
+    put_below t folder (name ∷ names) n ≡ and_then (enter t folder name) (λ e. put_below e.tree e.place names n)
 put_names t folder name [] c n h = absurd (omega arith)
 put_names t folder name (m ∷ ms) c n h = refl
 
 -- below the folder of the first name, the rest of a path
 pub put-cut : (t : List TreeNode) (folder : ℕ) (name rest : List ℕ) (n : Node) →
-    put_below t folder (name ∷ names_in rest) n ≡ option_and_then (λ e. put_below e.tree e.place (names_in rest) n) (enter t folder name)
+    put_below t folder (name ∷ names_in rest) n ≡ and_then (enter t folder name) (λ e. put_below e.tree e.place (names_in rest) n)
 put-cut t folder name rest n = put_names t folder name (names_in rest) (count_by (λ b. eqb b 47) rest) n (length-slice_split (λ b. eqb b 47) rest)

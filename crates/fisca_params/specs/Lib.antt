@@ -1,4 +1,5 @@
 pub mod Answers
+pub mod Causes
 pub mod Content
 pub mod Dates
 pub mod Files
@@ -7,6 +8,7 @@ pub mod Lowest
 pub mod Names
 pub mod Nodes
 pub mod Paths
+pub mod Results
 pub mod Scale
 pub mod Source
 pub mod Tally

@@ -8,6 +8,7 @@ use Rattle.fisca_num.specs.declared.faults.NumFault.{NumFault}
 use Rattle.fisca_time.specs.Instant.{CivilDate}
 use Rattle.fisca_params.specs.Dates.{value_at}
 use Rattle.fisca_params.specs.Dates.{Dated}
+use Rattle.fisca_params.specs.Results.{and_then}
 use Rattle.fisca_params.specs.declared.fault.ParamFault.{ParamFault}
 use Rattle.fisca_params.specs.declared.fault.ParamFault.TheVariants as fault
 use Rattle.fisca_params.specs.declared.bracket.Bracket.{Bracket}
@@ -73,10 +74,6 @@ has_equal (b ∷ bs) = starts_at b.threshold bs || has_equal bs
 abbrev pub next_threshold : List CompleteBracket → Option Number
 next_threshold [] = None
 next_threshold (b ∷ bs) = Some b.threshold
-
-abbrev pub and_then : Result Number NumFault → (Number → Result Number NumFault) → Result Number NumFault
-and_then (Ok n) f = f n
-and_then (Err e) f = Err e
 
 -- the base, or the next threshold where that is less
 abbrev pub upper_end : Number → Option Number → Number

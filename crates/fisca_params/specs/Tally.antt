@@ -7,7 +7,8 @@ use Rattle.fisca_params.specs.declared.fault.ParamFault.TheVariants as fault
 use Rattle.fisca_params.specs.declared.bracket.CompleteBracket.{CompleteBracket}
 use Rattle.fisca_params.specs.declared.bracket.ScaleKind.{ScaleKind}
 use Rattle.fisca_params.specs.declared.tally.Tally.{Tally}
-use Rattle.fisca_params.specs.Scale.{is_below, and_then, after_bracket, in_params, has_equal}
+use Rattle.fisca_params.specs.Results.{and_then}
+use Rattle.fisca_params.specs.Scale.{is_below, after_bracket, in_params, has_equal}
 
 abbrev pub last_counted : Tally → Option CompleteBracket → Option Number → Result Number NumFault
 last_counted t None next = t.sum

@@ -1,12 +1,14 @@
 -- The tree of the nodes of parameter files.
-use Rattle.std.specs.Prelude.{ℕ, Bool, true, false, ◌==◌, ◌&&◌, ◌||◌, List, [], ◌∷◌, ◌++◌, length, slice_get, Option, Some, None, option_map, option_and_then, is_some, if◌then◌else◌, codes}
+use Rattle.std.specs.Prelude.{ℕ, Bool, true, false, ◌==◌, ◌&&◌, ◌||◌, List, [], ◌∷◌, ◌++◌, length, slice_get, Option, Some, None, option_map, is_some, ok_or, Result, Ok, Err, if◌then◌else◌, codes}
 use Rattle.std.specs.List.{position_from}
 use Rattle.std.specs.Str.{bytes_eq}
 use Rattle.fisca_yaml.specs.Node.{Node, null, scalar, list, map, Entries, no_entries, entry}
 use Rattle.fisca_params.specs.declared.content.Content.{Content}
 use Rattle.fisca_params.specs.declared.content.Content.TheVariants as content
 use Rattle.fisca_yaml.specs.Find.{get}
+use Rattle.fisca_params.specs.Causes.{Cause, bad_parameter, duplicate_name}
 use Rattle.fisca_params.specs.Content.{date_map, parameter_in, scale_of}
+use Rattle.fisca_params.specs.Results.{and_then}
 
 -- a node: the place of the node above it, its name there, and what it is
 pub record TreeNode : Type 0 where
@@ -31,10 +33,13 @@ content_at t place = option_map (λ n. n.content) (slice_get t place)
 abbrev pub child_node : ℕ → List ℕ → Content → TreeNode
 child_node parent name c = record { parent = Some parent; name = name; content = c }
 
--- the tree with one more node; no two children of a node have one name
-abbrev pub put : List TreeNode → ℕ → List ℕ → Content → Option (List TreeNode)
-put t parent name c =
-    if is_some (child_of t parent name) then None else Some (t ++ child_node parent name c ∷ [])
+-- the tree with one more node
+abbrev pub with_child : List TreeNode → ℕ → List ℕ → Content → List TreeNode
+with_child t parent name c = t ++ child_node parent name c ∷ []
+
+-- the same with a node that is read, where it can be
+abbrev pub with_read : List TreeNode → ℕ → List ℕ → Option Content → Result (List TreeNode) Cause
+with_read t parent name c = ok_or (option_map (with_child t parent name) c) bad_parameter
 
 -- keys that describe a node, and are no children of it
 abbrev pub is_description : List ℕ → Bool
@@ -44,25 +49,27 @@ is_description key =
 
 -- The tree with a parameter where a map has a date map, else with a scale where it has brackets, else with a branch, whose
 -- children below puts.
-abbrev pub put_map : List TreeNode → ℕ → List ℕ → Node → (List TreeNode → Option (List TreeNode)) → Option Node → Option Node → Option (List TreeNode)
-put_map t parent name n below (Some values) brackets = option_and_then (put t parent name) (parameter_in values)
-put_map t parent name n below None (Some brackets) = option_and_then (put t parent name) (scale_of n brackets)
-put_map t parent name n below None None = option_and_then below (put t parent name content.Branch)
+abbrev pub put_map : List TreeNode → ℕ → List ℕ → Node → (List TreeNode → Result (List TreeNode) Cause) → Option Node → Option Node → Result (List TreeNode) Cause
+put_map t parent name n below (Some values) brackets = with_read t parent name (parameter_in values)
+put_map t parent name n below None (Some brackets) = with_read t parent name (scale_of n brackets)
+put_map t parent name n below None None = below (with_child t parent name content.Branch)
 
--- the tree with the node of this name that a map of a file is, and the nodes below it
+-- The tree with the node of this name that a map of a file is, and the nodes below it. No two children of a node have one
+-- name.
 abbrev mutual
-  pub put_node : List TreeNode → ℕ → List ℕ → Node → Option (List TreeNode)
-  put_node t parent name null = None
-  put_node t parent name (scalar text q l) = None
-  put_node t parent name (list is) = None
+  pub put_node : List TreeNode → ℕ → List ℕ → Node → Result (List TreeNode) Cause
+  put_node t parent name null = Err bad_parameter
+  put_node t parent name (scalar text q l) = Err bad_parameter
+  put_node t parent name (list is) = Err bad_parameter
   put_node t parent name (map es) =
-      put_map t parent name (map es) (λ u. put_children u (length t) es) (date_map (map es)) (get (codes "brackets") (map es))
+      if is_some (child_of t parent name) then Err duplicate_name
+      else put_map t parent name (map es) (λ u. put_children u (length t) es) (date_map (map es)) (get (codes "brackets") (map es))
 
-  pub put_children : List TreeNode → ℕ → Entries → Option (List TreeNode)
-  put_children t place no_entries = Some t
+  pub put_children : List TreeNode → ℕ → Entries → Result (List TreeNode) Cause
+  put_children t place no_entries = Ok t
   put_children t place (entry key line n es) =
       if is_description key then put_children t place es
-      else option_and_then (λ u. put_children u place es) (put_node t place key n)
+      else and_then (put_node t place key n) (λ u. put_children u place es)
 
 -- a file `index` describes its folder, by such keys alone, or is empty
 abbrev pub are_descriptions : Entries → Bool
@@ -91,21 +98,22 @@ pub record Entered : Type 0 where
 abbrev pub entered : List TreeNode → ℕ → Entered
 entered t place = record { tree = t; place = place }
 
-abbrev pub enter_child : List TreeNode → ℕ → List ℕ → Option ℕ → Option Entered
-enter_child t parent name None =
-    Some (entered (t ++ child_node parent name content.Folder ∷ []) (length t))
-enter_child t parent name (Some place) = if is_folder (content_at t place) then Some (entered t place) else None
+abbrev pub enter_child : List TreeNode → ℕ → List ℕ → Option ℕ → Result Entered Cause
+enter_child t parent name None = Ok (entered (with_child t parent name content.Folder) (length t))
+enter_child t parent name (Some place) =
+    if is_folder (content_at t place) then Ok (entered t place) else Err duplicate_name
 
 -- A folder is a node once, whatever the number of files in it. No file's node has its name.
-abbrev pub enter : List TreeNode → ℕ → List ℕ → Option Entered
+abbrev pub enter : List TreeNode → ℕ → List ℕ → Result Entered Cause
 enter t parent name = enter_child t parent name (child_of t parent name)
 
-abbrev pub put_file : List TreeNode → ℕ → List ℕ → Node → Option (List TreeNode)
+abbrev pub put_file : List TreeNode → ℕ → List ℕ → Node → Result (List TreeNode) Cause
 put_file t folder name n =
-    if bytes_eq name (codes "index") then (if describes_folder n then Some t else None) else put_node t folder name n
+    if bytes_eq name (codes "index") then (if describes_folder n then Ok t else Err bad_parameter)
+    else put_node t folder name n
 
 -- a file's node, below the folders that it stands in
-abbrev pub put_below : List TreeNode → ℕ → List (List ℕ) → Node → Option (List TreeNode)
-put_below t folder [] n = Some t
+abbrev pub put_below : List TreeNode → ℕ → List (List ℕ) → Node → Result (List TreeNode) Cause
+put_below t folder [] n = Ok t
 put_below t folder (name ∷ []) n = put_file t folder name n
-put_below t folder (name ∷ m ∷ ms) n = option_and_then (λ e. put_below e.tree e.place (m ∷ ms) n) (enter t folder name)
+put_below t folder (name ∷ m ∷ ms) n = and_then (enter t folder name) (λ e. put_below e.tree e.place (m ∷ ms) n)

@@ -1,13 +1,13 @@
 //! The nodes of a parameter file, put into the tree.
-ghost use Rattle.std.specs.Prelude.{◌≡◌, ◌<◌, ◌≤◌, length, is_ok, OnOk, IfOk};
+ghost use Rattle.std.specs.Prelude.{◌≡◌, ◌<◌, ◌≤◌, length, is_none, OnOk, IfOk};
 ghost use Rattle.fisca_yaml.specs.Views.{node, entries_view};
 ghost use Rattle.fisca_params.specs.Answers.{Gives, Leaves};
 ghost use Rattle.fisca_params.specs.Nodes.{IsIndexed};
 ghost use Rattle.fisca_params.specs.Tree.{entered, put_node, put_children, put_file, put_below, enter, is_description, are_descriptions, describes_folder, is_folder};
 ghost use Rattle.fisca_params.specs.Paths.{names_in};
 
-use crate::ParamFault;
 use crate::content::Content;
+use crate::fault::NodeFault;
 use crate::nodes::Nodes;
 use crate::parameter::{read_parameter, read_scale};
 use crate::written::{date_map, line_at, line_of};
@@ -19,12 +19,11 @@ use std::alloc::Global;
 pub(crate) fn put_node(
     nodes: &mut Nodes,
     alloc: Global,
-    file: usize,
     parent: usize,
     name: &str,
     line: usize,
     tree: &Tree<'_>,
-) -> Result<(), ParamFault>
+) -> Result<(), NodeFault>
     requires parent { parent < length nodes.old.nodes.items }
     requires indexed { IsIndexed nodes.old.nodes.items nodes.old.children.items }
     ensures put { Leaves nodes.new.nodes.items result (put_node nodes.old.nodes.items parent name.now (node tree.now)) }
@@ -33,23 +32,23 @@ pub(crate) fn put_node(
 {
     let Tree::Map(entries) = tree else {
         let line = line_of(tree, line);
-        return Err(ParamFault::BadParameter { file, line });
+        return Err(NodeFault::BadParameter { line });
     };
     if nodes.child(parent, name).is_some() {
-        return Err(ParamFault::DuplicateName { file, line });
+        return Err(NodeFault::DuplicateName { line });
     }
     if let Some(values) = date_map(tree) {
-        let parameter = read_parameter(alloc, file, line_at(tree, "values", line), values)?;
+        let parameter = read_parameter(alloc, line_at(tree, "values", line), values)?;
         nodes.put(alloc, parent, name, parameter)?;
         return Ok(());
     }
     if let Some(brackets) = tree.get("brackets") {
-        let scale = read_scale(alloc, file, line_at(tree, "brackets", line), tree, brackets)?;
+        let scale = read_scale(alloc, line_at(tree, "brackets", line), tree, brackets)?;
         nodes.put(alloc, parent, name, scale)?;
         return Ok(());
     }
     let place = nodes.put(alloc, parent, name, Content::Branch)?;
-    put_children(nodes, alloc, file, place, entries)
+    put_children(nodes, alloc, place, entries)
 }
 
 /// Puts the children that the entries of a map are below a node.
@@ -57,10 +56,9 @@ pub(crate) fn put_node(
 fn put_children(
     nodes: &mut Nodes,
     alloc: Global,
-    file: usize,
     place: usize,
     entries: &[Entry<'_>],
-) -> Result<(), ParamFault>
+) -> Result<(), NodeFault>
     requires place { place < length nodes.old.nodes.items }
     requires indexed { IsIndexed nodes.old.nodes.items nodes.old.children.items }
     ensures put { Leaves nodes.new.nodes.items result (put_children nodes.old.nodes.items place (entries_view entries.now)) }
@@ -70,7 +68,7 @@ fn put_children(
     for entry in entries {
         let key = entry.key.as_str();
         if !is_description(key) {
-            put_node(nodes, alloc, file, place, key, entry.line, &entry.value)?;
+            put_node(nodes, alloc, place, key, entry.line, &entry.value)?;
         }
     }
     Ok(())
@@ -87,42 +85,37 @@ fn is_description(key: &str) -> bool
         || key == "unit"
 }
 
-/// Whether a tree describes a folder: a map of such keys alone, or nothing. `BadParameter` where it does not.
-fn check_description(file: usize, tree: &Tree<'_>) -> Result<(), ParamFault>
-    ensures { is_ok result ≡ describes_folder (node tree.now) }
+/// The line from which on a tree does not describe a folder, which a map of such keys alone does, and nothing.
+fn first_misplaced(tree: &Tree<'_>) -> Option<usize>
+    ensures { is_none result ≡ describes_folder (node tree.now) }
 {
     match tree {
-        Tree::Null => Ok(()),
-        Tree::Map(entries) => check_descriptions(file, entries),
-        _ => Err(ParamFault::BadParameter {
-            file,
-            line: line_of(tree, 1),
-        }),
+        Tree::Null => None,
+        Tree::Map(entries) => first_child(entries),
+        _ => Some(line_of(tree, 1)),
     }
 }
 
-/// Whether all keys describe a node. `BadParameter` at the first that does not.
-fn check_descriptions(file: usize, entries: &[Entry<'_>]) -> Result<(), ParamFault>
-    ensures { is_ok result ≡ are_descriptions (entries_view entries.now) }
+/// The line of the first key that does not describe a node.
+fn first_child(entries: &[Entry<'_>]) -> Option<usize>
+    ensures { is_none result ≡ are_descriptions (entries_view entries.now) }
 {
     for entry in entries {
-        let line = entry.line;
         if !is_description(entry.key.as_str()) {
-            return Err(ParamFault::BadParameter { file, line });
+            return Some(entry.line);
         }
     }
-    Ok(())
+    None
 }
 
 /// Puts the node of a file of this name below a folder. A file `index` describes its folder alone.
 fn put_file(
     nodes: &mut Nodes,
     alloc: Global,
-    file: usize,
     folder: usize,
     name: &str,
     tree: &Tree<'_>,
-) -> Result<(), ParamFault>
+) -> Result<(), NodeFault>
     requires folder { folder < length nodes.old.nodes.items }
     requires indexed { IsIndexed nodes.old.nodes.items nodes.old.children.items }
     ensures put { Leaves nodes.new.nodes.items result (put_file nodes.old.nodes.items folder name.now (node tree.now)) }
@@ -130,19 +123,16 @@ fn put_file(
     ensures longer { OnOk result (length nodes.old.nodes.items ≤ length nodes.new.nodes.items) }
 {
     if name == "index" {
-        return check_description(file, tree);
+        return match first_misplaced(tree) {
+            Some(line) => Err(NodeFault::BadParameter { line }),
+            None => Ok(()),
+        };
     }
-    put_node(nodes, alloc, file, folder, name, 1, tree)
+    put_node(nodes, alloc, folder, name, 1, tree)
 }
 
 /// The place of the folder of this name below a folder, where it is put if it is not there yet.
-fn enter(
-    nodes: &mut Nodes,
-    alloc: Global,
-    file: usize,
-    parent: usize,
-    name: &str,
-) -> Result<usize, ParamFault>
+fn enter(nodes: &mut Nodes, alloc: Global, parent: usize, name: &str) -> Result<usize, NodeFault>
     requires parent { parent < length nodes.old.nodes.items }
     requires indexed { IsIndexed nodes.old.nodes.items nodes.old.children.items }
     ensures entered { Gives (λ place. entered nodes.new.nodes.items place) result (enter nodes.old.nodes.items parent name.now) }
@@ -153,7 +143,7 @@ fn enter(
     match nodes.child(parent, name) {
         None => Ok(nodes.put(alloc, parent, name, Content::Folder)?),
         Some(place) if nodes.is_folder(place) => Ok(place),
-        Some(_) => Err(ParamFault::DuplicateName { file, line: 1 }),
+        Some(_) => Err(NodeFault::DuplicateName { line: 1 }),
     }
 }
 
@@ -161,10 +151,9 @@ fn enter(
 pub(crate) fn put_below(
     nodes: &mut Nodes,
     alloc: Global,
-    file: usize,
     path: &str,
     tree: &Tree<'_>,
-) -> Result<(), ParamFault>
+) -> Result<(), NodeFault>
     requires root { 0 < length nodes.old.nodes.items }
     requires indexed { IsIndexed nodes.old.nodes.items nodes.old.children.items }
     ensures put { Leaves nodes.new.nodes.items result (put_below nodes.old.nodes.items 0 (names_in path.now) (node tree.now)) }
@@ -174,8 +163,8 @@ pub(crate) fn put_below(
     let mut folder = 0;
     let mut rest = path;
     while let Some((name, below)) = rest.split_once('/') {
-        folder = enter(nodes, alloc, file, folder, name)?;
+        folder = enter(nodes, alloc, folder, name)?;
         rest = below;
     }
-    put_file(nodes, alloc, file, folder, rest, tree)
+    put_file(nodes, alloc, folder, rest, tree)
 }

@@ -1,16 +1,16 @@
 //! Parameters and scales as their files have them.
-ghost use Rattle.std.specs.Prelude.{◌≡◌, is_ok};
+ghost use Rattle.std.specs.Prelude.{◌≡◌, is_none};
 ghost use Rattle.fisca_yaml.specs.Find.{get};
 ghost use Rattle.fisca_yaml.specs.Views.{node, entries_view, items_view};
-ghost use Rattle.fisca_params.specs.Answers.{Gives};
+ghost use Rattle.fisca_params.specs.Answers.{Finds};
 ghost use Rattle.fisca_params.specs.Content.{parameter_in, number_dates, dates_or_none, is_bracket_field, are_bracket_fields, bracket_of, brackets_of, brackets_in, is_single_amount, scale_of};
 
-use crate::ParamFault;
 use crate::bracket::Bracket;
 use crate::content::Content;
 use crate::dates::{Dates, dates_in};
+use crate::fault::NodeFault;
 use crate::scale::Scale;
-use crate::written::{check_dates, date_map, line_at, line_of};
+use crate::written::{date_map, first_undated, line_at, line_of};
 use fisca_num::Fraction;
 use fisca_yaml::{Entry, Item, Tree};
 use std::alloc::Global;
@@ -18,17 +18,18 @@ use std::alloc::Global;
 /// The parameter of a date map, whose key stands on `line`.
 pub(crate) fn read_parameter(
     alloc: Global,
-    file: usize,
     line: usize,
     values: &Tree<'_>,
-) -> Result<Content, ParamFault>
-    ensures { Gives (λ c. c) result (parameter_in (node values.now)) }
+) -> Result<Content, NodeFault>
+    ensures { Finds (λ c. c) result (parameter_in (node values.now)) }
 {
     let Tree::Map(entries) = values else {
         let line = line_of(values, line);
-        return Err(ParamFault::BadParameter { file, line });
+        return Err(NodeFault::BadParameter { line });
     };
-    check_dates(file, entries)?;
+    if let Some(line) = first_undated(entries) {
+        return Err(NodeFault::BadParameter { line });
+    }
     if let Some(numbers) = dates_in::<Fraction>(alloc, entries)? {
         return Ok(Content::Numbers(numbers));
     }
@@ -39,48 +40,39 @@ pub(crate) fn read_parameter(
 }
 
 /// The values of a bracket's field, which is dated as a number parameter is. Its key stands on `line`.
-fn number_dates(
-    alloc: Global,
-    file: usize,
-    line: usize,
-    tree: &Tree<'_>,
-) -> Result<Dates<Fraction>, ParamFault>
-    ensures { Gives (λ d. d) result (number_dates (node tree.now)) }
+fn number_dates(alloc: Global, line: usize, tree: &Tree<'_>) -> Result<Dates<Fraction>, NodeFault>
+    ensures { Finds (λ d. d) result (number_dates (node tree.now)) }
 {
     let Some(Tree::Map(entries)) = date_map(tree) else {
         let line = line_of(tree, line);
-        return Err(ParamFault::BadParameter { file, line });
+        return Err(NodeFault::BadParameter { line });
     };
-    check_dates(file, entries)?;
-    dates_in::<Fraction>(alloc, entries)?.ok_or(ParamFault::BadParameter { file, line })
+    if let Some(line) = first_undated(entries) {
+        return Err(NodeFault::BadParameter { line });
+    }
+    dates_in::<Fraction>(alloc, entries)?.ok_or(NodeFault::BadParameter { line })
 }
 
 /// The values of this field of a bracket, none where it is not given.
-fn read_field(
-    alloc: Global,
-    file: usize,
-    bracket: &Tree<'_>,
-    name: &str,
-) -> Result<Dates<Fraction>, ParamFault>
-    ensures { Gives (λ d. d) result (dates_or_none (get name.now (node bracket.now))) }
+fn read_field(alloc: Global, bracket: &Tree<'_>, name: &str) -> Result<Dates<Fraction>, NodeFault>
+    ensures { Finds (λ d. d) result (dates_or_none (get name.now (node bracket.now))) }
 {
     match bracket.get(name) {
         None => Ok(Dates::new(alloc)),
-        Some(field) => number_dates(alloc, file, line_at(bracket, name, 1), field),
+        Some(field) => number_dates(alloc, line_at(bracket, name, 1), field),
     }
 }
 
-/// Whether a bracket has no keys but its fields. `BadParameter` at the first other key.
-fn check_fields(file: usize, entries: &[Entry<'_>]) -> Result<(), ParamFault>
-    ensures { is_ok result ≡ are_bracket_fields (entries_view entries.now) }
+/// The line of the first key of a bracket that names no field.
+fn first_stray(entries: &[Entry<'_>]) -> Option<usize>
+    ensures { is_none result ≡ are_bracket_fields (entries_view entries.now) }
 {
     for entry in entries {
-        let line = entry.line;
         if !is_bracket_field(entry.key.as_str()) {
-            return Err(ParamFault::BadParameter { file, line });
+            return Some(entry.line);
         }
     }
-    Ok(())
+    None
 }
 
 /// Whether a key names a field of a bracket.
@@ -91,22 +83,19 @@ fn is_bracket_field(key: &str) -> bool
 }
 
 /// A bracket, whose item stands on `line`.
-fn read_bracket(
-    alloc: Global,
-    file: usize,
-    line: usize,
-    tree: &Tree<'_>,
-) -> Result<Bracket, ParamFault>
-    ensures { Gives (λ b. b) result (bracket_of (node tree.now)) }
+fn read_bracket(alloc: Global, line: usize, tree: &Tree<'_>) -> Result<Bracket, NodeFault>
+    ensures { Finds (λ b. b) result (bracket_of (node tree.now)) }
 {
     let Tree::Map(entries) = tree else {
         let line = line_of(tree, line);
-        return Err(ParamFault::BadParameter { file, line });
+        return Err(NodeFault::BadParameter { line });
     };
-    check_fields(file, entries)?;
-    let threshold = read_field(alloc, file, tree, "threshold")?;
-    let rate = read_field(alloc, file, tree, "rate")?;
-    let amount = read_field(alloc, file, tree, "amount")?;
+    if let Some(line) = first_stray(entries) {
+        return Err(NodeFault::BadParameter { line });
+    }
+    let threshold = read_field(alloc, tree, "threshold")?;
+    let rate = read_field(alloc, tree, "rate")?;
+    let amount = read_field(alloc, tree, "amount")?;
     Ok(Bracket {
         threshold,
         rate,
@@ -115,12 +104,12 @@ fn read_bracket(
 }
 
 /// The brackets of a list.
-fn read_brackets(alloc: Global, file: usize, items: &[Item<'_>]) -> Result<Vec<Bracket>, ParamFault>
-    ensures { Gives (λ v. v.items) result (brackets_of (items_view items.now)) }
+fn read_brackets(alloc: Global, items: &[Item<'_>]) -> Result<Vec<Bracket>, NodeFault>
+    ensures { Finds (λ v. v.items) result (brackets_of (items_view items.now)) }
 {
     let mut brackets = Vec::new(alloc);
     for item in items {
-        brackets.push(read_bracket(alloc, file, item.line, &item.value)?)?;
+        brackets.push(read_bracket(alloc, item.line, &item.value)?)?;
     }
     Ok(brackets)
 }
@@ -128,18 +117,17 @@ fn read_brackets(alloc: Global, file: usize, items: &[Item<'_>]) -> Result<Vec<B
 /// The scale of a map that has these brackets, whose key stands on `line`.
 pub(crate) fn read_scale(
     alloc: Global,
-    file: usize,
     line: usize,
     tree: &Tree<'_>,
     brackets: &Tree<'_>,
-) -> Result<Content, ParamFault>
-    ensures { Gives (λ c. c) result (scale_of (node tree.now) (node brackets.now)) }
+) -> Result<Content, NodeFault>
+    ensures { Finds (λ c. c) result (scale_of (node tree.now) (node brackets.now)) }
 {
     let Tree::List(items) = brackets else {
         let line = line_of(brackets, line);
-        return Err(ParamFault::BadParameter { file, line });
+        return Err(NodeFault::BadParameter { line });
     };
-    let brackets = read_brackets(alloc, file, items)?;
+    let brackets = read_brackets(alloc, items)?;
     Ok(Content::Scale(Scale::new(is_single_amount(tree), brackets)))
 }
 

@@ -1,7 +1,7 @@
 //! Reading parameter files.
-ghost use Rattle.std.specs.Prelude.{◌≡◌, ◌≢◌, ◌<◌, ◌≤◌, Some, None, length, map, IfOk, IfErr, OnOk};
-ghost use Rattle.fisca_params.specs.Answers.{Leaves};
-ghost use Rattle.fisca_params.specs.Files.{tree_of, with_file, with_files, in_path_order};
+ghost use Rattle.std.specs.Prelude.{◌≡◌, ◌≢◌, ◌<◌, ◌≤◌, Ok, Some, length, map, IfOk, IfErr, IfSome, OnOk};
+ghost use Rattle.fisca_params.specs.Answers.{Refuses, file_of};
+ghost use Rattle.fisca_params.specs.Files.{tree_of, with_file, after_file, with_files, in_path_order};
 ghost use Rattle.fisca_params.specs.Nodes.{IsIndexed};
 
 use crate::build::put_below;
@@ -22,9 +22,10 @@ impl ParamTree {
     /// `Memory`. It is the fault of the first file that has one.
     pub fn read(alloc: Global, files: &[SourceFile]) -> Result<ParamTree, ParamFault>
         // What is read is the tree of these files.
-        ensures tree { IfOk result (λ t. tree_of files.now ≡ Some t) }
-        // A refusal for another cause than memory comes only where they have none.
-        ensures none { IfErr result (λ fault. fault ≢ ParamFault.Memory → tree_of files.now ≡ None) }
+        ensures tree { IfOk result (λ t. tree_of files.now ≡ Ok t) }
+        // A fault but `Memory` tells which file has none with those before it, and why.
+        ensures refused { IfErr result (λ fault. Refuses fault (tree_of files.now)) }
+        ensures file { IfErr result (λ fault. IfSome (file_of fault) (λ file. file < length files.now)) }
     {
         let mut nodes = Nodes::new(alloc)?;
         let sorted = in_path_order(alloc, files)?;
@@ -38,7 +39,7 @@ fn in_path_order<'f>(
     alloc: Global,
     files: &'f [SourceFile],
 ) -> Result<BTreeMap<(&'f str, usize), &'f SourceFile>, AllocError>
-    ensures { IfOk result (λ sorted. map (λ e. e.1.now) sorted.entries ≡ in_path_order files.now) }
+    ensures { IfOk result (λ sorted. map (λ e. (e.0.1, e.1.now)) sorted.entries ≡ in_path_order files.now) }
 {
     let mut sorted = BTreeMap::new(alloc);
     for (place, file) in files.iter().enumerate() {
@@ -55,7 +56,8 @@ fn put_sources(
 ) -> Result<(), ParamFault>
     requires root { 0 < length nodes.old.nodes.items }
     requires indexed { IsIndexed nodes.old.nodes.items nodes.old.children.items }
-    ensures put { Leaves nodes.new.nodes.items result (with_files nodes.old.nodes.items (map (λ e. e.1.now) sorted.now.entries)) }
+    ensures put { OnOk result (with_files nodes.old.nodes.items (map (λ e. (e.0.1, e.1.now)) sorted.now.entries) ≡ Ok nodes.new.nodes.items) }
+    ensures refused { IfErr result (λ fault. Refuses fault (with_files nodes.old.nodes.items (map (λ e. (e.0.1, e.1.now)) sorted.now.entries))) }
     ensures indexed { OnOk result (IsIndexed nodes.new.nodes.items nodes.new.children.items) }
 {
     for (key, source) in sorted.iter() {
@@ -64,7 +66,7 @@ fn put_sources(
     Ok(())
 }
 
-/// Puts the nodes of a file into the tree, where it is a parameter file.
+/// Puts the nodes of the file at this place into the tree, where it is a parameter file.
 fn put_source(
     nodes: &mut Nodes,
     alloc: Global,
@@ -73,22 +75,28 @@ fn put_source(
 ) -> Result<(), ParamFault>
     requires root { 0 < length nodes.old.nodes.items }
     requires indexed { IsIndexed nodes.old.nodes.items nodes.old.children.items }
-    ensures put { Leaves nodes.new.nodes.items result (with_file nodes.old.nodes.items source.now) }
+    ensures put { OnOk result (with_file nodes.old.nodes.items source.now ≡ Ok nodes.new.nodes.items) }
+    ensures refused { IfErr result (λ fault. (next : _) → Refuses fault (after_file file (with_file nodes.old.nodes.items source.now) next)) }
     ensures indexed { OnOk result (IsIndexed nodes.new.nodes.items nodes.new.children.items) }
     ensures longer { OnOk result (length nodes.old.nodes.items ≤ length nodes.new.nodes.items) }
 {
     let Some(path) = parameter_path(source.path()) else {
         return Ok(());
     };
-    match read(alloc, source.text()) {
-        Ok(tree) => put_below(nodes, alloc, file, path, &tree),
-        Err(fault) => Err(fault_in(file, fault)),
+    let tree = match read(alloc, source.text()) {
+        Ok(tree) => tree,
+        Err(fault) => return Err(text_fault(file, fault)),
+    };
+    match put_below(nodes, alloc, path, &tree) {
+        Ok(()) => Ok(()),
+        Err(fault) => Err(fault.in_file(file)),
     }
 }
 
-/// The fault of a file's text.
-fn fault_in(file: usize, fault: YamlFault) -> ParamFault
-    ensures { result ≢ ParamFault.Memory → fault.kind ≢ Kind.Memory }
+/// The fault of the text of the file at this place.
+fn text_fault(file: usize, fault: YamlFault) -> ParamFault
+    ensures memory { fault.kind ≡ Kind.Memory → result ≡ ParamFault.Memory }
+    ensures text { fault.kind ≢ Kind.Memory → result ≡ ParamFault.Yaml file fault }
 {
     if fault.kind == Kind::Memory {
         ParamFault::Memory

@@ -1,9 +1,8 @@
 //! Date maps as they are written.
-ghost use Rattle.std.specs.Prelude.{◌≡◌, None, IsOk, IsTrue, is_some, is_ok, option_map};
+ghost use Rattle.std.specs.Prelude.{◌≡◌, None, IsOk, IsTrue, is_some, is_none, option_map};
 ghost use Rattle.fisca_yaml.specs.Views.{node, entries_view};
 ghost use Rattle.fisca_params.specs.Content.{written_value, written_values, are_instants, is_date_map, date_map};
 
-use crate::ParamFault;
 use fisca_time::Instant;
 use fisca_yaml::{Entry, Tree};
 
@@ -20,19 +19,16 @@ pub(crate) fn written_value<'t, 'a>(tree: &'t Tree<'a>) -> Option<&'t Tree<'a>>
     }
 }
 
-/// Whether a date map has an instant and a value in each entry. `BadParameter` at the first that has not.
-pub(crate) fn check_dates(file: usize, entries: &[Entry<'_>]) -> Result<(), ParamFault>
-    ensures { is_ok result ≡ is_some (written_values (entries_view entries.now)) }
+/// The line of the first entry of a date map that has no instant or no value.
+pub(crate) fn first_undated(entries: &[Entry<'_>]) -> Option<usize>
+    ensures { is_none result ≡ is_some (written_values (entries_view entries.now)) }
 {
     for entry in entries {
         if Instant::read(entry.key.as_str()).is_err() || written_value(&entry.value).is_none() {
-            return Err(ParamFault::BadParameter {
-                file,
-                line: entry.line,
-            });
+            return Some(entry.line);
         }
     }
-    Ok(())
+    None
 }
 
 /// Whether a map has entries, and each key is an instant.

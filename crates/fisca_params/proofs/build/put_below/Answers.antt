@@ -1,8 +1,10 @@
-use Rattle.std.proofs.Common.{◌≢◌, ap, ◌∙◌, option_and_then, lit<, rules}
+use Rattle.std.proofs.Common.{◌≡◌, ap, ◌∙◌, Some, lit<, rules}
 use Rattle.std.proofs.lemmas.Str.Pattern.{split_once_first}
 use Rattle.fisca_yaml.specs.Views.{node}
-use Rattle.fisca_params.specs.declared.fault.ParamFault.TheVariants as fault
+use Rattle.fisca_params.specs.Answers.{cause_of}
+use Rattle.fisca_params.specs.Causes.{Cause}
 use Rattle.fisca_params.specs.Paths.{names_in}
+use Rattle.fisca_params.specs.Results.{and_then}
 use Rattle.fisca_params.specs.Tree.{Entered, put_below}
 use Rattle.fisca_params.proofs.PathTexts.{names_cut, put-cut}
 use Rattle.fisca_params.proofs.Thresholds.{none_if_not}
@@ -15,8 +17,8 @@ returns-in_err-folder-clause-put c =
     let whole = c.loop-name.invariant.1
     ∙ ap (λ ns. put_below c.loop-name.nodes.nodes.items c.loop-name.folder ns n) cut.0
     ∙ put-cut c.loop-name.nodes.nodes.items c.loop-name.folder c.in-Some.name.now c.in-Some.below.now n in
-    let none = λ (k : c.in_err-folder.field-0.0 ≢ fault.Memory). whole ∙ ap (option_and_then (λ (e : Entered). put_below e.tree e.place (names_in c.in-Some.below.now) n)) (c.in_err-folder.ensures.entered k) in
-    search (rules, none)
+    let refused = λ (cause : Cause) (told : cause_of c.in_err-folder.field-0.0 ≡ Some cause). whole ∙ ap (λ r. and_then r (λ (e : Entered). put_below e.tree e.place (names_in c.in-Some.below.now) n)) (c.in_err-folder.ensures.entered cause told) in
+    search (rules, refused)
 
 pub loop-name-preserved : goal.loop-name-preserved
 loop-name-preserved c =
@@ -25,7 +27,7 @@ loop-name-preserved c =
     let whole = c.loop-name.invariant.1
     ∙ ap (λ ns. put_below c.loop-name.nodes.nodes.items c.loop-name.folder ns n) cut.0
     ∙ put-cut c.loop-name.nodes.nodes.items c.loop-name.folder c.in-Some.name.now c.in-Some.below.now n in
-    let on = whole ∙ ap (option_and_then (λ (e : Entered). put_below e.tree e.place (names_in c.in-Some.below.now) n)) c.in_ok-folder.ensures.entered in
+    let on = whole ∙ ap (λ r. and_then r (λ (e : Entered). put_below e.tree e.place (names_in c.in-Some.below.now) n)) c.in_ok-folder.ensures.entered in
     (search rules, on, search rules, search rules, search rules)
 
 pub returns-clause-put : goal.returns-clause-put

@@ -1,7 +1,7 @@
 use Rattle.std.proofs.Common.{◌≡◌, is_some, drop}
 use Rattle.fisca_yaml.specs.Views.{entries_view}
 use Rattle.fisca_params.specs.Content.{written_values}
-use Rattle.fisca_params.proofs.written.check_dates.Given as goal
+use Rattle.fisca_params.proofs.written.first_undated.Given as goal
 
 abbrev pub invariant-loop-entry : goal.invariant-loop-entry
 invariant-loop-entry l = is_some (written_values (entries_view l.entries)) ≡ is_some (written_values (entries_view (drop l.entry-index l.entries)))

@@ -1,16 +1,8 @@
 -- What a sink has of a text that is handed over in two parts.
-use Rattle.std.proofs.Common.{OnErr, Result, Ok, Err, ◌≡◌, ℕ, ◌+◌, ◌<◌, ◌≤◌, List, ◌++◌, length, take, Option, Some, None, sym, ◌∙◌, ap, arith, append_assoc}
+use Rattle.std.proofs.Common.{OnErr, Result, Ok, Err, ◌≡◌, ℕ, ◌+◌, ◌<◌, ◌≤◌, List, ◌++◌, length, take, sym, ◌∙◌, ap, arith}
 use Rattle.std.proofs.lemmas.List.{take-append-le, length-append}
 use Rattle.std.proofs.Math.Seq.{take-append-add}
-use Rattle.std.specs.Io.KnownBytes.{Appends}
 use Rattle.fisca_grid.specs.Run.{IsProperPrefix}
-
--- both parts
-pub both : (a b c : Option (List ℕ)) (xs ys : List ℕ) → Appends a b xs → Appends b c ys → Appends a c (xs ++ ys)
-both None b c xs ys p q = tt
-both (Some a) None c xs ys p q = absurd p
-both (Some a) (Some b) None xs ys p q = absurd q
-both (Some a) (Some b) (Some c) xs ys p q = q ∙ ap (λ z. z ++ ys) p ∙ append_assoc a xs ys
 
 -- a beginning of the first part
 pub of_first : (part xs ys : List ℕ) → IsProperPrefix part xs → IsProperPrefix part (xs ++ ys)

@@ -14,8 +14,8 @@ use Rattle.fisca_params.specs.Tree.{TreeNode}
 -- the fault of a step, told of its file
 pub refuses-in : (file : ℕ) (e : NodeFault) (o : Result (List TreeNode) Cause) (next : List TreeNode → Result (List TreeNode) Refused) →
     ((cause : Cause) → cause_of e ≡ Some cause → o ≡ Err cause) → Refuses (fault_in file e) (after_file file o next)
-refuses-in file (node.BadParameter line) o next h = rw (h bad_parameter refl) refl
-refuses-in file (node.DuplicateName line) o next h = rw (h duplicate_name refl) refl
+refuses-in file (node.BadParameter line) o next h = rw (h (bad_parameter line) refl) refl
+refuses-in file (node.DuplicateName line) o next h = rw (h (duplicate_name line) refl) refl
 refuses-in file node.Memory o next h = tt
 
 abbrev Within : ℕ → List Placed → Type 0

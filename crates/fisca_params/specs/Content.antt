@@ -1,5 +1,5 @@
 -- What a map of a parameter file is: a parameter, a scale, or a branch with further nodes.
-use Rattle.std.specs.Prelude.{ℕ, Bool, true, false, ◌&&◌, ◌||◌, List, [], ◌∷◌, Option, Some, None, option_map, option_and_then, is_some, if◌then◌else◌, codes}
+use Rattle.std.specs.Prelude.{ℕ, Bool, true, false, ◌&&◌, ◌||◌, List, [], ◌∷◌, Option, Some, None, option_map, option_and_then, is_some, is_none, if◌then◌else◌, codes}
 use Rattle.std.specs.Result.{result_ok}
 use Rattle.std.specs.Str.{bytes_eq}
 use Rattle.fisca_num.specs.Number.{Number}
@@ -17,6 +17,11 @@ abbrev pub onto : {X : Type 0} → Option X → Option (List X) → Option (List
 onto None xs = None
 onto (Some x) None = None
 onto (Some x) (Some xs) = Some (x ∷ xs)
+
+-- the line of the first entry that fails a test
+abbrev pub first_line : (List ℕ → Node → Bool) → Entries → Option ℕ
+first_line passes no_entries = None
+first_line passes (entry key line n es) = if passes key n then first_line passes es else Some line
 
 abbrev pub is_null : Node → Bool
 is_null null = true
@@ -128,9 +133,8 @@ dates_or_none (Some n) = number_dates n
 abbrev pub is_bracket_field : List ℕ → Bool
 is_bracket_field key = bytes_eq key (codes "threshold") || (bytes_eq key (codes "rate") || bytes_eq key (codes "amount"))
 
-abbrev pub are_bracket_fields : Entries → Bool
-are_bracket_fields no_entries = true
-are_bracket_fields (entry key line n es) = is_bracket_field key && are_bracket_fields es
+abbrev pub names_field : List ℕ → Node → Bool
+names_field key n = is_bracket_field key
 
 abbrev pub bracket_if_all : Option (List (Dated Number)) → Option (List (Dated Number)) → Option (List (Dated Number)) → Option Bracket
 bracket_if_all (Some t) (Some r) (Some a) = Some (record { threshold = t; rate = r; amount = a })
@@ -147,7 +151,7 @@ abbrev pub bracket_of : Node → Option Bracket
 bracket_of null = None
 bracket_of (scalar t q l) = None
 bracket_of (list is) = None
-bracket_of (map es) = if are_bracket_fields es then bracket_with (map es) else None
+bracket_of (map es) = if is_none (first_line names_field es) then bracket_with (map es) else None
 
 abbrev pub brackets_of : Items → Option (List Bracket)
 brackets_of no_items = Some []

@@ -2,6 +2,7 @@ pub mod Answers
 pub mod Causes
 pub mod Content
 pub mod Dates
+pub mod FaultLines
 pub mod Files
 pub mod Lookup
 pub mod Lowest

@@ -1,9 +1,11 @@
 //! The nodes of a parameter file, put into the tree.
-ghost use Rattle.std.specs.Prelude.{◌≡◌, ◌<◌, ◌≤◌, length, is_none, OnOk, IfOk};
+ghost use Rattle.std.specs.Prelude.{◌≡◌, ◌<◌, ◌≤◌, length, is_none, OnOk, IfOk, IfSome};
 ghost use Rattle.fisca_yaml.specs.Views.{node, entries_view};
 ghost use Rattle.fisca_params.specs.Answers.{Gives, Leaves};
 ghost use Rattle.fisca_params.specs.Nodes.{IsIndexed};
-ghost use Rattle.fisca_params.specs.Tree.{entered, put_node, put_children, put_file, put_below, enter, is_description, are_descriptions, describes_folder, is_folder};
+ghost use Rattle.fisca_params.specs.Tree.{entered, put_node, put_children, put_file, put_below, enter, is_description, names_description, describes_folder, is_folder};
+ghost use Rattle.fisca_params.specs.Content.{first_line};
+ghost use Rattle.fisca_params.specs.FaultLines.{entry_or_node};
 ghost use Rattle.fisca_params.specs.Paths.{names_in};
 
 use crate::content::Content;
@@ -26,7 +28,7 @@ pub(crate) fn put_node(
 ) -> Result<(), NodeFault>
     requires parent { parent < length nodes.old.nodes.items }
     requires indexed { IsIndexed nodes.old.nodes.items nodes.old.children.items }
-    ensures put { Leaves nodes.new.nodes.items result (put_node nodes.old.nodes.items parent name.now (node tree.now)) }
+    ensures put { Leaves nodes.new.nodes.items result (put_node nodes.old.nodes.items parent name.now line (node tree.now)) }
     ensures indexed { OnOk result (IsIndexed nodes.new.nodes.items nodes.new.children.items) }
     ensures longer { OnOk result (length nodes.old.nodes.items ≤ length nodes.new.nodes.items) }
 {
@@ -87,7 +89,8 @@ fn is_description(key: &str) -> bool
 
 /// The line from which on a tree does not describe a folder, which a map of such keys alone does, and nothing.
 fn first_misplaced(tree: &Tree<'_>) -> Option<usize>
-    ensures { is_none result ≡ describes_folder (node tree.now) }
+    ensures none { is_none result ≡ describes_folder (node tree.now) }
+    ensures line { IfSome result (λ line. line ≡ entry_or_node names_description 1 (node tree.now)) }
 {
     match tree {
         Tree::Null => None,
@@ -98,7 +101,7 @@ fn first_misplaced(tree: &Tree<'_>) -> Option<usize>
 
 /// The line of the first key that does not describe a node.
 fn first_child(entries: &[Entry<'_>]) -> Option<usize>
-    ensures { is_none result ≡ are_descriptions (entries_view entries.now) }
+    ensures { result ≡ first_line names_description (entries_view entries.now) }
 {
     for entry in entries {
         if !is_description(entry.key.as_str()) {

@@ -3,7 +3,9 @@ ghost use Rattle.std.specs.Prelude.{◌≡◌, is_none};
 ghost use Rattle.fisca_yaml.specs.Find.{get};
 ghost use Rattle.fisca_yaml.specs.Views.{node, entries_view, items_view};
 ghost use Rattle.fisca_params.specs.Answers.{Finds};
-ghost use Rattle.fisca_params.specs.Content.{parameter_in, number_dates, dates_or_none, is_bracket_field, are_bracket_fields, bracket_of, brackets_of, brackets_in, is_single_amount, scale_of};
+ghost use Rattle.std.specs.Option.{unwrap_or};
+ghost use Rattle.fisca_params.specs.FaultLines.{values_line, field_line, unreadable, bracket_line, brackets_line, scale_line};
+ghost use Rattle.fisca_params.specs.Content.{parameter_in, number_dates, dates_or_none, is_bracket_field, names_field, first_line, bracket_of, brackets_of, brackets_in, is_single_amount, scale_of};
 
 use crate::bracket::Bracket;
 use crate::content::Content;
@@ -21,7 +23,7 @@ pub(crate) fn read_parameter(
     line: usize,
     values: &Tree<'_>,
 ) -> Result<Content, NodeFault>
-    ensures { Finds (λ c. c) result (parameter_in (node values.now)) }
+    ensures { Finds (λ c. c) result (parameter_in (node values.now)) (values_line line (node values.now)) }
 {
     let Tree::Map(entries) = values else {
         let line = line_of(values, line);
@@ -41,7 +43,7 @@ pub(crate) fn read_parameter(
 
 /// The values of a bracket's field, which is dated as a number parameter is. Its key stands on `line`.
 fn number_dates(alloc: Global, line: usize, tree: &Tree<'_>) -> Result<Dates<Fraction>, NodeFault>
-    ensures { Finds (λ d. d) result (number_dates (node tree.now)) }
+    ensures { Finds (λ d. d) result (number_dates (node tree.now)) (field_line line (node tree.now)) }
 {
     let Some(Tree::Map(entries)) = date_map(tree) else {
         let line = line_of(tree, line);
@@ -55,7 +57,7 @@ fn number_dates(alloc: Global, line: usize, tree: &Tree<'_>) -> Result<Dates<Fra
 
 /// The values of this field of a bracket, none where it is not given.
 fn read_field(alloc: Global, bracket: &Tree<'_>, name: &str) -> Result<Dates<Fraction>, NodeFault>
-    ensures { Finds (λ d. d) result (dates_or_none (get name.now (node bracket.now))) }
+    ensures { Finds (λ d. d) result (dates_or_none (get name.now (node bracket.now))) (unwrap_or (unreadable name.now (node bracket.now)) 0) }
 {
     match bracket.get(name) {
         None => Ok(Dates::new(alloc)),
@@ -65,7 +67,7 @@ fn read_field(alloc: Global, bracket: &Tree<'_>, name: &str) -> Result<Dates<Fra
 
 /// The line of the first key of a bracket that names no field.
 fn first_stray(entries: &[Entry<'_>]) -> Option<usize>
-    ensures { is_none result ≡ are_bracket_fields (entries_view entries.now) }
+    ensures { result ≡ first_line names_field (entries_view entries.now) }
 {
     for entry in entries {
         if !is_bracket_field(entry.key.as_str()) {
@@ -84,7 +86,7 @@ fn is_bracket_field(key: &str) -> bool
 
 /// A bracket, whose item stands on `line`.
 fn read_bracket(alloc: Global, line: usize, tree: &Tree<'_>) -> Result<Bracket, NodeFault>
-    ensures { Finds (λ b. b) result (bracket_of (node tree.now)) }
+    ensures { Finds (λ b. b) result (bracket_of (node tree.now)) (bracket_line line (node tree.now)) }
 {
     let Tree::Map(entries) = tree else {
         let line = line_of(tree, line);
@@ -105,7 +107,7 @@ fn read_bracket(alloc: Global, line: usize, tree: &Tree<'_>) -> Result<Bracket, 
 
 /// The brackets of a list.
 fn read_brackets(alloc: Global, items: &[Item<'_>]) -> Result<Vec<Bracket>, NodeFault>
-    ensures { Finds (λ v. v.items) result (brackets_of (items_view items.now)) }
+    ensures { Finds (λ v. v.items) result (brackets_of (items_view items.now)) (brackets_line (items_view items.now)) }
 {
     let mut brackets = Vec::new(alloc);
     for item in items {
@@ -121,7 +123,7 @@ pub(crate) fn read_scale(
     tree: &Tree<'_>,
     brackets: &Tree<'_>,
 ) -> Result<Content, NodeFault>
-    ensures { Finds (λ c. c) result (scale_of (node tree.now) (node brackets.now)) }
+    ensures { Finds (λ c. c) result (scale_of (node tree.now) (node brackets.now)) (scale_line line (node brackets.now)) }
 {
     let Tree::List(items) = brackets else {
         let line = line_of(brackets, line);

@@ -1,7 +1,8 @@
 //! Date maps as they are written.
 ghost use Rattle.std.specs.Prelude.{◌≡◌, None, IsOk, IsTrue, is_some, is_none, option_map};
 ghost use Rattle.fisca_yaml.specs.Views.{node, entries_view};
-ghost use Rattle.fisca_params.specs.Content.{written_value, written_values, are_instants, is_date_map, date_map};
+ghost use Rattle.fisca_params.specs.Content.{written_value, written_values, are_instants, is_date_map, date_map, first_line};
+ghost use Rattle.fisca_params.specs.FaultLines.{line_of, line_at, entry_line, is_dated};
 
 use fisca_time::Instant;
 use fisca_yaml::{Entry, Tree};
@@ -21,7 +22,8 @@ pub(crate) fn written_value<'t, 'a>(tree: &'t Tree<'a>) -> Option<&'t Tree<'a>>
 
 /// The line of the first entry of a date map that has no instant or no value.
 pub(crate) fn first_undated(entries: &[Entry<'_>]) -> Option<usize>
-    ensures { is_none result ≡ is_some (written_values (entries_view entries.now)) }
+    ensures none { is_none result ≡ is_some (written_values (entries_view entries.now)) }
+    ensures line { result ≡ first_line is_dated (entries_view entries.now) }
 {
     for entry in entries {
         if Instant::read(entry.key.as_str()).is_err() || written_value(&entry.value).is_none() {
@@ -67,7 +69,9 @@ pub(crate) fn date_map<'t, 'a>(tree: &'t Tree<'a>) -> Option<&'t Tree<'a>>
 }
 
 /// The line of a tree that does not fit: that of a scalar or of a list's first item, else that of its key.
-pub(crate) fn line_of(tree: &Tree<'_>, line: usize) -> usize {
+pub(crate) fn line_of(tree: &Tree<'_>, line: usize) -> usize
+    ensures { result ≡ line_of line (node tree.now) }
+{
     match tree {
         Tree::Scalar { line, .. } => *line,
         Tree::List(items) => items.first().map_or(line, |item| item.line),
@@ -76,12 +80,22 @@ pub(crate) fn line_of(tree: &Tree<'_>, line: usize) -> usize {
 }
 
 /// The line of the entry of this name, where a tree has one, else `line`.
-pub(crate) fn line_at(tree: &Tree<'_>, name: &str, line: usize) -> usize {
-    if let Tree::Map(entries) = tree {
-        for entry in entries {
-            if entry.key.as_str() == name {
-                return entry.line;
-            }
+pub(crate) fn line_at(tree: &Tree<'_>, name: &str, line: usize) -> usize
+    ensures { result ≡ line_at name.now line (node tree.now) }
+{
+    match tree {
+        Tree::Map(entries) => entry_line(entries, name, line),
+        _ => line,
+    }
+}
+
+/// The line of the entry of this name, where there is one, else `line`.
+fn entry_line(entries: &[Entry<'_>], name: &str, line: usize) -> usize
+    ensures { result ≡ entry_line name.now line (entries_view entries.now) }
+{
+    for entry in entries {
+        if entry.key.as_str() == name {
+            return entry.line;
         }
     }
     line

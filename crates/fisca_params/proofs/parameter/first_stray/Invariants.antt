@@ -1,7 +1,7 @@
 use Rattle.std.proofs.Common.{◌≡◌, drop}
 use Rattle.fisca_yaml.specs.Views.{entries_view}
-use Rattle.fisca_params.specs.Content.{are_bracket_fields}
+use Rattle.fisca_params.specs.Content.{first_line, names_field}
 use Rattle.fisca_params.proofs.parameter.first_stray.Given as goal
 
 abbrev pub invariant-loop-entry : goal.invariant-loop-entry
-invariant-loop-entry l = are_bracket_fields (entries_view l.entries) ≡ are_bracket_fields (entries_view (drop l.entry-index l.entries))
+invariant-loop-entry l = first_line names_field (entries_view l.entries) ≡ first_line names_field (entries_view (drop l.entry-index l.entries))

@@ -67,7 +67,7 @@ abbrev Table : Type 0
 Table = BTreeMap (String Global) ℕ
 
 -- a node put below another changes only what the other's name for it finds
-child-put : (t : List TreeNode) (parent : ℕ) (name : List ℕ) (c : Content) (place : ℕ) (q : List ℕ) →
+pub child-put : (t : List TreeNode) (parent : ℕ) (name : List ℕ) (c : Content) (place : ℕ) (q : List ℕ) →
     child_of (t ++ child_node parent name c ∷ []) place q ≡ or_else (child_of t place q) (cond (eqb parent place && bytes_eq name q) (Some (length t)) None)
 child-put t parent name c place q =
     position-snoc (is_child place q) 0 t (child_node parent name c)
@@ -78,7 +78,7 @@ child-put_apart : (t : List TreeNode) (parent : ℕ) (name : List ℕ) (c : Cont
 child-put_apart t parent name c place q f =
     child-put t parent name c place q ∙ ap (λ v. or_else (child_of t place q) (cond (v && bytes_eq name q) (Some (length t)) None)) f ∙ or_none (child_of t place q)
 
-child-put_below : (t : List TreeNode) (parent : ℕ) (name : List ℕ) (c : Content) (q : List ℕ) → child_of t parent name ≡ None →
+pub child-put_below : (t : List TreeNode) (parent : ℕ) (name : List ℕ) (c : Content) (q : List ℕ) → child_of t parent name ≡ None →
     child_of (t ++ child_node parent name c ∷ []) parent q ≡ cond (bytes_eq name q) (Some (length t)) (child_of t parent q)
 child-put_below t parent name c q free =
     child-put t parent name c parent q

@@ -5,6 +5,7 @@ pub mod Latest
 pub mod Ordered
 pub mod PathTexts
 pub mod Refusals
+mod Standing
 pub mod Thresholds
 pub mod Walks
 pub mod Worked

@@ -9,6 +9,7 @@ pub mod Lowest
 pub mod Names
 pub mod Nodes
 pub mod Paths
+pub mod Places
 pub mod Results
 pub mod Scale
 pub mod Source

@@ -6,6 +6,7 @@ mod build;
 mod content;
 mod dates;
 mod fault;
+mod law;
 mod lowest;
 mod nodes;
 mod parameter;
@@ -18,6 +19,7 @@ mod written;
 
 pub use content::{NodeKind, ParamValue};
 pub use fault::ParamFault;
+pub use law::files_stand_at_their_paths;
 pub use source::SourceFile;
 pub use tree::{NodeId, ParamTree};
 

@@ -3,6 +3,7 @@ pub mod Days
 pub mod Indexed
 pub mod Latest
 pub mod Ordered
+mod Origins
 pub mod PathTexts
 pub mod Refusals
 mod Standing

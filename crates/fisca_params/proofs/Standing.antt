@@ -24,11 +24,11 @@ use Rattle.fisca_params.specs.Tree.{TreeNode, child_of, child_node, content_at, 
 use Rattle.fisca_params.proofs.Indexed.{child-put, child-put_below}
 
 -- what is found in one tree is found in the other
-record Kept (t u : List TreeNode) : Type 0 where
-  child : (parent : ℕ) (name : List ℕ) (k : ℕ) → child_of t parent name ≡ Some k → child_of u parent name ≡ Some k
-  content : (k : ℕ) (c : Content) → content_at t k ≡ Some c → content_at u k ≡ Some c
+pub record Kept (t u : List TreeNode) : Type 0 where
+  pub child : (parent : ℕ) (name : List ℕ) (k : ℕ) → child_of t parent name ≡ Some k → child_of u parent name ≡ Some k
+  pub content : (k : ℕ) (c : Content) → content_at t k ≡ Some c → content_at u k ≡ Some c
 
-kept-same : (t : List TreeNode) → Kept t t
+pub kept-same : (t : List TreeNode) → Kept t t
 kept-same t = record { child = λ parent name k e. e; content = λ k c e. e }
 
 kept-then : (t u v : List TreeNode) → Kept t u → Kept u v → Kept t v
@@ -46,7 +46,7 @@ get-last : (t : List TreeNode) (x : TreeNode) → content_at (t ++ x ∷ []) (le
 get-last [] x = refl
 get-last (y ∷ t) x = get-last t x
 
-kept-put : (t : List TreeNode) (parent : ℕ) (name : List ℕ) (c : Content) → Kept t (with_child t parent name c)
+pub kept-put : (t : List TreeNode) (parent : ℕ) (name : List ℕ) (c : Content) → Kept t (with_child t parent name c)
 kept-put t parent name c = record {
   child = λ place q k e. child-put t parent name c place q ∙ rw e refl;
   content = λ k d e. get-before t (child_node parent name c) k d e;
@@ -79,16 +79,16 @@ mutual
       (λ child. let c = h.0 child in (c.0, k.child place key c.0 c.1, stands-kept t u c.0 n k c.2), children-kept t u place es k h.1)
 
 -- what a tree that something is put into has
-abbrev Grows : List TreeNode → Result (List TreeNode) Cause → (List TreeNode → Type 0) → Type 0
+abbrev pub Grows : List TreeNode → Result (List TreeNode) Cause → (List TreeNode → Type 0) → Type 0
 Grows t (Ok u) P = Kept t u × P u
 Grows t (Err c) P = Unit
 
-grows-if : (t : List TreeNode) (v : Bool) (c : Cause) (r : Result (List TreeNode) Cause) (P : List TreeNode → Type 0) →
+pub grows-if : (t : List TreeNode) (v : Bool) (c : Cause) (r : Result (List TreeNode) Cause) (P : List TreeNode → Type 0) →
     (v ≡ false → Grows t r P) → Grows t (cond v (Err c) r) P
 grows-if t true c r P h = tt
 grows-if t false c r P h = h refl
 
-grows-then : (t : List TreeNode) (r : Result (List TreeNode) Cause) (next : List TreeNode → Result (List TreeNode) Cause) (P Q : List TreeNode → Type 0) →
+pub grows-then : (t : List TreeNode) (r : Result (List TreeNode) Cause) (next : List TreeNode → Result (List TreeNode) Cause) (P Q : List TreeNode → Type 0) →
     Grows t r P → ((u : List TreeNode) → Kept t u → P u → Grows u (next u) Q) → Grows t (and_then r next) Q
 grows-then t (Ok u) next P Q h f = more (next u) (f u h.0 h.1)
   where
@@ -97,12 +97,12 @@ grows-then t (Ok u) next P Q h f = more (next u) (f u h.0 h.1)
     more (Err c) g = tt
 grows-then t (Err c) next P Q h f = tt
 
-grows-from : (t mid : List TreeNode) (r : Result (List TreeNode) Cause) (P Q : List TreeNode → Type 0) →
+pub grows-from : (t mid : List TreeNode) (r : Result (List TreeNode) Cause) (P Q : List TreeNode → Type 0) →
     Kept t mid → Grows mid r P → ((u : List TreeNode) → Kept mid u → P u → Q u) → Grows t r Q
 grows-from t mid (Ok u) P Q k h f = (kept-then t mid u k h.0, f u h.0 h.1)
 grows-from t mid (Err c) P Q k h f = tt
 
-grows-either : (t : List TreeNode) (v : Bool) (r s : Result (List TreeNode) Cause) (P : List TreeNode → Type 0) →
+pub grows-either : (t : List TreeNode) (v : Bool) (r s : Result (List TreeNode) Cause) (P : List TreeNode → Type 0) →
     (v ≡ true → Grows t r P) → (v ≡ false → Grows t s P) → Grows t (cond v r s) P
 grows-either t true r s P h k = h refl
 grows-either t false r s P h k = k refl
@@ -148,10 +148,10 @@ mutual
       let Q : List TreeNode → Type 0 = λ u. (is_description key ≡ false → ChildStands u place key n) × ChildrenStand u place es in
       grows-either t (is_description key) (put_children t place es) (and_then (put_node t place key line n) (λ u. put_children u place es)) Q
       (λ d. grows-from t t (put_children t place es) (λ u. ChildrenStand u place es) Q (kept-same t) (children-grow t place es)
-          (λ u k h. ((λ f. absurd (let no : true ≡ false = sym d ∙ f in cc)), h)))
+      (λ u k h. ((λ f. absurd (let no : true ≡ false = sym d ∙ f in cc)), h)))
       (λ d. grows-then t (put_node t place key line n) (λ u. put_children u place es) (λ u. ChildStands u place key n) Q (node-grows t place key line n)
-          (λ u k c. grows-from u u (put_children u place es) (λ v. ChildrenStand v place es) Q (kept-same u) (children-grow u place es)
-              (λ v kv h. ((λ f. child-kept u v place key n kv c), h))))
+      (λ u k c. grows-from u u (put_children u place es) (λ v. ChildrenStand v place es) Q (kept-same u) (children-grow u place es)
+      (λ v kv h. ((λ f. child-kept u v place key n kv c), h))))
 
 folder-is : (o : Option Content) → is_folder o ≡ true → o ≡ Some content.Folder
 folder-is (Some content.Folder) e = refl
@@ -163,7 +163,7 @@ folder-is (Some (content.Scale s)) e = cc
 folder-is None e = cc
 
 -- below a folder that is there already
-there-grows : (t : List TreeNode) (place : ℕ) (next : Entered → Result (List TreeNode) Cause) (v : Bool) (P : List TreeNode → Type 0) →
+pub there-grows : (t : List TreeNode) (place : ℕ) (next : Entered → Result (List TreeNode) Cause) (v : Bool) (P : List TreeNode → Type 0) →
     (v ≡ true → Grows t (next (entered t place)) P) → Grows t (and_then (cond v (Ok (entered t place)) (Err (duplicate_name 1))) next) P
 there-grows t place next true P h = h refl
 there-grows t place next false P h = tt
@@ -180,7 +180,7 @@ entered-grows t folder name m ms n None e below =
 entered-grows t folder name m ms n (Some place) e below =
     there-grows t place (λ e. put_below e.tree e.place (m ∷ ms) n) (is_folder (content_at t place)) (λ u. StandsBelow u folder (name ∷ m ∷ ms) n)
     (λ f. grows-from t t (put_below t place (m ∷ ms) n) (λ v. StandsBelow v place (m ∷ ms) n) (λ u. StandsBelow u folder (name ∷ m ∷ ms) n) (kept-same t) (below t place)
-        (λ u k h. (place, k.child folder name place e, k.content place content.Folder (folder-is (content_at t place) f), h)))
+    (λ u k h. (place, k.child folder name place e, k.content place content.Folder (folder-is (content_at t place) f), h)))
 
 file-grows : (t : List TreeNode) (folder : ℕ) (name : List ℕ) (n : Node) → Grows t (put_below t folder (name ∷ []) n) (λ u. StandsBelow u folder (name ∷ []) n)
 file-grows t folder name n =
@@ -206,9 +206,9 @@ read-file-grows t f names None e d = tt
 read-file-grows t f names (Some n) e d =
     grows-from t t (put_below t 0 names n) (λ u. StandsBelow u 0 names n) (λ u. StandsAtItsPath u f) (kept-same t) (below-grows t 0 names n)
     (λ u k h. λ other m is reads.
-        let same : names ≡ other = let both : Some names ≡ Some other = sym e ∙ is in cc in
-        let one : n ≡ m = let both : Some n ≡ Some m = sym d ∙ reads in cc in
-        rw (← same, ← one) h)
+    let same : names ≡ other = let both : Some names ≡ Some other = sym e ∙ is in cc in
+    let one : n ≡ m = let both : Some n ≡ Some m = sym d ∙ reads in cc in
+    rw (← same, ← one) h)
 
 named-grows : (t : List TreeNode) (f : Source) (names : Option (List (List ℕ))) → names_of f.path ≡ names →
     Grows t (with_names t f.text names) (λ u. StandsAtItsPath u f)

@@ -1,5 +1,5 @@
 -- What stands where in a tree of parameters.
-use Rattle.std.specs.Prelude.{◌≡◌, ℕ, Bool, true, false, ◌&&◌, List, [], ◌∷◌, Option, Some, None, is_none, codes}
+use Rattle.std.specs.Prelude.{◌≡◌, ◌⊎◌, ℕ, Bool, true, false, ◌&&◌, List, [], ◌∷◌, Option, Some, None, is_none, option_and_then, codes}
 use Rattle.std.specs.Str.{bytes_eq}
 use Rattle.fisca_yaml.specs.Find.{get}
 use Rattle.fisca_yaml.specs.Grouping.{document}
@@ -55,3 +55,38 @@ StandsAtItsPath t f =
 abbrev pub EachStands : List TreeNode → List Source → Type 0
 EachStands t [] = Unit
 EachStands t (f ∷ fs) = StandsAtItsPath t f × EachStands t fs
+
+-- the place that names lead to, from a node on
+abbrev pub walk : List TreeNode → ℕ → List (List ℕ) → Option ℕ
+walk t place [] = Some place
+walk t place (name ∷ names) = option_and_then (λ child. walk t child names) (child_of t place name)
+
+abbrev mutual
+  -- a map of a file says that this stands at these names below it
+  pub Says : Node → List (List ℕ) → Content → Type 0
+  Says null names c = ⊥
+  Says (scalar text q l) names c = ⊥
+  Says (list is) names c = ⊥
+  Says (map es) [] c = content_in (map es) ≡ Some c
+  Says (map es) (name ∷ names) c = (is_branch (map es) ≡ true) × EntrySays es name names c
+
+  pub EntrySays : Entries → List ℕ → List (List ℕ) → Content → Type 0
+  EntrySays no_entries name names c = ⊥
+  EntrySays (entry key line n es) name names c =
+      ((is_description key ≡ false) × (key ≡ name) × Says n names c) ⊎ EntrySays es name names c
+
+-- a file of these names says so: of its folders that they are folders, of its own name what its map says
+abbrev pub SaysBelow : List (List ℕ) → Node → List (List ℕ) → Content → Type 0
+SaysBelow own n [] c = c ≡ content.Folder
+SaysBelow [] n (name ∷ names) c = ⊥
+SaysBelow (first ∷ []) n (name ∷ names) c = (first ≡ name) × (bytes_eq first (codes "index") ≡ false) × Says n names c
+SaysBelow (first ∷ m ∷ ms) n (name ∷ names) c = (first ≡ name) × SaysBelow (m ∷ ms) n names c
+
+abbrev pub FileSays : Source → List (List ℕ) → Content → Type 0
+FileSays f names c =
+    (own : List (List ℕ)) × (n : Node) × (names_of f.path ≡ Some own) × (document f.text ≡ Some n) × SaysBelow own n names c
+
+-- some file says so, or it is the folder `parameters`
+abbrev pub SomeFileSays : List Source → List (List ℕ) → Content → Type 0
+SomeFileSays [] names c = (names ≡ []) × (c ≡ content.Folder)
+SomeFileSays (f ∷ fs) names c = FileSays f names c ⊎ SomeFileSays fs names c

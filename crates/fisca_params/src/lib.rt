@@ -19,7 +19,7 @@ mod written;
 
 pub use content::{NodeKind, ParamValue};
 pub use fault::ParamFault;
-pub use law::files_stand_at_their_paths;
+pub use law::{files_stand_at_their_paths, nothing_else_stands};
 pub use source::SourceFile;
 pub use tree::{NodeId, ParamTree};
 

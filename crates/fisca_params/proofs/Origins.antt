@@ -1,0 +1,342 @@
+-- What stands in a tree comes from a file.
+use Rattle.std.proofs.Common.{◌≡◌, ℕ, suc, zero, ◌+◌, ◌<◌, ◌≤◌, Bool, true, false, ◌&&◌, cond, eqb, List, [], ◌∷◌, ◌++◌, length, Option, Some, None, Result, Ok, Err, option_map, option_and_then, is_some, slice_get, refl, sym, ◌∙◌, ap, arith, inl, inr, ◌⊎◌, codes, append_assoc, append-nil}
+use Rattle.std.proofs.lemmas.Bool.{cases_Bool, cases_lt, eqb-true}
+use Rattle.std.proofs.lemmas.Option.{slice_get_within}
+use Rattle.std.proofs.lemmas.List.{length-append}
+use Rattle.std.proofs.lemmas.Slice.Eq.{bytes_eq-Decides}
+use Rattle.std.specs.List.{position_from, enumerate_from}
+use Rattle.std.specs.Str.{bytes_eq}
+use Rattle.fisca_params.specs.declared.content.Content.{Content}
+use Rattle.fisca_params.specs.declared.content.Content.TheVariants as content
+use Rattle.fisca_yaml.specs.Find.{get}
+use Rattle.fisca_yaml.specs.Grouping.{document}
+use Rattle.fisca_yaml.specs.Node.{Node, null, scalar, list, map, Entries, no_entries, entry}
+use Rattle.fisca_params.specs.Causes.{Cause, duplicate_name, Refused}
+use Rattle.fisca_params.specs.Content.{date_map, parameter_in, scale_of}
+use Rattle.fisca_params.specs.FaultLines.{line_at, values_line, scale_line}
+use Rattle.fisca_params.specs.Files.{Placed, is_path_before, put_by_path, in_path_order_with, in_path_order, with_tree, with_names, with_file, after_file, with_files, root_alone, tree_of}
+use Rattle.fisca_params.specs.Paths.{names_of}
+use Rattle.fisca_params.specs.Places.{content_in, is_branch, walk, Says, EntrySays, SaysBelow, FileSays, SomeFileSays}
+use Rattle.fisca_params.specs.Results.{and_then}
+use Rattle.fisca_params.specs.Source.{Source}
+use Rattle.fisca_params.specs.Tree.{TreeNode, child_of, child_node, is_child, is_at, content_at, with_child, with_read, put_map, put_node, put_children, is_description, is_folder, describes_folder, Entered, entered, enter_child, put_below}
+use Rattle.fisca_params.proofs.Standing.{Grows, grows-if, grows-then, grows-from, grows-either, there-grows, kept-same, kept-put}
+
+-- names that lead to a place, by the nodes above it
+data Leads (t : List TreeNode) : List (List ℕ) → ℕ → Type 0 where
+  at_root : Leads t [] 0
+  below : (names : List (List ℕ)) (parent place : ℕ) (x : TreeNode) → Leads t names parent → slice_get t place ≡ Some x → x.parent ≡ Some parent →
+      Leads t (names ++ x.name ∷ []) place
+
+-- the root has no node above it, and each other node stands after the one above it
+record IsTree (t : List TreeNode) : Type 0 where
+  root : (x : TreeNode) (parent : ℕ) → slice_get t 0 ≡ Some x → x.parent ≡ Some parent → ⊥
+  some : 0 < length t
+  after : (place parent : ℕ) (x : TreeNode) → slice_get t place ≡ Some x → x.parent ≡ Some parent → parent < place
+
+get-held : (t : List TreeNode) (y : TreeNode) (k : ℕ) (x : TreeNode) → slice_get t k ≡ Some x → slice_get (t ++ y ∷ []) k ≡ Some x
+get-held [] y k x e = cc
+get-held (z ∷ t) y zero x e = e
+get-held (z ∷ t) y (suc k) x e = get-held t y k x e
+
+get-back : (t : List TreeNode) (y : TreeNode) (k : ℕ) → k < length t → slice_get (t ++ y ∷ []) k ≡ slice_get t k
+get-back [] y k h = absurd (omega arith)
+get-back (z ∷ t) y zero h = refl
+get-back (z ∷ t) y (suc k) h = get-back t y k (omega arith)
+
+get-end : (t : List TreeNode) (y : TreeNode) → slice_get (t ++ y ∷ []) (length t) ≡ Some y
+get-end [] y = refl
+get-end (z ∷ t) y = get-end t y
+
+within : (t : List TreeNode) (names : List (List ℕ)) (place : ℕ) → IsTree t → Leads t names place → place < length t
+within t _ _ w at_root = w.some
+within t _ _ w (below names parent place x l e p) = slice_get_within t place x e
+
+leads-held : (t : List TreeNode) (y : TreeNode) (names : List (List ℕ)) (place : ℕ) → Leads t names place → Leads (t ++ y ∷ []) names place
+leads-held t y _ _ at_root = at_root
+leads-held t y _ _ (below names parent place x l e p) = below names parent place x (leads-held t y names parent l) (get-held t y place x e) p
+
+leads-back : (t : List TreeNode) (y : TreeNode) (names : List (List ℕ)) (place : ℕ) → IsTree t → place < length t → Leads (t ++ y ∷ []) names place → Leads t names place
+leads-back t y _ _ w h at_root = at_root
+leads-back t y _ _ w h (below names parent place x l e p) =
+    let here : slice_get t place ≡ Some x = sym (get-back t y place h) ∙ e in
+    let up : parent < place = w.after place parent x here p in
+    below names parent place x (leads-back t y names parent w (omega arith) l) here p
+
+one-way : (t : List TreeNode) (a b : List (List ℕ)) (place : ℕ) → IsTree t → Leads t a place → Leads t b place → a ≡ b
+one-way t _ _ _ w at_root at_root = refl
+one-way t _ _ _ w at_root (below names parent _ x l e p) = absurd (w.root x parent e p)
+one-way t _ _ _ w (below names parent _ x l e p) at_root = absurd (w.root x parent e p)
+one-way t _ _ _ w (below names parent place x l e p) (below others above _ y m f q) =
+    let same : x ≡ y = let both : Some x ≡ Some y = sym e ∙ f in cc in
+    let up : parent ≡ above = let both : Some parent ≡ Some above = sym p ∙ ap (λ z. z.parent) same ∙ q in cc in
+    let names_same : names ≡ others = one-way t names others parent w l (rw up m) in
+    ap (λ ns. ns ++ x.name ∷ []) names_same ∙ ap (λ z. others ++ z.name ∷ []) same
+
+-- all that names lead to is what Q says
+record Only (Q : List (List ℕ) → Content → Type 0) (t : List TreeNode) : Type 0 where
+  tree : IsTree t
+  said : (names : List (List ℕ)) (place : ℕ) (x : TreeNode) → Leads t names place → slice_get t place ≡ Some x → Q names x.content
+
+leads-new : (t : List TreeNode) (parent : ℕ) (name : List ℕ) (c : Content) (above : List (List ℕ)) → Leads t above parent →
+    Leads (with_child t parent name c) (above ++ name ∷ []) (length t)
+leads-new t parent name c above l =
+    below above parent (length t) (child_node parent name c) (leads-held t (child_node parent name c) above parent l) (get-end t (child_node parent name c)) refl
+
+tree-put : (t : List TreeNode) (parent : ℕ) (name : List ℕ) (c : Content) → IsTree t → parent < length t → IsTree (with_child t parent name c)
+tree-put t parent name c w h =
+    let y = child_node parent name c in
+    let more : length (t ++ y ∷ []) ≡ length t + 1 = length-append t (y ∷ []) in
+    record {
+      root = λ x above e p. w.root x above (sym (get-back t y 0 w.some) ∙ e) p;
+      some = omega (arith, more);
+      after = λ place above x e p.
+          let inside : place < length (t ++ y ∷ []) = slice_get_within (t ++ y ∷ []) place x e in
+          elim (cases_lt place (length t)) [
+            | inl before ↦ w.after place above x (sym (get-back t y place before) ∙ e) p
+            | inr last ↦
+                let there : place ≡ length t = omega (arith, more, inside, last) in
+                let is : y ≡ x = let both : Some y ≡ Some x = sym (get-end t y) ∙ ap (slice_get (t ++ y ∷ [])) (sym there) ∙ e in cc in
+                let up : parent ≡ above = let both : Some parent ≡ Some above = ap (λ z. z.parent) is ∙ p in cc in
+                omega (arith, h, up, there)
+          ];
+    }
+
+only-put : (Q : List (List ℕ) → Content → Type 0) (t : List TreeNode) (parent : ℕ) (name : List ℕ) (c : Content) (above : List (List ℕ)) →
+    Only Q t → Leads t above parent → Q (above ++ name ∷ []) c → Only Q (with_child t parent name c)
+only-put Q t parent name c above o l q =
+    let y = child_node parent name c in
+    let inside : parent < length t = within t above parent o.tree l in
+    let more : length (t ++ y ∷ []) ≡ length t + 1 = length-append t (y ∷ []) in
+    let grown : IsTree (t ++ y ∷ []) = tree-put t parent name c o.tree inside in
+    record {
+      tree = grown;
+      said = λ names place x leads e.
+          elim (cases_lt place (length t)) [
+            | inl before ↦ o.said names place x (leads-back t y names place o.tree before leads) (sym (get-back t y place before) ∙ e)
+            | inr last ↦
+                let there : place ≡ length t = let bound : place < length (t ++ y ∷ []) = slice_get_within (t ++ y ∷ []) place x e in omega (arith, more, bound, last) in
+                let is : y ≡ x = let both : Some y ≡ Some x = sym (get-end t y) ∙ ap (slice_get (t ++ y ∷ [])) (sym there) ∙ e in cc in
+                let way : above ++ name ∷ [] ≡ names = one-way (t ++ y ∷ []) (above ++ name ∷ []) names place grown (rw there (leads-new t parent name c above l)) leads in
+                rw (← way, ← is) q
+          ];
+    }
+
+-- what the names of a walk lead to
+found-at : (f : TreeNode → Bool) (i : ℕ) (t : List TreeNode) (k : ℕ) → position_from f i t ≡ Some k → (j : ℕ) × (x : TreeNode) × (k ≡ i + j) × (slice_get t j ≡ Some x) × (f x ≡ true)
+found-at f i [] k e = cc
+found-at f i (x ∷ t) k e =
+    elim (cases_Bool (f x)) [
+      | inl passes ↦ let here : Some i ≡ Some k = rw passes at e in (0, x, (let same : i ≡ k = cc in omega (arith, same)), refl, passes)
+      | inr fails ↦ let later = found-at f (i + 1) t k (rw fails at e) in (suc later.0, later.1, omega (arith, later.2), later.3, later.4)
+    ]
+
+child-is : (t : List TreeNode) (parent : ℕ) (name : List ℕ) (k : ℕ) → child_of t parent name ≡ Some k →
+    (x : TreeNode) × (slice_get t k ≡ Some x) × (x.parent ≡ Some parent) × (x.name ≡ name)
+child-is t parent name k e =
+    let there = found-at (is_child parent name) 0 t k e in
+    let same : there.0 ≡ k = omega (arith, there.2) in
+    let facts = both_true there.1 there.4 in
+    (there.1, ap (slice_get t) (sym same) ∙ there.3, facts.0, facts.1)
+  where
+    both_true : (x : TreeNode) → is_child parent name x ≡ true → (x.parent ≡ Some parent) × (x.name ≡ name)
+    both_true x h = by x.parent refl
+      where
+        by : (o : Option ℕ) → x.parent ≡ o → (x.parent ≡ Some parent) × (x.name ≡ name)
+        by None e = absurd (let no : false ≡ true = sym (ap (λ o. is_at o parent && bytes_eq x.name name) e) ∙ h in cc)
+        by (Some p) e =
+            elim (cases_Bool (eqb p parent)) [
+              | inl same ↦
+                  let name_is : bytes_eq x.name name ≡ true = sym (ap (λ v. v && bytes_eq x.name name) same) ∙ sym (ap (λ o. is_at o parent && bytes_eq x.name name) e) ∙ h in
+                  (e ∙ ap Some (eqb-true p parent same), (bytes_eq-Decides x.name name).0 name_is)
+              | inr other ↦ absurd (let no : false ≡ true = sym (ap (λ v. v && bytes_eq x.name name) other) ∙ sym (ap (λ o. is_at o parent && bytes_eq x.name name) e) ∙ h in cc)
+            ]
+
+leads-child : (t : List TreeNode) (above : List (List ℕ)) (place : ℕ) (name : List ℕ) (child : ℕ) → Leads t above place → child_of t place name ≡ Some child →
+    Leads t (above ++ name ∷ []) child
+leads-child t above place name child l e =
+    let is = child-is t place name child e in
+    rw (← is.3) (below above place child is.0 l is.1 is.2)
+
+walk-step : (t : List TreeNode) (above : List (List ℕ)) (name : List ℕ) (names : List (List ℕ)) (place k : ℕ) (found : Option ℕ) → child_of t place name ≡ found →
+    Leads t above place → option_and_then (λ child. walk t child names) found ≡ Some k →
+    ((child : ℕ) → Leads t (above ++ name ∷ []) child → walk t child names ≡ Some k → Leads t ((above ++ name ∷ []) ++ names) k) →
+    Leads t (above ++ name ∷ names) k
+walk-step t above name names place k None f l e later = cc
+walk-step t above name names place k (Some child) f l e later =
+    rw (← append_assoc above (name ∷ []) names) (later child (leads-child t above place name child l f) e)
+
+walk-leads : (t : List TreeNode) (above names : List (List ℕ)) (place k : ℕ) → Leads t above place → walk t place names ≡ Some k → Leads t (above ++ names) k
+walk-leads t above [] place k l e =
+    let same : place ≡ k = cc in
+    rw (append-nil above, ← same) l
+walk-leads t above (name ∷ names) place k l e =
+    walk-step t above name names place k (child_of t place name) refl l e (λ child down. walk-leads t (above ++ name ∷ []) names child k down)
+
+-- all is said still, and names lead where they led
+abbrev Held : (List (List ℕ) → Content → Type 0) → List TreeNode → List TreeNode → Type 0
+Held Q t u = Only Q u × ((names : List (List ℕ)) (place : ℕ) → Leads t names place → Leads u names place)
+
+held-put : (Q : List (List ℕ) → Content → Type 0) (t : List TreeNode) (parent : ℕ) (name : List ℕ) (c : Content) (above : List (List ℕ)) →
+    Only Q t → Leads t above parent → Q (above ++ name ∷ []) c → Held Q t (with_child t parent name c)
+held-put Q t parent name c above o l q = (only-put Q t parent name c above o l q, λ names place k. leads-held t (child_node parent name c) names place k)
+
+held-then : (Q : List (List ℕ) → Content → Type 0) (t u v : List TreeNode) → Held Q t u → Held Q u v → Held Q t v
+held-then Q t u v h k = (k.0, λ names place l. k.1 names place (h.1 names place l))
+
+read-held : (Q : List (List ℕ) → Content → Type 0) (t : List TreeNode) (parent : ℕ) (name : List ℕ) (c : Option Content) (line : ℕ) (above : List (List ℕ)) →
+    Only Q t → Leads t above parent → ((d : Content) → c ≡ Some d → Q (above ++ name ∷ []) d) → Grows t (with_read t parent name c line) (Held Q t)
+read-held Q t parent name None line above o l q = tt
+read-held Q t parent name (Some c) line above o l q = (kept-put t parent name c, held-put Q t parent name c above o l (q c refl))
+
+map-held : (Q : List (List ℕ) → Content → Type 0) (t : List TreeNode) (parent : ℕ) (name : List ℕ) (line : ℕ) (es : Entries) (above : List (List ℕ)) (values brackets : Option Node) →
+    date_map (map es) ≡ values → get (codes "brackets") (map es) ≡ brackets → Only Q t → Leads t above parent →
+    ((names : List (List ℕ)) (c : Content) → Says (map es) names c → Q ((above ++ name ∷ []) ++ names) c) →
+    ((u : List TreeNode) (place : ℕ) → Only Q u → Leads u (above ++ name ∷ []) place →
+    ((other : List ℕ) (names : List (List ℕ)) (c : Content) → EntrySays es other names c → Q ((above ++ name ∷ []) ++ other ∷ names) c) →
+    Grows u (put_children u place es) (Held Q u)) →
+    Grows t (put_map t parent name line (map es) (λ u. put_children u (length t) es) values brackets) (Held Q t)
+map-held Q t parent name line es above (Some values) brackets e f o l says deeper =
+    read-held Q t parent name (parameter_in values) (values_line (line_at (codes "values") line (map es)) values) above o l
+    (λ d is. rw (append-nil (above ++ name ∷ [])) at (says [] d (rw e is)))
+map-held Q t parent name line es above None (Some brackets) e f o l says deeper =
+    read-held Q t parent name (scale_of (map es) brackets) (scale_line (line_at (codes "brackets") line (map es)) brackets) above o l
+    (λ d is. rw (append-nil (above ++ name ∷ [])) at (says [] d (rw (e, f) is)))
+map-held Q t parent name line es above None None e f o l says deeper =
+    let middle = with_child t parent name content.Branch in
+    let here : Held Q t middle = held-put Q t parent name content.Branch above o l (rw (append-nil (above ++ name ∷ [])) at (says [] content.Branch (rw (e, f) refl))) in
+    grows-from t middle (put_children middle (length t) es) (Held Q middle) (Held Q t) (kept-put t parent name content.Branch)
+    (deeper middle (length t) here.0 (leads-new t parent name content.Branch above l) (λ other names c h. says (other ∷ names) c (rw (e, f) refl, h)))
+    (λ u k h. held-then Q t middle u here h)
+
+mutual
+  node-held : (Q : List (List ℕ) → Content → Type 0) (t : List TreeNode) (parent : ℕ) (name : List ℕ) (line : ℕ) (n : Node) (above : List (List ℕ)) →
+      Only Q t → Leads t above parent → ((names : List (List ℕ)) (c : Content) → Says n names c → Q ((above ++ name ∷ []) ++ names) c) →
+      Grows t (put_node t parent name line n) (Held Q t)
+  node-held Q t parent name line null above o l says = tt
+  node-held Q t parent name line (scalar text q k) above o l says = tt
+  node-held Q t parent name line (list is) above o l says = tt
+  node-held Q t parent name line (map es) above o l says =
+      grows-if t (is_some (child_of t parent name)) (duplicate_name line) (put_map t parent name line (map es) (λ u. put_children u (length t) es) (date_map (map es)) (get (codes "brackets") (map es))) (Held Q t)
+      (λ free. map-held Q t parent name line es above (date_map (map es)) (get (codes "brackets") (map es)) refl refl o l says
+      (λ u place p k s. children-held Q u place es (above ++ name ∷ []) p k s))
+
+  children-held : (Q : List (List ℕ) → Content → Type 0) (t : List TreeNode) (place : ℕ) (es : Entries) (above : List (List ℕ)) →
+      Only Q t → Leads t above place → ((name : List ℕ) (names : List (List ℕ)) (c : Content) → EntrySays es name names c → Q (above ++ name ∷ names) c) →
+      Grows t (put_children t place es) (Held Q t)
+  children-held Q t place no_entries above o l says = (kept-same t, (o, λ names k m. m))
+  children-held Q t place (entry key line n es) above o l says =
+      grows-either t (is_description key) (put_children t place es) (and_then (put_node t place key line n) (λ u. put_children u place es)) (Held Q t)
+      (λ d. children-held Q t place es above o l (λ name names c h. says name names c (inr h)))
+      (λ d. grows-then t (put_node t place key line n) (λ u. put_children u place es) (Held Q t) (Held Q t)
+      (node-held Q t place key line n above o l (λ names c h. rw (append_assoc above (key ∷ []) names) (says key names c (inl (d, refl, h)))))
+      (λ u k h. grows-from u u (put_children u place es) (Held Q u) (Held Q t) (kept-same u)
+      (children-held Q u place es above h.0 (h.1 above place l) (λ name names c s. says name names c (inr s)))
+      (λ v kv g. held-then Q t u v h g)))
+
+entered-held : (Q : List (List ℕ) → Content → Type 0) (t : List TreeNode) (folder : ℕ) (name m : List ℕ) (ms : List (List ℕ)) (n : Node) (above : List (List ℕ)) (found : Option ℕ) →
+    child_of t folder name ≡ found → Only Q t → Leads t above folder →
+    ((names : List (List ℕ)) (c : Content) → SaysBelow (name ∷ m ∷ ms) n names c → Q (above ++ names) c) →
+    ((u : List TreeNode) (place : ℕ) → Only Q u → Leads u (above ++ name ∷ []) place → Grows u (put_below u place (m ∷ ms) n) (Held Q u)) →
+    Grows t (and_then (enter_child t folder name found) (λ e. put_below e.tree e.place (m ∷ ms) n)) (Held Q t)
+entered-held Q t folder name m ms n above None e o l says deeper =
+    let middle = with_child t folder name content.Folder in
+    let here : Held Q t middle = held-put Q t folder name content.Folder above o l (says (name ∷ []) content.Folder (refl, refl)) in
+    grows-from t middle (put_below middle (length t) (m ∷ ms) n) (Held Q middle) (Held Q t) (kept-put t folder name content.Folder)
+    (deeper middle (length t) here.0 (leads-new t folder name content.Folder above l)) (λ u k h. held-then Q t middle u here h)
+entered-held Q t folder name m ms n above (Some place) e o l says deeper =
+    there-grows t place (λ e. put_below e.tree e.place (m ∷ ms) n) (is_folder (content_at t place)) (Held Q t)
+    (λ f. deeper t place o (leads-child t above folder name place l e))
+
+below-held : (Q : List (List ℕ) → Content → Type 0) (t : List TreeNode) (folder : ℕ) (own : List (List ℕ)) (n : Node) (above : List (List ℕ)) →
+    Only Q t → Leads t above folder → ((names : List (List ℕ)) (c : Content) → SaysBelow own n names c → Q (above ++ names) c) →
+    Grows t (put_below t folder own n) (Held Q t)
+below-held Q t folder [] n above o l says = (kept-same t, (o, λ names k m. m))
+below-held Q t folder (name ∷ []) n above o l says =
+    grows-either t (bytes_eq name (codes "index")) _ _ (Held Q t)
+    (λ i. grows-either t (describes_folder n) _ _ (Held Q t) (λ d. (kept-same t, (o, λ names k m. m))) (λ d. tt))
+    (λ i. node-held Q t folder name 1 n above o l (λ names c h. rw (append_assoc above (name ∷ []) names) (says (name ∷ names) c (refl, i, h))))
+below-held Q t folder (name ∷ m ∷ ms) n above o l says =
+    entered-held Q t folder name m ms n above (child_of t folder name) refl o l says
+    (λ u place p k. below-held Q u place (m ∷ ms) n (above ++ name ∷ []) p k
+    (λ names c h. rw (append_assoc above (name ∷ []) names) (says (name ∷ names) c (refl, h))))
+
+text-held : (Q : List (List ℕ) → Content → Type 0) (t : List TreeNode) (f : Source) (own : List (List ℕ)) (n : Option Node) → names_of f.path ≡ Some own → document f.text ≡ n →
+    Only Q t → ((names : List (List ℕ)) (c : Content) → FileSays f names c → Q names c) → Grows t (with_tree t own n) (Held Q t)
+text-held Q t f own None e d o says = tt
+text-held Q t f own (Some n) e d o says = below-held Q t 0 own n [] o at_root (λ names c h. says names c (own, n, e, d, h))
+
+named-held : (Q : List (List ℕ) → Content → Type 0) (t : List TreeNode) (f : Source) (own : Option (List (List ℕ))) → names_of f.path ≡ own →
+    Only Q t → ((names : List (List ℕ)) (c : Content) → FileSays f names c → Q names c) → Grows t (with_names t f.text own) (Held Q t)
+named-held Q t f None e o says = (kept-same t, (o, λ names k m. m))
+named-held Q t f (Some own) e o says = text-held Q t f own (document f.text) e refl o says
+
+-- what each of these files says is what Q says
+abbrev AllSay : (List (List ℕ) → Content → Type 0) → List Placed → Type 0
+AllSay Q [] = Unit
+AllSay Q (p ∷ ps) = ((names : List (List ℕ)) (c : Content) → FileSays p.1 names c → Q names c) × AllSay Q ps
+
+after-only : (Q : List (List ℕ) → Content → Type 0) (t : List TreeNode) (place : ℕ) (r : Result (List TreeNode) Cause) (ps : List Placed) (u : List TreeNode) →
+    Grows t r (Held Q t) → after_file place r (λ v. with_files v ps) ≡ Ok u → ((v : List TreeNode) → Only Q v → with_files v ps ≡ Ok u → Only Q u) → Only Q u
+after-only Q t place (Ok v) ps u g e later = later v g.1.0 e
+after-only Q t place (Err c) ps u g e later = cc
+
+all-only : (Q : List (List ℕ) → Content → Type 0) (t : List TreeNode) (ps : List Placed) (u : List TreeNode) → Only Q t → AllSay Q ps → with_files t ps ≡ Ok u → Only Q u
+all-only Q t [] u o h e = let same : t ≡ u = cc in rw (← same) o
+all-only Q t (p ∷ ps) u o h e =
+    after-only Q t p.0 (with_file t p.1) ps u (named-held Q t p.1 (names_of p.1.path) refl o h.0) e (λ v ov ev. all-only Q v ps u ov h.1 ev)
+
+cond-say : (Q : List (List ℕ) → Content → Type 0) (v : Bool) (ps qs : List Placed) → AllSay Q ps → AllSay Q qs → AllSay Q (cond v ps qs)
+cond-say Q true ps qs h k = h
+cond-say Q false ps qs h k = k
+
+put-say : (Q : List (List ℕ) → Content → Type 0) (p : Placed) (ps : List Placed) → ((names : List (List ℕ)) (c : Content) → FileSays p.1 names c → Q names c) → AllSay Q ps → AllSay Q (put_by_path p ps)
+put-say Q p [] h hs = (h, tt)
+put-say Q p (q ∷ qs) h hs = cond-say Q (is_path_before p.1.path q.1.path) (p ∷ q ∷ qs) (q ∷ put_by_path p qs) (h, hs) (hs.0, put-say Q p qs h hs.1)
+
+order-say : (Q : List (List ℕ) → Content → Type 0) (sorted rest : List Placed) → AllSay Q sorted → AllSay Q rest → AllSay Q (in_path_order_with sorted rest)
+order-say Q sorted [] h k = h
+order-say Q sorted (p ∷ ps) h k = order-say Q (put_by_path p sorted) ps (put-say Q p sorted k.0 h) k.1
+
+files-say : (Q : List (List ℕ) → Content → Type 0) (i : ℕ) (files : List Source) → ((names : List (List ℕ)) (c : Content) → SomeFileSays files names c → Q names c) → AllSay Q (enumerate_from i files)
+files-say Q i [] h = tt
+files-say Q i (f ∷ fs) h = ((λ names c s. h names c (inl s)), files-say Q (i + 1) fs (λ names c s. h names c (inr s)))
+
+root-said : (files : List Source) → SomeFileSays files [] content.Folder
+root-said [] = (refl, refl)
+root-said (f ∷ fs) = inr (root-said fs)
+
+only-root : (Q : List (List ℕ) → Content → Type 0) → Q [] content.Folder → Only Q root_alone
+only-root Q q = record {
+  tree = record {
+    root = λ x parent e p. let both : Some (record { parent = None; name = []; content = content.Folder }) ≡ Some x = e in no-parent x parent e p;
+    some = omega arith;
+    after = λ place parent x e p. absurd (none-above place x parent e p);
+  };
+  said = λ names place x l e. root-only names place x l e;
+}
+  where
+    no-parent : (x : TreeNode) (parent : ℕ) → slice_get root_alone 0 ≡ Some x → x.parent ≡ Some parent → ⊥
+    no-parent x parent e p = let is : record { parent = None; name = []; content = content.Folder } ≡ x = cc in let no : None ≡ Some parent = ap (λ z. z.parent) is ∙ p in cc
+
+    none-above : (place : ℕ) (x : TreeNode) (parent : ℕ) → slice_get root_alone place ≡ Some x → x.parent ≡ Some parent → ⊥
+    none-above zero x parent e p = no-parent x parent e p
+    none-above (suc k) x parent e p = cc
+
+    root-only : (names : List (List ℕ)) (place : ℕ) (x : TreeNode) → Leads root_alone names place → slice_get root_alone place ≡ Some x → Q names x.content
+    root-only _ _ x at_root e = let is : record { parent = None; name = []; content = content.Folder } ≡ x = cc in rw (← is) q
+    root-only _ _ x (below names parent place y l f p) e = absurd (none-above place y parent f p)
+
+content-of : (t : List TreeNode) (place : ℕ) (c : Content) → content_at t place ≡ Some c → (x : TreeNode) × (slice_get t place ≡ Some x) × (x.content ≡ c)
+content-of [] place c e = cc
+content-of (y ∷ t) zero c e = (y, refl, (let both : Some y.content ≡ Some c = e in cc))
+content-of (y ∷ t) (suc k) c e = content-of t k c e
+
+-- what names lead to is what some file says, or the root
+pub nothing-else : (files : List Source) (t : List TreeNode) → tree_of files ≡ Ok t → (names : List (List ℕ)) (place : ℕ) (c : Content) →
+    walk t 0 names ≡ Some place → content_at t place ≡ Some c → SomeFileSays files names c
+nothing-else files t e names place c w is =
+    let Q : List (List ℕ) → Content → Type 0 = SomeFileSays files in
+    let only : Only Q t = all-only Q root_alone (in_path_order files) t (only-root Q (root-said files)) (order-say Q [] (enumerate_from 0 files) tt (files-say Q 0 files (λ names c s. s))) e in
+    let there = content-of t place c is in
+    rw (← there.2) (only.said names place there.0 (walk-leads t [] names 0 place at_root w) there.1)

@@ -1,5 +1,6 @@
 pub mod DateMaps
 pub mod Days
+mod EachFile
 pub mod Indexed
 pub mod Latest
 pub mod Ordered

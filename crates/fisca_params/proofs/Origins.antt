@@ -1,5 +1,5 @@
 -- What stands in a tree comes from a file.
-use Rattle.std.proofs.Common.{◌≡◌, ℕ, suc, zero, ◌+◌, ◌<◌, ◌≤◌, Bool, true, false, ◌&&◌, cond, eqb, List, [], ◌∷◌, ◌++◌, length, Option, Some, None, Result, Ok, Err, option_map, option_and_then, is_some, slice_get, refl, sym, ◌∙◌, ap, arith, inl, inr, ◌⊎◌, codes, append_assoc, append-nil}
+use Rattle.std.proofs.Common.{◌≡◌, ℕ, suc, zero, ◌+◌, ◌<◌, Bool, true, false, ◌&&◌, eqb, List, [], ◌∷◌, ◌++◌, length, Option, Some, None, Result, Ok, Err, option_and_then, is_some, slice_get, refl, sym, ◌∙◌, ap, arith, inl, inr, codes, append_assoc, append-nil}
 use Rattle.std.proofs.lemmas.Bool.{cases_Bool, cases_lt, eqb-true}
 use Rattle.std.proofs.lemmas.Option.{slice_get_within}
 use Rattle.std.proofs.lemmas.List.{length-append}
@@ -11,15 +11,16 @@ use Rattle.fisca_params.specs.declared.content.Content.TheVariants as content
 use Rattle.fisca_yaml.specs.Find.{get}
 use Rattle.fisca_yaml.specs.Grouping.{document}
 use Rattle.fisca_yaml.specs.Node.{Node, null, scalar, list, map, Entries, no_entries, entry}
-use Rattle.fisca_params.specs.Causes.{Cause, duplicate_name, Refused}
+use Rattle.fisca_params.specs.Causes.{Cause, duplicate_name}
 use Rattle.fisca_params.specs.Content.{date_map, parameter_in, scale_of}
 use Rattle.fisca_params.specs.FaultLines.{line_at, values_line, scale_line}
-use Rattle.fisca_params.specs.Files.{Placed, is_path_before, put_by_path, in_path_order_with, in_path_order, with_tree, with_names, with_file, after_file, with_files, root_alone, tree_of}
+use Rattle.fisca_params.specs.Files.{Placed, in_path_order, with_tree, with_names, with_file, after_file, with_files, root_alone, tree_of}
 use Rattle.fisca_params.specs.Paths.{names_of}
-use Rattle.fisca_params.specs.Places.{content_in, is_branch, walk, Says, EntrySays, SaysBelow, FileSays, SomeFileSays}
+use Rattle.fisca_params.specs.Places.{walk, Says, EntrySays, SaysBelow, FileSays, SomeFileSays}
 use Rattle.fisca_params.specs.Results.{and_then}
 use Rattle.fisca_params.specs.Source.{Source}
-use Rattle.fisca_params.specs.Tree.{TreeNode, child_of, child_node, is_child, is_at, content_at, with_child, with_read, put_map, put_node, put_children, is_description, is_folder, describes_folder, Entered, entered, enter_child, put_below}
+use Rattle.fisca_params.specs.Tree.{TreeNode, child_of, child_node, is_child, is_at, content_at, with_child, with_read, put_map, put_node, put_children, is_description, is_folder, describes_folder, enter_child, put_below}
+use Rattle.fisca_params.proofs.EachFile.{Each, each-ordered}
 use Rattle.fisca_params.proofs.Standing.{Grows, grows-if, grows-then, grows-from, grows-either, there-grows, kept-same, kept-put}
 
 -- names that lead to a place, by the nodes above it
@@ -271,34 +272,21 @@ named-held : (Q : List (List ℕ) → Content → Type 0) (t : List TreeNode) (f
 named-held Q t f None e o says = (kept-same t, (o, λ names k m. m))
 named-held Q t f (Some own) e o says = text-held Q t f own (document f.text) e refl o says
 
--- what each of these files says is what Q says
-abbrev AllSay : (List (List ℕ) → Content → Type 0) → List Placed → Type 0
-AllSay Q [] = Unit
-AllSay Q (p ∷ ps) = ((names : List (List ℕ)) (c : Content) → FileSays p.1 names c → Q names c) × AllSay Q ps
+-- what a file says is what Q says
+abbrev Agrees : (List (List ℕ) → Content → Type 0) → Placed → Type 0
+Agrees Q p = (names : List (List ℕ)) (c : Content) → FileSays p.1 names c → Q names c
 
 after-only : (Q : List (List ℕ) → Content → Type 0) (t : List TreeNode) (place : ℕ) (r : Result (List TreeNode) Cause) (ps : List Placed) (u : List TreeNode) →
     Grows t r (Held Q t) → after_file place r (λ v. with_files v ps) ≡ Ok u → ((v : List TreeNode) → Only Q v → with_files v ps ≡ Ok u → Only Q u) → Only Q u
 after-only Q t place (Ok v) ps u g e later = later v g.1.0 e
 after-only Q t place (Err c) ps u g e later = cc
 
-all-only : (Q : List (List ℕ) → Content → Type 0) (t : List TreeNode) (ps : List Placed) (u : List TreeNode) → Only Q t → AllSay Q ps → with_files t ps ≡ Ok u → Only Q u
+all-only : (Q : List (List ℕ) → Content → Type 0) (t : List TreeNode) (ps : List Placed) (u : List TreeNode) → Only Q t → Each (Agrees Q) ps → with_files t ps ≡ Ok u → Only Q u
 all-only Q t [] u o h e = let same : t ≡ u = cc in rw (← same) o
 all-only Q t (p ∷ ps) u o h e =
     after-only Q t p.0 (with_file t p.1) ps u (named-held Q t p.1 (names_of p.1.path) refl o h.0) e (λ v ov ev. all-only Q v ps u ov h.1 ev)
 
-cond-say : (Q : List (List ℕ) → Content → Type 0) (v : Bool) (ps qs : List Placed) → AllSay Q ps → AllSay Q qs → AllSay Q (cond v ps qs)
-cond-say Q true ps qs h k = h
-cond-say Q false ps qs h k = k
-
-put-say : (Q : List (List ℕ) → Content → Type 0) (p : Placed) (ps : List Placed) → ((names : List (List ℕ)) (c : Content) → FileSays p.1 names c → Q names c) → AllSay Q ps → AllSay Q (put_by_path p ps)
-put-say Q p [] h hs = (h, tt)
-put-say Q p (q ∷ qs) h hs = cond-say Q (is_path_before p.1.path q.1.path) (p ∷ q ∷ qs) (q ∷ put_by_path p qs) (h, hs) (hs.0, put-say Q p qs h hs.1)
-
-order-say : (Q : List (List ℕ) → Content → Type 0) (sorted rest : List Placed) → AllSay Q sorted → AllSay Q rest → AllSay Q (in_path_order_with sorted rest)
-order-say Q sorted [] h k = h
-order-say Q sorted (p ∷ ps) h k = order-say Q (put_by_path p sorted) ps (put-say Q p sorted k.0 h) k.1
-
-files-say : (Q : List (List ℕ) → Content → Type 0) (i : ℕ) (files : List Source) → ((names : List (List ℕ)) (c : Content) → SomeFileSays files names c → Q names c) → AllSay Q (enumerate_from i files)
+files-say : (Q : List (List ℕ) → Content → Type 0) (i : ℕ) (files : List Source) → ((names : List (List ℕ)) (c : Content) → SomeFileSays files names c → Q names c) → Each (Agrees Q) (enumerate_from i files)
 files-say Q i [] h = tt
 files-say Q i (f ∷ fs) h = ((λ names c s. h names c (inl s)), files-say Q (i + 1) fs (λ names c s. h names c (inr s)))
 
@@ -337,6 +325,6 @@ pub nothing-else : (files : List Source) (t : List TreeNode) → tree_of files �
     walk t 0 names ≡ Some place → content_at t place ≡ Some c → SomeFileSays files names c
 nothing-else files t e names place c w is =
     let Q : List (List ℕ) → Content → Type 0 = SomeFileSays files in
-    let only : Only Q t = all-only Q root_alone (in_path_order files) t (only-root Q (root-said files)) (order-say Q [] (enumerate_from 0 files) tt (files-say Q 0 files (λ names c s. s))) e in
+    let only : Only Q t = all-only Q root_alone (in_path_order files) t (only-root Q (root-said files)) (each-ordered (Agrees Q) [] (enumerate_from 0 files) tt (files-say Q 0 files (λ names c s. s))) e in
     let there = content-of t place c is in
     rw (← there.2) (only.said names place there.0 (walk-leads t [] names 0 place at_root w) there.1)

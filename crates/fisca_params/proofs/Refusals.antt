@@ -1,5 +1,5 @@
 -- Which files and causes the refusals of steps name.
-use Rattle.std.proofs.Common.{◌≡◌, ℕ, ◌+◌, ◌<◌, Bool, true, false, cond, List, [], ◌∷◌, length, Some, Result, Ok, Err, refl, arith, IfSome}
+use Rattle.std.proofs.Common.{◌≡◌, ℕ, ◌+◌, ◌<◌, List, [], ◌∷◌, length, Some, Result, Ok, Err, refl, arith, IfSome}
 use Rattle.std.specs.List.{enumerate_from}
 use Rattle.fisca_params.specs.declared.fault.NodeFault.{NodeFault}
 use Rattle.fisca_params.specs.declared.fault.NodeFault.TheVariants as node
@@ -7,9 +7,10 @@ use Rattle.fisca_params.specs.declared.fault.ParamFault.{ParamFault}
 use Rattle.fisca_params.specs.declared.fault.ParamFault.TheVariants as params
 use Rattle.fisca_params.specs.Answers.{cause_of, fault_in, Refuses, file_of}
 use Rattle.fisca_params.specs.Causes.{Cause, bad_parameter, duplicate_name, Refused}
-use Rattle.fisca_params.specs.Files.{Placed, is_path_before, put_by_path, in_path_order_with, in_path_order, after_file, with_file, with_files, root_alone, tree_of}
+use Rattle.fisca_params.specs.Files.{Placed, in_path_order, after_file, with_file, with_files, root_alone, tree_of}
 use Rattle.fisca_params.specs.Source.{Source}
 use Rattle.fisca_params.specs.Tree.{TreeNode}
+use Rattle.fisca_params.proofs.EachFile.{Each, each-ordered}
 
 -- the fault of a step, told of its file
 pub refuses-in : (file : ℕ) (e : NodeFault) (o : Result (List TreeNode) Cause) (next : List TreeNode → Result (List TreeNode) Refused) →
@@ -18,24 +19,10 @@ refuses-in file (node.BadParameter line) o next h = rw (h (bad_parameter line) r
 refuses-in file (node.DuplicateName line) o next h = rw (h (duplicate_name line) refl) refl
 refuses-in file node.Memory o next h = tt
 
-abbrev Within : ℕ → List Placed → Type 0
-Within n [] = Unit
-Within n (p ∷ ps) = (p.0 < n) × Within n ps
+abbrev IsWithin : ℕ → Placed → Type 0
+IsWithin n p = p.0 < n
 
-within-cond : (n : ℕ) (v : Bool) (ps qs : List Placed) → Within n ps → Within n qs → Within n (cond v ps qs)
-within-cond n true ps qs h k = h
-within-cond n false ps qs h k = k
-
-within-put : (n : ℕ) (p : Placed) (ps : List Placed) → p.0 < n → Within n ps → Within n (put_by_path p ps)
-within-put n p [] h hs = (h, tt)
-within-put n p (q ∷ qs) h hs =
-    within-cond n (is_path_before p.1.path q.1.path) (p ∷ q ∷ qs) (q ∷ put_by_path p qs) (h, hs) (hs.0, within-put n p qs h hs.1)
-
-within-order : (n : ℕ) (sorted rest : List Placed) → Within n sorted → Within n rest → Within n (in_path_order_with sorted rest)
-within-order n sorted [] hs hr = hs
-within-order n sorted (p ∷ ps) hs hr = within-order n (put_by_path p sorted) ps (within-put n p sorted hr.0 hs) hr.1
-
-within-places : (n i : ℕ) (files : List Source) → i + length files ≡ n → Within n (enumerate_from i files)
+within-places : (n i : ℕ) (files : List Source) → i + length files ≡ n → Each (IsWithin n) (enumerate_from i files)
 within-places n i [] e = tt
 within-places n i (f ∷ fs) e = (omega (arith, e), within-places n (i + 1) fs (omega (arith, e)))
 
@@ -44,14 +31,14 @@ refused-here : (n place : ℕ) (x : Result (List TreeNode) Cause) (next : List T
 refused-here n place (Ok t) next r h later e = later t e
 refused-here n place (Err c) next r h later e = let same : place ≡ r.file = cc in rw (← same) h
 
-refused-within : (n : ℕ) (t : List TreeNode) (ps : List Placed) (r : Refused) → Within n ps → with_files t ps ≡ Err r → r.file < n
+refused-within : (n : ℕ) (t : List TreeNode) (ps : List Placed) (r : Refused) → Each (IsWithin n) ps → with_files t ps ≡ Err r → r.file < n
 refused-within n t [] r hs e = cc
 refused-within n t (p ∷ ps) r hs e =
     refused-here n p.0 (with_file t p.1) (λ u. with_files u ps) r hs.0 (λ u. refused-within n u ps r hs.1) e
 
 place-within : (files : List Source) (r : Refused) → tree_of files ≡ Err r → r.file < length files
 place-within files r e =
-    refused-within (length files) root_alone (in_path_order files) r (within-order (length files) [] (enumerate_from 0 files) tt (within-places (length files) 0 files (omega arith))) e
+    refused-within (length files) root_alone (in_path_order files) r (each-ordered (IsWithin (length files)) [] (enumerate_from 0 files) tt (within-places (length files) 0 files (omega arith))) e
 
 -- a file that is refused is one of those handed in
 pub file-within : (files : List Source) (fault : ParamFault) → Refuses fault (tree_of files) → IfSome (file_of fault) (λ file. file < length files)

@@ -1,10 +1,6 @@
 -- What is put into a tree stands there from then on.
-use Rattle.std.proofs.Common.{◌≡◌, ℕ, suc, zero, ◌+◌, ◌<◌, Bool, true, false, ◌&&◌, cond, List, [], ◌∷◌, ◌++◌, length, Option, Some, None, Result, Ok, Err, option_map, ok_or, is_some, is_none, slice_get, refl, sym, ◌∙◌, ap, arith, inl, inr, ◌⊎◌, codes}
-use Rattle.std.proofs.lemmas.Bool.{cases_Bool}
-use Rattle.std.proofs.lemmas.Option.{slice_get-get_or}
+use Rattle.std.proofs.Common.{◌≡◌, ℕ, suc, zero, ◌+◌, Bool, true, false, cond, List, [], ◌∷◌, ◌++◌, length, Option, Some, None, Result, Ok, Err, is_some, refl, sym, ◌∙◌, codes}
 use Rattle.std.proofs.lemmas.Slice.Eq.{bytes_eq-Decides}
-use Rattle.std.proofs.Math.Seq.{get_or-append_seam}
-use Rattle.std.proofs.lemmas.List.{length-append}
 use Rattle.std.specs.List.{enumerate_from}
 use Rattle.std.specs.Str.{bytes_eq}
 use Rattle.fisca_yaml.specs.Find.{get}
@@ -12,15 +8,16 @@ use Rattle.fisca_yaml.specs.Grouping.{document}
 use Rattle.fisca_yaml.specs.Node.{Node, null, scalar, list, map, Entries, no_entries, entry}
 use Rattle.fisca_params.specs.declared.content.Content.{Content}
 use Rattle.fisca_params.specs.declared.content.Content.TheVariants as content
-use Rattle.fisca_params.specs.Causes.{Cause, bad_parameter, duplicate_name, Refused}
+use Rattle.fisca_params.specs.Causes.{Cause, duplicate_name}
 use Rattle.fisca_params.specs.Content.{date_map, parameter_in, scale_of}
 use Rattle.fisca_params.specs.FaultLines.{line_at, values_line, scale_line}
-use Rattle.fisca_params.specs.Files.{Placed, is_path_before, put_by_path, in_path_order_with, in_path_order, with_tree, with_names, with_file, after_file, with_files, root_alone, tree_of}
+use Rattle.fisca_params.specs.Files.{Placed, in_path_order, with_tree, with_names, with_file, after_file, with_files, root_alone, tree_of}
 use Rattle.fisca_params.specs.Paths.{names_of}
-use Rattle.fisca_params.specs.Places.{content_by, content_in, is_branch, Stands, ChildrenStand, StandsBelow, StandsAtItsPath, EachStands}
+use Rattle.fisca_params.specs.Places.{content_in, is_branch, Stands, ChildrenStand, StandsBelow, StandsAtItsPath, EachStands}
 use Rattle.fisca_params.specs.Results.{and_then}
 use Rattle.fisca_params.specs.Source.{Source}
-use Rattle.fisca_params.specs.Tree.{TreeNode, child_of, child_node, content_at, with_child, with_read, put_map, put_node, put_children, is_description, is_folder, describes_folder, Entered, entered, enter, enter_child, put_file, put_below}
+use Rattle.fisca_params.specs.Tree.{TreeNode, child_of, child_node, content_at, with_child, with_read, put_map, put_node, put_children, is_description, is_folder, describes_folder, Entered, entered, enter_child, put_below}
+use Rattle.fisca_params.proofs.EachFile.{Each, of-ordered}
 use Rattle.fisca_params.proofs.Indexed.{child-put, child-put_below}
 
 -- what is found in one tree is found in the other
@@ -218,42 +215,21 @@ named-grows t f (Some names) e = read-file-grows t f names (document f.text) e r
 placed-kept : (t u : List TreeNode) (f : Source) → Kept t u → StandsAtItsPath t f → StandsAtItsPath u f
 placed-kept t u f k h = λ names n is reads. below-kept t u 0 names n k (h names n is reads)
 
-abbrev PlacedStand : List TreeNode → List Placed → Type 0
-PlacedStand t [] = Unit
-PlacedStand t (p ∷ ps) = StandsAtItsPath t p.1 × PlacedStand t ps
+abbrev PlacedStands : List TreeNode → Placed → Type 0
+PlacedStands t p = StandsAtItsPath t p.1
 
 after-grows : (t : List TreeNode) (place : ℕ) (f : Source) (r : Result (List TreeNode) Cause) (ps : List Placed) (u : List TreeNode) →
     Grows t r (λ v. StandsAtItsPath v f) → after_file place r (λ v. with_files v ps) ≡ Ok u →
-    ((v : List TreeNode) → with_files v ps ≡ Ok u → Kept v u × PlacedStand u ps) → Kept t u × PlacedStand u ((place, f) ∷ ps)
+    ((v : List TreeNode) → with_files v ps ≡ Ok u → Kept v u × Each (PlacedStands u) ps) → Kept t u × Each (PlacedStands u) ((place, f) ∷ ps)
 after-grows t place f (Ok v) ps u g e later = let rest = later v e in (kept-then t v u g.0 rest.0, (placed-kept v u f rest.0 g.1, rest.1))
 after-grows t place f (Err c) ps u g e later = cc
 
-all-grow : (t : List TreeNode) (ps : List Placed) (u : List TreeNode) → with_files t ps ≡ Ok u → Kept t u × PlacedStand u ps
+all-grow : (t : List TreeNode) (ps : List Placed) (u : List TreeNode) → with_files t ps ≡ Ok u → Kept t u × Each (PlacedStands u) ps
 all-grow t [] u e = let same : t ≡ u = cc in (rw (← same) (kept-same t), tt)
 all-grow t (p ∷ ps) u e =
     after-grows t p.0 p.1 (with_file t p.1) ps u (named-grows t p.1 (names_of p.1.path) refl) e (λ v. all-grow v ps u)
 
-cond-stand : (t : List TreeNode) (v : Bool) (ps qs : List Placed) → PlacedStand t (cond v ps qs) → (v ≡ true → PlacedStand t ps) × (v ≡ false → PlacedStand t qs)
-cond-stand t true ps qs h = (λ e. h, λ e. cc)
-cond-stand t false ps qs h = (λ e. cc, λ e. h)
-
-put-stand : (t : List TreeNode) (p : Placed) (ps : List Placed) → PlacedStand t (put_by_path p ps) → StandsAtItsPath t p.1 × PlacedStand t ps
-put-stand t p [] h = h
-put-stand t p (q ∷ qs) h =
-    let by = cond-stand t (is_path_before p.1.path q.1.path) (p ∷ q ∷ qs) (q ∷ put_by_path p qs) h in
-    elim (cases_Bool (is_path_before p.1.path q.1.path)) [
-      | inl e ↦ by.0 e
-      | inr e ↦ let behind = by.1 e in let rest = put-stand t p qs behind.1 in (rest.0, (behind.0, rest.1))
-    ]
-
-order-stand : (t : List TreeNode) (sorted rest : List Placed) → PlacedStand t (in_path_order_with sorted rest) → PlacedStand t sorted × PlacedStand t rest
-order-stand t sorted [] h = (h, tt)
-order-stand t sorted (p ∷ ps) h =
-    let later = order-stand t (put_by_path p sorted) ps h in
-    let here = put-stand t p sorted later.0 in
-    (here.1, (here.0, later.1))
-
-places-stand : (t : List TreeNode) (i : ℕ) (files : List Source) → PlacedStand t (enumerate_from i files) → EachStands t files
+places-stand : (t : List TreeNode) (i : ℕ) (files : List Source) → Each (PlacedStands t) (enumerate_from i files) → EachStands t files
 places-stand t i [] h = tt
 places-stand t i (f ∷ fs) h = (h.0, places-stand t (i + 1) fs h.1)
 
@@ -261,4 +237,4 @@ places-stand t i (f ∷ fs) h = (h.0, places-stand t (i + 1) fs h.1)
 pub each-stands : (files : List Source) (t : List TreeNode) → tree_of files ≡ Ok t → EachStands t files
 each-stands files t e =
     let all = all-grow root_alone (in_path_order files) t e in
-    places-stand t 0 files (order-stand t [] (enumerate_from 0 files) all.1).1
+    places-stand t 0 files (of-ordered (PlacedStands t) [] (enumerate_from 0 files) all.1).1

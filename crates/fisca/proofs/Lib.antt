@@ -1,4 +1,5 @@
 mod Counts
+mod FirstFiles
 mod Cuts
 mod Prefixes
 mod ManyWords

@@ -1,5 +1,5 @@
 -- What a sink has of a text that is handed over in two parts.
-use Rattle.std.proofs.Common.{OnErr, Result, Ok, Err, ◌≡◌, ℕ, ◌+◌, ◌<◌, ◌≤◌, List, ◌++◌, length, take, sym, ◌∙◌, ap, arith}
+use Rattle.std.proofs.Common.{OnErr, Result, Ok, Err, ◌≡◌, ℕ, ◌+◌, List, ◌++◌, length, take, sym, ◌∙◌, ap, arith}
 use Rattle.std.proofs.lemmas.List.{take-append-le, length-append}
 use Rattle.std.proofs.Math.Seq.{take-append-add}
 use Rattle.fisca_grid.specs.Run.{IsProperPrefix}

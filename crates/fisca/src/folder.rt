@@ -1,5 +1,8 @@
 //! The rule files of a folder, found and read.
 
+ghost use Rattle.std.specs.Prelude.{◌≡◌, ◌≤◌, ◌^◌, length, take, map, string_bytes, All, IsSorted, IfOk, OnOk};
+ghost use Rattle.fisca.specs.Folder.{AreRuleFiles, path_of};
+
 use fisca_params::SourceFile;
 use std::alloc::{AllocError, AllocFailed, Global};
 use std::fs;
@@ -46,13 +49,28 @@ const LONGEST: u64 = 1 << 20;
 const KEPT: usize = 1_001;
 
 /// Reads the parameter files of a folder, in order of the bytes of their paths, which are relative to it.
-/// A fault is the first in that order; folders are listed before any file is read.
+/// A fault is the first in that order; folders are listed before any file is read. Of more than 1,001 files the first
+/// 1,001 are answered.
 pub fn read_rules<R: Files + AllocGlobal + Clone + Drop>(
     rt: &R,
     rules: &str,
-) -> Result<Vec<SourceFile>, FolderFault> {
+) -> Result<Vec<SourceFile>, FolderFault>
+    ensures { IfOk result (λ files. AreRuleFiles files.items) }
+{
     let mut paths = list_rules(rt, rules)?;
     paths.sort()?;
+    read_files(rt, rules, paths)
+}
+
+/// The files of these paths, of which the first 1,001 are kept.
+fn read_files<R: Files + AllocGlobal>(
+    rt: &R,
+    rules: &str,
+    paths: Vec<String>,
+) -> Result<Vec<SourceFile>, FolderFault>
+    ensures paths { IfOk result (λ files. map path_of files.items ≡ take KEPT (map (λ path. string_bytes path) paths.items)) }
+    ensures texts { IfOk result (λ files. All (λ file. length file.text ≤ LONGEST) files.items) }
+{
     let mut files = Vec::new(rt.alloc());
     for path in paths {
         let text = read_text(rt, rules, path.as_str())?;
@@ -139,11 +157,9 @@ fn list_fault(kind: ErrorKind) -> FolderFault {
 }
 
 /// The text of a file of at most 1 MiB. Its length is judged before its encoding.
-fn read_text<R: Files + AllocGlobal>(
-    rt: &R,
-    rules: &str,
-    path: &str,
-) -> Result<String, FolderFault> {
+fn read_text<R: Files + AllocGlobal>(rt: &R, rules: &str, path: &str) -> Result<String, FolderFault>
+    ensures { IfOk result (λ text. length (string_bytes text) ≤ LONGEST) }
+{
     let whole = join(rt.alloc(), rules, path)?;
     let bytes = match read_bytes(rt, whole.as_str())? {
         Some(bytes) => bytes,

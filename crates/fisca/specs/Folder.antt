@@ -1,0 +1,14 @@
+-- The files that a rule set's folder is read into.
+use Rattle.std.specs.Prelude.{◌≤◌, ◌^◌, ℕ, List, length, map, All, IsSorted}
+use Rattle.std.specs.Cmp.Lexicographic.{slice_cmp}
+use Rattle.std.specs.Ordering.{nat_cmp}
+use Rattle.fisca_params.specs.Source.{Source}
+
+abbrev pub path_of : Source → List ℕ
+path_of file = file.path
+
+-- at most 1,001 files, in order of the bytes of their paths, each of at most 1 MiB
+pub record AreRuleFiles (files : List Source) : Type 0 where
+  pub few : length files ≤ 1001
+  pub order : IsSorted (slice_cmp nat_cmp) (map path_of files)
+  pub short : All (λ file. length file.text ≤ 2 ^ 20) files

@@ -7,10 +7,10 @@ use Rattle.std.proofs.lemmas.Bool.Decides.{nat_tests}
 use Rattle.fisca_yaml.specs.Node.{Node, keys, repeats, null, scalar, list, map, Items, no_items, item, Entries, no_entries, entry, nested, items_nested, entries_nested}
 use Rattle.fisca_yaml.specs.Rows.{Row, rank, begins_item, following, after_dash, is_marker, text_rows, tail}
 use Rattle.fisca_yaml.specs.Scalars.{Read, entry_of, is_key, is_quote, quoted, quoted_value, plain_value, ends_line, leaf, may_begin, key_split, trim_end, before_comment}
-use Rattle.fisca_yaml.specs.Flow.{flow_value}
-use Rattle.fisca_yaml.specs.Grouping.{Group, groups, add_item, add_entry, items_of, entries_of, item_value, item_rest, entry_value, entry_rest, entry_with, keyed, alone, ended, is_bracket, on_line, is_header, is_text_line, text_block, begins_text, beside, opens, block, block_step, value_of, map_of, tree, document}
+use Rattle.fisca_yaml.specs.Flow.{add_pair, flow_value}
+use Rattle.fisca_yaml.specs.Grouping.{Group, groups, joined, all_of, items_of, entries_of, item_value, item_rest, entry_value, entry_rest, entry_with, keyed, alone, ended, is_bracket, on_line, is_header, is_text_line, text_block, begins_text, beside, opens, block, block_step, value_of, map_of, tree, document}
 use Rattle.fisca_yaml.proofs.Blocks.{block-nil}
-use Rattle.fisca_yaml.proofs.FlowDepth.{flow_grow, flow_bounded, leaf_nests}
+use Rattle.fisca_yaml.proofs.FlowDepth.{deep_pair, flow_grow, flow_bounded, leaf_nests}
 
 some_same : {A : Type 0} {x y : A} → Some x ≡ Some y → x ≡ y
 some_same e = cc
@@ -23,15 +23,10 @@ cond_some : {A : Type 0} (b : Bool) (o : Option A) (y : A) → cond b o None ≡
 cond_some true o y e = (refl, e)
 cond_some false o y e = absurd (cc)
 
-add_item_some : (n : ℕ) (v : Option Node) (r : Option Items) (is : Items) → add_item n v r ≡ Some is → (x : Node) × (y : Items) × (v ≡ Some x) × (r ≡ Some y) × (item n x y ≡ is)
-add_item_some n None r is e = absurd (cc)
-add_item_some n (Some x) None is e = absurd (cc)
-add_item_some n (Some x) (Some y) is e = (x, y, refl, refl, cc)
-
-add_entry_some : (n : ℕ) (v : Option (List ℕ × Node)) (r : Option Entries) (es : Entries) → add_entry n v r ≡ Some es → (x : List ℕ × Node) × (y : Entries) × (v ≡ Some x) × (r ≡ Some y) × (entry x.0 n x.1 y ≡ es)
-add_entry_some n None r es e = absurd (cc)
-add_entry_some n (Some x) None es e = absurd (cc)
-add_entry_some n (Some x) (Some y) es e = (x, y, refl, refl, cc)
+joined_some : {A B : Type 0} (put : A → B → B) (v : Option A) (r : Option B) (b : B) → joined put v r ≡ Some b → (x : A) × (y : B) × (v ≡ Some x) × (r ≡ Some y) × (put x y ≡ b)
+joined_some put None r b e = absurd (cc)
+joined_some put (Some x) None b e = absurd (cc)
+joined_some put (Some x) (Some y) b e = (x, y, refl, refl, cc)
 
 map_of_some : (o : Option Entries) (t : Node) → map_of o ≡ Some t → (es : Entries) × (o ≡ Some es) × (map es ≡ t)
 map_of_some None t e = absurd (cc)
@@ -48,27 +43,17 @@ keyed_some k (Some n) p e = (cc, cc)
 abbrev Grows : ℕ → (List Row → Option Node) → (List Row → Option Node) → Type 0
 Grows d b c = (ls : List Row) (t : Node) → b ls ≡ Some t → nested t ≤ d → c ls ≡ Some t
 
-module _ (d : ℕ) (value wider : Group → Option Node) (h : (g : Group) (t : Node) → value g ≡ Some t → nested t ≤ d → wider g ≡ Some t) (r : ℕ) where
-  items_grow : (gs : List Group) (is : Items) → items_of value r gs ≡ Some is → items_nested is ≤ d → items_of wider r gs ≡ Some is
-  items_grow [] is e n = e
-  items_grow (g ∷ gs) is e n =
-      let p = cond_some (eqb (rank g.head) r) (add_item g.head.number (value g) (items_of value r gs)) is e in
-      let q = add_item_some g.head.number (value g) (items_of value r gs) is p.1 in
-      let deep : max (nested q.0) (items_nested q.1) ≤ d = subst (λ (i : Items). items_nested i ≤ d) (sym q.4) n in
-      let first : wider g ≡ Some q.0 = h g q.0 q.2 (omega arith) in
-      let more : items_of wider r gs ≡ Some q.1 = items_grow gs q.1 q.3 (omega arith) in
-      ap (λ b. cond b (add_item g.head.number (wider g) (items_of wider r gs)) None) p.0 ∙ ap₂ (add_item g.head.number) first more ∙ ap Some q.4
-
-module _ (d : ℕ) (value wider : Group → Option (List ℕ × Node)) (h : (g : Group) (p : List ℕ × Node) → value g ≡ Some p → nested p.1 ≤ d → wider g ≡ Some p) (r : ℕ) where
-  entries_grow : (gs : List Group) (es : Entries) → entries_of value r gs ≡ Some es → entries_nested es ≤ d → entries_of wider r gs ≡ Some es
-  entries_grow [] es e n = e
-  entries_grow (g ∷ gs) es e n =
-      let p = cond_some (eqb (rank g.head) r) (add_entry g.head.number (value g) (entries_of value r gs)) es e in
-      let q = add_entry_some g.head.number (value g) (entries_of value r gs) es p.1 in
-      let deep : max (nested q.0.1) (entries_nested q.1) ≤ d = subst (λ (i : Entries). entries_nested i ≤ d) (sym q.4) n in
-      let first : wider g ≡ Some q.0 = h g q.0 q.2 (omega arith) in
-      let more : entries_of wider r gs ≡ Some q.1 = entries_grow gs q.1 q.3 (omega arith) in
-      ap (λ b. cond b (add_entry g.head.number (wider g) (entries_of wider r gs)) None) p.0 ∙ ap₂ (add_entry g.head.number) first more ∙ ap Some q.4
+module _ {A B : Type 0} (none : B) (put : ℕ → A → B → B) (deep : A → ℕ) (depth : B → ℕ) (split : (n : ℕ) (a : A) (b : B) → depth (put n a b) ≡ max (deep a) (depth b))
+    (d : ℕ) (value wider : Group → Option A) (h : (g : Group) (a : A) → value g ≡ Some a → deep a ≤ d → wider g ≡ Some a) (r : ℕ) where
+  all_grow : (gs : List Group) (b : B) → all_of none put value r gs ≡ Some b → depth b ≤ d → all_of none put wider r gs ≡ Some b
+  all_grow [] b e n = e
+  all_grow (g ∷ gs) b e n =
+      let p = cond_some (eqb (rank g.head) r) (joined (put g.head.number) (value g) (all_of none put value r gs)) b e in
+      let q = joined_some (put g.head.number) (value g) (all_of none put value r gs) b p.1 in
+      let whole : max (deep q.0) (depth q.1) ≤ d = rw (split g.head.number q.0 q.1) at (subst (λ (i : B). depth i ≤ d) (sym q.4) n) in
+      let first : wider g ≡ Some q.0 = h g q.0 q.2 (omega (arith, whole)) in
+      let more : all_of none put wider r gs ≡ Some q.1 = all_grow gs q.1 q.3 (omega (arith, whole)) in
+      ap (λ v. cond v (joined (put g.head.number) (wider g) (all_of none put wider r gs)) None) p.0 ∙ ap₂ (joined (put g.head.number)) first more ∙ ap Some q.4
 
 -- values on their line
 ended_some : (o : Option (Node × List ℕ)) (t : Node) → ended o ≡ Some t → (r : List ℕ) × (o ≡ Some (t, r))
@@ -160,13 +145,13 @@ module _ (d e : ℕ) (b c : List Row → Option Node) (h : Grows e b c) where
     is_list k =
         let q = map_some list (items_of (item_value d b) (rank l) (groups (rank l) (l ∷ ls))) t k in
         let deep : suc (items_nested q.0) ≤ suc e = subst (λ (i : Node). nested i ≤ suc e) (sym q.2) n in
-        ap (option_map list) (items_grow e (item_value d b) (item_value e c) (λ g. item_rest_grow g.head.indent (after_dash g.head) g.inside) (rank l) (groups (rank l) (l ∷ ls)) q.0 q.1 (omega arith)) ∙ ap Some q.2
+        ap (option_map list) (all_grow no_items item nested items_nested (λ n a b. refl) e (item_value d b) (item_value e c) (λ g. item_rest_grow g.head.indent (after_dash g.head) g.inside) (rank l) (groups (rank l) (l ∷ ls)) q.0 q.1 (omega arith)) ∙ ap Some q.2
 
     is_map : map_of (entries_of (entry_value d b) (rank l) (groups (rank l) (l ∷ ls))) ≡ Some t → map_of (entries_of (entry_value e c) (rank l) (groups (rank l) (l ∷ ls))) ≡ Some t
     is_map k =
         let q = map_of_some (entries_of (entry_value d b) (rank l) (groups (rank l) (l ∷ ls))) t k in
         let deep : suc (entries_nested q.0) ≤ suc e = subst (λ (i : Node). nested i ≤ suc e) (sym q.2) n in
-        ap map_of (entries_grow e (entry_value d b) (entry_value e c) (λ g. entry_with_grow g (entry_of g.head.content)) (rank l) (groups (rank l) (l ∷ ls)) q.0 q.1 (omega arith)) ∙ sym (ap map_of q.1) ∙ k
+        ap map_of (all_grow no_entries add_pair deep_pair entries_nested (λ n a b. refl) e (entry_value d b) (entry_value e c) (λ g. entry_with_grow g (entry_of g.head.content)) (rank l) (groups (rank l) (l ∷ ls)) q.0 q.1 (omega arith)) ∙ sym (ap map_of q.1) ∙ k
 
     by_kind : (x : Bool) → cond x (option_map list (items_of (item_value d b) (rank l) (groups (rank l) (l ∷ ls)))) (map_of (entries_of (entry_value d b) (rank l) (groups (rank l) (l ∷ ls)))) ≡ Some t
         → cond x (option_map list (items_of (item_value e c) (rank l) (groups (rank l) (l ∷ ls)))) (map_of (entries_of (entry_value e c) (rank l) (groups (rank l) (l ∷ ls)))) ≡ Some t
@@ -191,25 +176,16 @@ block_grow (suc d) (suc e) (l ∷ ls) t h n = step_grow d e (block d) (block e) 
 abbrev Bounded : ℕ → (List Row → Option Node) → Type 0
 Bounded d b = (ls : List Row) (t : Node) → b ls ≡ Some t → nested t ≤ d
 
-module _ (d : ℕ) (value : Group → Option Node) (h : (g : Group) (t : Node) → value g ≡ Some t → nested t ≤ d) (r : ℕ) where
-  items_bounded : (gs : List Group) (is : Items) → items_of value r gs ≡ Some is → items_nested is ≤ d
-  items_bounded [] is e = let q : no_items ≡ is = cc in subst (λ (i : Items). items_nested i ≤ d) q (omega arith)
-  items_bounded (g ∷ gs) is e =
-      let p = cond_some (eqb (rank g.head) r) (add_item g.head.number (value g) (items_of value r gs)) is e in
-      let q = add_item_some g.head.number (value g) (items_of value r gs) is p.1 in
+module _ {A B : Type 0} (none : B) (put : ℕ → A → B → B) (deep : A → ℕ) (depth : B → ℕ) (split : (n : ℕ) (a : A) (b : B) → depth (put n a b) ≡ max (deep a) (depth b)) (flat : depth none ≡ 0)
+    (d : ℕ) (value : Group → Option A) (h : (g : Group) (a : A) → value g ≡ Some a → deep a ≤ d) (r : ℕ) where
+  all_bounded : (gs : List Group) (b : B) → all_of none put value r gs ≡ Some b → depth b ≤ d
+  all_bounded [] b e = let q : none ≡ b = cc in subst (λ (i : B). depth i ≤ d) q (omega (arith, flat))
+  all_bounded (g ∷ gs) b e =
+      let p = cond_some (eqb (rank g.head) r) (joined (put g.head.number) (value g) (all_of none put value r gs)) b e in
+      let q = joined_some (put g.head.number) (value g) (all_of none put value r gs) b p.1 in
       let first = h g q.0 q.2 in
-      let more = items_bounded gs q.1 q.3 in
-      subst (λ (i : Items). items_nested i ≤ d) q.4 (omega arith)
-
-module _ (d : ℕ) (value : Group → Option (List ℕ × Node)) (h : (g : Group) (p : List ℕ × Node) → value g ≡ Some p → nested p.1 ≤ d) (r : ℕ) where
-  entries_bounded : (gs : List Group) (es : Entries) → entries_of value r gs ≡ Some es → entries_nested es ≤ d
-  entries_bounded [] es e = let q : no_entries ≡ es = cc in subst (λ (i : Entries). entries_nested i ≤ d) q (omega arith)
-  entries_bounded (g ∷ gs) es e =
-      let p = cond_some (eqb (rank g.head) r) (add_entry g.head.number (value g) (entries_of value r gs)) es e in
-      let q = add_entry_some g.head.number (value g) (entries_of value r gs) es p.1 in
-      let first = h g q.0 q.2 in
-      let more = entries_bounded gs q.1 q.3 in
-      subst (λ (i : Entries). entries_nested i ≤ d) q.4 (omega arith)
+      let more = all_bounded gs q.1 q.3 in
+      subst (λ (i : B). depth i ≤ d) q.4 (omega (arith, first, more, split g.head.number q.0 q.1))
 
 module _ (d : ℕ) (b : List Row → Option Node) (h : Bounded d b) where
   choice_bounded : (x : Bool) (ls : List Row) (o : Option Node) (t : Node) → (o ≡ Some t → nested t ≤ d) → cond x (b ls) o ≡ Some t → nested t ≤ d
@@ -235,11 +211,11 @@ module _ (d : ℕ) (b : List Row → Option Node) (h : Bounded d b) where
     by_kind : (x : Bool) → cond x (option_map list (items_of (item_value d b) (rank l) (groups (rank l) (l ∷ ls)))) (map_of (entries_of (entry_value d b) (rank l) (groups (rank l) (l ∷ ls)))) ≡ Some t → nested t ≤ suc d
     by_kind true e =
         let q = map_some list (items_of (item_value d b) (rank l) (groups (rank l) (l ∷ ls))) t e in
-        let m = items_bounded d (item_value d b) (λ g. item_rest_bounded g.head.indent (after_dash g.head) g.inside) (rank l) (groups (rank l) (l ∷ ls)) q.0 q.1 in
+        let m = all_bounded no_items item nested items_nested (λ n a b. refl) refl d (item_value d b) (λ g. item_rest_bounded g.head.indent (after_dash g.head) g.inside) (rank l) (groups (rank l) (l ∷ ls)) q.0 q.1 in
         subst (λ (i : Node). nested i ≤ suc d) q.2 (omega arith)
     by_kind false e =
         let q = map_of_some (entries_of (entry_value d b) (rank l) (groups (rank l) (l ∷ ls))) t e in
-        let m = entries_bounded d (entry_value d b) (λ g. entry_with_bounded g (entry_of g.head.content)) (rank l) (groups (rank l) (l ∷ ls)) q.0 q.1 in
+        let m = all_bounded no_entries add_pair deep_pair entries_nested (λ n a b. refl) refl d (entry_value d b) (λ g. entry_with_bounded g (entry_of g.head.content)) (rank l) (groups (rank l) (l ∷ ls)) q.0 q.1 in
         subst (λ (i : Node). nested i ≤ suc d) q.2 (omega arith)
 
 pub block_bounded : (d : ℕ) → Bounded d (block d)

@@ -185,7 +185,7 @@ with_bounded d items entries n g h bs t r e = by_kind (begins 91 bs) (begins 123
       subst (λ (i : Node). nested i ≤ suc d) q.2 (omega arith)
   by_kind false false e = let z = scalar_flat n bs t r e in omega arith
 
-abbrev deep_pair : List ℕ × Node → ℕ
+abbrev pub deep_pair : List ℕ × Node → ℕ
 deep_pair p = nested p.1
 
 items_grow : (d n : ℕ) (b c : Parse Node) → Grows d b c → (bs : List ℕ) (is : Items) (r : List ℕ) → flow_items b n bs ≡ Some (is, r) → items_nested is ≤ d → flow_items c n bs ≡ Some (is, r)

@@ -1,9 +1,8 @@
 -- Fronts of fronts, and the groups of what is left.
 use Rattle.std.proofs.Common.{◌≡◌, ◌≢◌, ℕ, ◌+◌, ◌<◌, ◌≤◌, List, [], ◌∷◌, length, Option, Some, None, option_map, IfNone, IfSome, refl, sym, ap, ◌∙◌, arith}
 use Rattle.std.proofs.lemmas.Bool.Decides.{nat_tests}
-use Rattle.fisca_yaml.specs.Node.{Node}
 use Rattle.fisca_yaml.specs.Rows.{Row, rank}
-use Rattle.fisca_yaml.specs.Grouping.{Group, front, after, groups, add_item, add_entry, items_of, entries_of}
+use Rattle.fisca_yaml.specs.Grouping.{Group, front, after, groups, joined, all_of}
 
 -- the first lines deeper than r, among those deeper than f
 pub front_front : (f r : ℕ) (ls : List Row) → f ≤ r → front r (front f ls) ≡ front r ls
@@ -31,19 +30,12 @@ abbrev pub waiting : {A : Type 0} → Option A → ℕ
 waiting None = 0
 waiting (Some a) = 1
 
-module _ (value : Group → Option Node) (f r : ℕ) (l : Row) (ls : List Row) (below : f ≤ r) where
-  pub items_turn : rank l ≡ r → items_of value r (groups r (l ∷ front f ls)) ≡ add_item l.number (value (record { head = l; inside = front r ls })) (items_of value r (groups r (front f (after r ls))))
-  items_turn e = let a = front_front f r ls below in let b = groups_front f r ls below in grind (arith, nat_tests)
+module _ {A B : Type 0} (none : B) (put : ℕ → A → B → B) (value : Group → Option A) (f r : ℕ) (l : Row) (ls : List Row) (below : f ≤ r) where
+  pub all_turn : rank l ≡ r → all_of none put value r (groups r (l ∷ front f ls)) ≡ joined (put l.number) (value (record { head = l; inside = front r ls })) (all_of none put value r (groups r (front f (after r ls))))
+  all_turn e = let a = front_front f r ls below in let b = groups_front f r ls below in grind (arith, nat_tests)
 
-  pub items_stop : rank l ≢ r → rank l ≤ r → items_of value r (groups r (l ∷ front f ls)) ≡ None
-  items_stop e h = grind (arith, nat_tests)
-
-module _ (value : Group → Option (List ℕ × Node)) (f r : ℕ) (l : Row) (ls : List Row) (below : f ≤ r) where
-  pub entries_turn : rank l ≡ r → entries_of value r (groups r (l ∷ front f ls)) ≡ add_entry l.number (value (record { head = l; inside = front r ls })) (entries_of value r (groups r (front f (after r ls))))
-  entries_turn e = let a = front_front f r ls below in let b = groups_front f r ls below in grind (arith, nat_tests)
-
-  pub entries_stop : rank l ≢ r → rank l ≤ r → entries_of value r (groups r (l ∷ front f ls)) ≡ None
-  entries_stop e h = grind (arith, nat_tests)
+  pub all_stop : rank l ≢ r → rank l ≤ r → all_of none put value r (groups r (l ∷ front f ls)) ≡ None
+  all_stop e h = grind (arith, nat_tests)
 
 -- what a call that takes the next deeper line leaves
 abbrev pub Takes : ℕ → List Row → Option Row → List Row → Type 0

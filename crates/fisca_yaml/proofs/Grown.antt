@@ -2,13 +2,13 @@
 use Rattle.std.proofs.Common.{◌≡◌, ℕ, ◌≤◌, List, [], ◌∷◌, ◌++◌, Option, Some, None, option_map, refl, sym, ap, ◌∙◌, rules, Vec}
 use Rattle.fisca_yaml.specs.Node.{Node, list, map, Items, no_items, item, Entries, no_entries, entry}
 use Rattle.fisca_yaml.specs.Rows.{Row, rank}
-use Rattle.fisca_yaml.specs.Grouping.{Group, front, after, groups, add_item, add_entry, items_of, entries_of}
+use Rattle.fisca_yaml.specs.Grouping.{Group, front, after, groups, joined, all_of}
 use Rattle.fisca_yaml.specs.Views.{node, Seen_item, Seen_entry, seen_item, seen_entry, items_view, entries_view, items_before, entries_before, AddsItem, AddsEntry}
 use Rattle.fisca_yaml.specs.declared.tree.Tree.{Tree, List as TreeList, Map as TreeMap, the_lemmas}
 use Rattle.fisca_yaml.specs.declared.tree.Item.{Item, roll-Item, the_lemmas as item_lemmas}
 use Rattle.fisca_yaml.specs.declared.tree.Entry.{Entry, roll-Entry, the_lemmas as entry_lemmas}
 use Rattle.std.specs.declared.alloc.Global.{Global}
-use Rattle.fisca_yaml.proofs.Groups.{items_turn, entries_turn, Takes, Takes-pending, pending}
+use Rattle.fisca_yaml.proofs.Groups.{all_turn, Takes, Takes-pending, pending}
 
 pub items_before-no_items : (is : List Item) → items_before is no_items ≡ items_view is
 items_before-no_items [] = refl
@@ -47,43 +47,23 @@ node-List v = search (rules, the_lemmas)
 pub node-Map : (v : Vec Entry Global) → node (TreeMap v) ≡ map (entries_view v.items)
 node-Map v = search (rules, the_lemmas)
 
-one_more_item : (is js : List Item) (n : ℕ) (v : Node) (o : Option Items) → ((rest : Items) → items_before js rest ≡ items_before is (item n v rest)) → option_map (items_before is) (add_item n (Some v) o) ≡ option_map (items_before js) o
-one_more_item is js n v None e = refl
-one_more_item is js n v (Some rest) e = ap Some (sym (e rest))
+one_more : {A B X : Type 0} (put : A → B → B) (before : List X → B → B) (xs ys : List X) (a : A) (o : Option B) → ((rest : B) → before ys rest ≡ before xs (put a rest)) → option_map (before xs) (joined put (Some a) o) ≡ option_map (before ys) o
+one_more put before xs ys a None e = refl
+one_more put before xs ys a (Some rest) e = ap Some (sym (e rest))
 
-one_more_entry : (es ds : List Entry) (k : List ℕ) (n : ℕ) (v : Node) (o : Option Entries) → ((rest : Entries) → entries_before ds rest ≡ entries_before es (entry k n v rest)) → option_map (entries_before es) (add_entry n (Some (k, v)) o) ≡ option_map (entries_before ds) o
-one_more_entry es ds k n v None e = refl
-one_more_entry es ds k n v (Some rest) e = ap Some (sym (e rest))
-
--- one turn of the loop over the items
-module _ (value : Group → Option Node) (f r : ℕ) (l : Row) (ls : List Row) (below : f ≤ r) (here : rank l ≡ r) where
-  pub items_none : value (record { head = l; inside = front (rank l) ls }) ≡ None → items_of value r (groups r (l ∷ front f ls)) ≡ None
-  items_none e =
+-- one turn of a loop over the groups
+module _ {A B X : Type 0} (none : B) (put : ℕ → A → B → B) (before : List X → B → B) (value : Group → Option A) (f r : ℕ) (l : Row) (ls : List Row) (below : f ≤ r) (here : rank l ≡ r) where
+  pub all_none : value (record { head = l; inside = front (rank l) ls }) ≡ None → all_of none put value r (groups r (l ∷ front f ls)) ≡ None
+  all_none e =
       let e' : value (record { head = l; inside = front r ls }) ≡ None = ap (λ k. value (record { head = l; inside = front k ls })) (sym here) ∙ e in
-      items_turn value f r l ls below here ∙ ap (λ v. add_item l.number v (items_of value r (groups r (front f (after r ls))))) e'
+      all_turn none put value f r l ls below here ∙ ap (λ v. joined (put l.number) v (all_of none put value r (groups r (front f (after r ls))))) e'
 
-  pub items_more : (is js : List Item) (v : Node) (next : Option Row) (new left : List Row) → value (record { head = l; inside = front (rank l) ls }) ≡ Some v → ((rest : Items) → items_before js rest ≡ items_before is (item l.number v rest))
+  pub all_more : (xs ys : List X) (v : A) (next : Option Row) (new left : List Row) → value (record { head = l; inside = front (rank l) ls }) ≡ Some v → ((rest : B) → before ys rest ≡ before xs (put l.number v rest))
       → left ≡ after (rank l) ls → Takes f left next new
-      → option_map (items_before is) (items_of value r (groups r (l ∷ front f ls))) ≡ option_map (items_before js) (items_of value r (groups r (pending f next new)))
-  items_more is js v next new left e g q t =
+      → option_map (before xs) (all_of none put value r (groups r (l ∷ front f ls))) ≡ option_map (before ys) (all_of none put value r (groups r (pending f next new)))
+  all_more xs ys v next new left e g q t =
       let e' : value (record { head = l; inside = front r ls }) ≡ Some v = ap (λ k. value (record { head = l; inside = front k ls })) (sym here) ∙ e in
       let q' : front f (after r ls) ≡ pending f next new = ap (λ k. front f (after k ls)) (sym here) ∙ ap (front f) (sym q) ∙ sym (Takes-pending f left next new t) in
-      let rest = items_of value r (groups r (front f (after r ls))) in
-      ap (option_map (items_before is)) (items_turn value f r l ls below here ∙ ap (λ w. add_item l.number w rest) e') ∙ one_more_item is js l.number v rest g
-      ∙ ap (λ k. option_map (items_before js) (items_of value r (groups r k))) q'
-
-module _ (value : Group → Option (List ℕ × Node)) (f r : ℕ) (l : Row) (ls : List Row) (below : f ≤ r) (here : rank l ≡ r) where
-  pub entries_none : value (record { head = l; inside = front (rank l) ls }) ≡ None → entries_of value r (groups r (l ∷ front f ls)) ≡ None
-  entries_none e =
-      let e' : value (record { head = l; inside = front r ls }) ≡ None = ap (λ k. value (record { head = l; inside = front k ls })) (sym here) ∙ e in
-      entries_turn value f r l ls below here ∙ ap (λ v. add_entry l.number v (entries_of value r (groups r (front f (after r ls))))) e'
-
-  pub entries_more : (es ds : List Entry) (k : List ℕ) (v : Node) (next : Option Row) (new left : List Row) → value (record { head = l; inside = front (rank l) ls }) ≡ Some (k, v) → ((rest : Entries) → entries_before ds rest ≡ entries_before es (entry k l.number v rest))
-      → left ≡ after (rank l) ls → Takes f left next new
-      → option_map (entries_before es) (entries_of value r (groups r (l ∷ front f ls))) ≡ option_map (entries_before ds) (entries_of value r (groups r (pending f next new)))
-  entries_more es ds k v next new left e g q t =
-      let e' : value (record { head = l; inside = front r ls }) ≡ Some (k, v) = ap (λ j. value (record { head = l; inside = front j ls })) (sym here) ∙ e in
-      let q' : front f (after r ls) ≡ pending f next new = ap (λ j. front f (after j ls)) (sym here) ∙ ap (front f) (sym q) ∙ sym (Takes-pending f left next new t) in
-      let rest = entries_of value r (groups r (front f (after r ls))) in
-      ap (option_map (entries_before es)) (entries_turn value f r l ls below here ∙ ap (λ w. add_entry l.number w rest) e') ∙ one_more_entry es ds k l.number v rest g
-      ∙ ap (λ j. option_map (entries_before ds) (entries_of value r (groups r j))) q'
+      let rest = all_of none put value r (groups r (front f (after r ls))) in
+      ap (option_map (before xs)) (all_turn none put value f r l ls below here ∙ ap (λ w. joined (put l.number) w rest) e') ∙ one_more (put l.number) before xs ys v rest g
+      ∙ ap (λ k. option_map (before ys) (all_of none put value r (groups r k))) q'

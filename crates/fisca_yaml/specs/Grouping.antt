@@ -4,7 +4,7 @@ use Rattle.std.specs.List.{list_all}
 use Rattle.fisca_yaml.specs.Node.{Node, nested, keys, repeats, null, scalar, list, map, Items, no_items, item, Entries, no_entries, entry}
 use Rattle.fisca_yaml.specs.Rows.{Row, begins, tail, begins_item, rank, following, after_dash, is_marker, text_rows}
 use Rattle.fisca_yaml.specs.Scalars.{Read, entry_of, is_key, is_quote, quoted, quoted_value, plain_value, ends_line}
-use Rattle.fisca_yaml.specs.Flow.{flow_value}
+use Rattle.fisca_yaml.specs.Flow.{add_pair, flow_value}
 
 -- a line, and the deeper lines below it
 pub record Group : Type 0 where
@@ -26,24 +26,22 @@ abbrev pub groups : ℕ → List Row → List Group
 groups r [] = []
 groups r (l ∷ ls) = if nat_lt r (rank l) then groups r ls else record { head = l; inside = front r ls } ∷ groups r ls
 
-abbrev pub add_item : ℕ → Option Node → Option Items → Option Items
-add_item number None rest = None
-add_item number (Some v) None = None
-add_item number (Some v) (Some is) = Some (item number v is)
-
-abbrev pub add_entry : ℕ → Option (List ℕ × Node) → Option Entries → Option Entries
-add_entry number None rest = None
-add_entry number (Some p) None = None
-add_entry number (Some p) (Some es) = Some (entry p.0 number p.1 es)
+-- one put in front of the others, where all are there
+abbrev pub joined : {A B : Type 0} → (A → B → B) → Option A → Option B → Option B
+joined put None rest = None
+joined put (Some a) None = None
+joined put (Some a) (Some b) = Some (put a b)
 
 -- a value for each group, all heads being at this depth
+abbrev pub all_of : {A B : Type 0} → B → (ℕ → A → B → B) → (Group → Option A) → ℕ → List Group → Option B
+all_of none put value r [] = Some none
+all_of none put value r (g ∷ gs) = if rank g.head == r then joined (put g.head.number) (value g) (all_of none put value r gs) else None
+
 abbrev pub items_of : (Group → Option Node) → ℕ → List Group → Option Items
-items_of value r [] = Some no_items
-items_of value r (g ∷ gs) = if rank g.head == r then add_item g.head.number (value g) (items_of value r gs) else None
+items_of = all_of no_items item
 
 abbrev pub entries_of : (Group → Option (List ℕ × Node)) → ℕ → List Group → Option Entries
-entries_of value r [] = Some no_entries
-entries_of value r (g ∷ gs) = if rank g.head == r then add_entry g.head.number (value g) (entries_of value r gs) else None
+entries_of = all_of no_entries add_pair
 
 -- the map of these entries, where no key comes twice
 abbrev pub map_of : Option Entries → Option Node

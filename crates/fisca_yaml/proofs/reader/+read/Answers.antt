@@ -1,6 +1,7 @@
 use Rattle.std.proofs.Common.{◌≡◌, ◌≤◌, ◌∷◌, [], Some, false, option_map, sym, ap, ◌∙◌, subst, arith, rules}
 use Rattle.std.proofs.lemmas.Result.{err_from_is_err_and}
-use Rattle.fisca_yaml.specs.Node.{null, list, no_items, no_entries}
+use Rattle.fisca_yaml.specs.Flow.{add_pair}
+use Rattle.fisca_yaml.specs.Node.{null, list, no_items, no_entries, item}
 use Rattle.fisca_yaml.specs.Rows.{rank}
 use Rattle.fisca_yaml.specs.Grouping.{front, after, groups, block, items_of, entries_of, item_value, entry_value, map_of, opens}
 use Rattle.fisca_yaml.specs.Answers.{Gives}
@@ -8,7 +9,7 @@ use Rattle.fisca_yaml.specs.Lines.{row}
 use Rattle.fisca_yaml.specs.Views.{node, entries_view, items_before, entries_before}
 use Rattle.fisca_yaml.specs.declared.tree.Tree.{Null, the_lemmas}
 use Rattle.fisca_yaml.proofs.Blocks.{block-nil, block-zero, block-closed, block-item, block-entry}
-use Rattle.fisca_yaml.proofs.Grown.{node-List, items_more, items_none, entries_more, entries_none, items_before-no_items, entries_before-no_entries}
+use Rattle.fisca_yaml.proofs.Grown.{node-List, all_more, all_none, items_before-no_items, entries_before-no_entries}
 use Rattle.fisca_yaml.proofs.Groups.{takes, Takes, Takes-after, Takes-settled, Takes-fewer, front_deeper, pending, waiting, waiting-map, front_after, after_after}
 use Rattle.fisca_yaml.proofs.reader.+read.Goals as goal
 
@@ -62,7 +63,7 @@ read_items-loop-next-preserved t c =
     let here : rank line ≡ r = grind arith in
     let took : Takes f c.read_item.new.rest next new = takes f c.read_item.new.rest row c.next_deeper-next.result new c.next_deeper-next.ensures.none c.next_deeper-next.ensures.some in
     let before : items_of value r (groups r (pending f (option_map row l.next) l.rest)) ≡ items_of value r (groups r (line ∷ front f l.rest)) = ap (λ o. items_of value r (groups r (pending f (option_map row o) l.rest))) c.in-Some.is in
-    let more = items_more value f r line l.rest below here l.items.items c.push_item.new.items.items (node c.in_ok-value.value) next new c.read_item.new.rest c.in_ok-value.ensures.value c.in_ok-push_item.ensures.ok left took in
+    let more = all_more no_items item items_before value f r line l.rest below here l.items.items c.push_item.new.items.items (node c.in_ok-value.value) next new c.read_item.new.rest c.in_ok-value.ensures.value c.in_ok-push_item.ensures.ok left took in
     let shallow : front r c.read_item.new.rest ≡ [] = ap (front r) left ∙ ap (λ k. front r (after k l.rest)) here ∙ front_after r l.rest in
     record {
       turn = l.invariant.turn ∙ ap (option_map (items_before l.items.items)) before ∙ more;
@@ -92,7 +93,7 @@ read_items-returns-in_err-value-clause-value t c =
     let before : items_of value r (groups r (pending f (option_map row l.next) l.rest)) ≡ items_of value r (groups r (line ∷ front f l.rest)) = ap (λ o. items_of value r (groups r (pending f (option_map row o) l.rest))) c.in-Some.is in
     let p = err_from_is_err_and c.from_residual.result c.from_residual.ensures.1 in
     rw (p.1, p.2) (λ k. ap (λ k. items_of value k (groups k (row c.args.head ∷ front c.args.floor c.args.rest.now))) (sym same) ∙ l.invariant.turn
-    ∙ ap (option_map (items_before l.items.items)) (before ∙ items_none value f r line l.rest below here (c.in_err-value.ensures.value k)))
+    ∙ ap (option_map (items_before l.items.items)) (before ∙ all_none no_items item items_before value f r line l.rest below here (c.in_err-value.ensures.value k)))
 
 pub read_entries-loop-next-smaller : goal.read_entries-loop-next-smaller
 read_entries-loop-next-smaller t c =
@@ -117,7 +118,7 @@ read_entries-loop-next-preserved t c =
     let took : Takes f c.read_entry.new.rest next new = takes f c.read_entry.new.rest row c.next_deeper-next.result new c.next_deeper-next.ensures.none c.next_deeper-next.ensures.some in
     let before : entries_of value r (groups r (pending f (option_map row l.next) l.rest)) ≡ entries_of value r (groups r (line ∷ front f l.rest)) = ap (λ o. entries_of value r (groups r (pending f (option_map row o) l.rest))) c.in-Some.is in
     let put = c.in_ok-read_entry.ensures.value in
-    let more = entries_more value f r line l.rest below here l.entries.items c.read_entry.new.entries.items put.0.0 put.0.1 next new c.read_entry.new.rest put.1.0 put.1.1 left took in
+    let more = all_more no_entries add_pair entries_before value f r line l.rest below here l.entries.items c.read_entry.new.entries.items put.0 next new c.read_entry.new.rest put.1.0 put.1.1 left took in
     let shallow : front r c.read_entry.new.rest ≡ [] = ap (front r) left ∙ ap (λ k. front r (after k l.rest)) here ∙ front_after r l.rest in
     record {
       turn = l.invariant.turn ∙ ap (option_map (entries_before l.entries.items)) before ∙ more;
@@ -147,7 +148,7 @@ read_entries-returns-in_err-read_entry-clause-value t c =
     let before : entries_of value r (groups r (pending f (option_map row l.next) l.rest)) ≡ entries_of value r (groups r (line ∷ front f l.rest)) = ap (λ o. entries_of value r (groups r (pending f (option_map row o) l.rest))) c.in-Some.is in
     let p = err_from_is_err_and c.from_residual-in_err-read_entry.result c.from_residual-in_err-read_entry.ensures.1 in
     rw (p.1, p.2) (λ k. ap (λ k. entries_of value k (groups k (row c.args.head ∷ front c.args.floor c.args.rest.now))) (sym same) ∙ l.invariant.turn
-    ∙ ap (option_map (entries_before l.entries.items)) (before ∙ entries_none value f r line l.rest below here (c.in_err-read_entry.ensures.value k)))
+    ∙ ap (option_map (entries_before l.entries.items)) (before ∙ all_none no_entries add_pair entries_before value f r line l.rest below here (c.in_err-read_entry.ensures.value k)))
 
 pub read_below-returns-else-branch-clause-value : goal.read_below-returns-else-branch-clause-value
 read_below-returns-else-branch-clause-value t c k =

@@ -5,6 +5,7 @@ use Rattle.std.specs.Str.{bytes_eq}
 use Rattle.fisca_num.specs.Number.{Number}
 use Rattle.fisca_time.specs.Instant.{CivilDate, instant_of_text}
 use Rattle.fisca_yaml.specs.Node.{Node, null, scalar, list, map, Items, no_items, item, Entries, no_entries, entry}
+use Rattle.fisca_yaml.specs.Grouping.{joined}
 use Rattle.fisca_yaml.specs.Find.{get, get_entry, as_bool, as_number, as_text}
 use Rattle.fisca_params.specs.Dates.{Dated}
 use Rattle.fisca_params.specs.declared.bracket.Bracket.{Bracket}
@@ -14,9 +15,7 @@ use Rattle.fisca_params.specs.Dates.{in_time}
 
 -- both, the first in front of the list
 abbrev pub onto : {X : Type 0} → Option X → Option (List X) → Option (List X)
-onto None xs = None
-onto (Some x) None = None
-onto (Some x) (Some xs) = Some (x ∷ xs)
+onto = joined (λ x xs. x ∷ xs)
 
 -- the line of the first entry that fails a test
 abbrev pub first_line : (List ℕ → Node → Bool) → Entries → Option ℕ

@@ -1,5 +1,5 @@
 -- Date maps as they are written, and in order of time.
-use Rattle.std.proofs.Common.{◌≡◌, Bool, true, false, ◌&&◌, List, [], ◌∷◌, map, length, Option, Some, None, option_map, option_and_then, refl, sym, ap}
+use Rattle.std.proofs.Common.{◌≡◌, Bool, true, false, ◌&&◌, List, [], ◌∷◌, map, length, Option, Some, None, option_map, option_and_then, refl, sym, ap, ◌∙◌}
 use Rattle.std.specs.BTreeMap.{insert_entry}
 use Rattle.std.specs.List.Sorted.{IsStrictlySortedBy}
 use Rattle.std.specs.Map.{keys_of}
@@ -12,7 +12,7 @@ use Rattle.fisca_yaml.specs.declared.tree.Entry.{Entry}
 use Rattle.fisca_yaml.specs.Views.{entries_view}
 use Rattle.fisca_params.specs.Dates.{Dated}
 use Rattle.fisca_params.specs.Dates.{is_before, is_in_order, put_in_time, in_time_with}
-use Rattle.fisca_params.specs.Content.{Written, onto, written_if_both, read_value, read_all, dates_by, are_instants, is_date_map}
+use Rattle.fisca_params.specs.Content.{Written, onto, written_if_both, read_value, read_all, are_instants, is_date_map}
 use Rattle.fisca_params.specs.Written.{dated_pair}
 
 both : (a b : Bool) → a ≡ true → b ≡ true → (a && b) ≡ true
@@ -41,45 +41,9 @@ map-put (e ∷ es) date v = by (date_cmp date e.0) (map-put es date v)
     by Equal h = refl
     by Greater h = ap (λ ds. dated_pair e ∷ ds) h
 
--- what is left of a date map, put among entries that are in order of time
-abbrev pub put_among : {V : Type 0} → (Node → Option V) → List (CivilDate × Option V) → Option (List Written) → Option (List (Dated V))
-put_among read sorted o = option_map (in_time_with (map dated_pair sorted)) (option_and_then (read_all read) o)
-
-pub among-none : {V : Type 0} (read : Node → Option V) (o : Option (List Written)) → option_and_then (dates_by read) o ≡ put_among read [] o
-among-none read None = refl
-among-none read (Some ws) = refl
-
-pub among-no_date : {V : Type 0} (read : Node → Option V) (sorted : List (CivilDate × Option V)) (n : Option Node) (o : Option (List Written)) →
-    put_among read sorted (onto (written_if_both None n) o) ≡ None
-among-no_date read sorted n o = refl
-
-pub among-no_value : {V : Type 0} (read : Node → Option V) (sorted : List (CivilDate × Option V)) (date : Option CivilDate) (n : Option Node) (o : Option (List Written)) →
-    option_and_then (read_value read) n ≡ None → put_among read sorted (onto (written_if_both date n) o) ≡ None
-among-no_value read sorted None n o e = refl
-among-no_value read sorted (Some date) None o e = refl
-among-no_value read sorted (Some date) (Some n) None e = refl
-among-no_value read sorted (Some date) (Some n) (Some ws) e = rw e refl
-
-pub among-one : {V : Type 0} (read : Node → Option V) (sorted : List (CivilDate × Option V)) (date : CivilDate) (n : Option Node) (o : Option (List Written)) (v : Option V) →
-    option_and_then (read_value read) n ≡ Some v → put_among read sorted (onto (written_if_both (Some date) n) o) ≡ put_among read (insert_entry date_cmp sorted date v) o
-among-one read sorted date None o v e = cc
-among-one read sorted date (Some n) None v e = refl
-among-one read sorted date (Some n) (Some ws) v e = rw e (at (read_all read ws))
-  where
-    at : (r : Option (List (Dated _))) → option_map (in_time_with (map dated_pair sorted)) (onto (Some (record { date = date; value = v })) r) ≡ option_map (in_time_with (map dated_pair (insert_entry date_cmp sorted date v))) r
-    at None = refl
-    at (Some ds) = ap (λ s. Some (in_time_with s ds)) (sym (map-put sorted date v))
-
 -- what is left of a date map, put among values that are in order of time
 abbrev pub put_left : {V : Type 0} → (Node → Option V) → List (Dated V) → Option (List Written) → Option (List (Dated V))
 put_left read ds o = option_map (in_time_with ds) (option_and_then (read_all read) o)
-
-pub left-none : {V : Type 0} (read : Node → Option V) (o : Option (List Written)) → option_and_then (dates_by read) o ≡ put_left read [] o
-left-none read None = refl
-left-none read (Some ws) = refl
-
-pub left-no_date : {V : Type 0} (read : Node → Option V) (ds : List (Dated V)) (n : Option Node) (o : Option (List Written)) → put_left read ds (onto (written_if_both None n) o) ≡ None
-left-no_date read ds n o = refl
 
 pub left-no_value : {V : Type 0} (read : Node → Option V) (ds : List (Dated V)) (date : Option CivilDate) (n : Option Node) (o : Option (List Written)) →
     option_and_then (read_value read) n ≡ None → put_left read ds (onto (written_if_both date n) o) ≡ None
@@ -97,3 +61,12 @@ left-one read ds date (Some n) (Some ws) v e = rw e (at (read_all read ws))
     at : (r : Option (List (Dated _))) → option_map (in_time_with ds) (onto (Some (record { date = date; value = v })) r) ≡ option_map (in_time_with (put_in_time (record { date = date; value = v }) ds)) r
     at None = refl
     at (Some es) = refl
+
+-- the same among the entries of a map
+abbrev pub put_among : {V : Type 0} → (Node → Option V) → List (CivilDate × Option V) → Option (List Written) → Option (List (Dated V))
+put_among read sorted = put_left read (map dated_pair sorted)
+
+pub among-one : {V : Type 0} (read : Node → Option V) (sorted : List (CivilDate × Option V)) (date : CivilDate) (n : Option Node) (o : Option (List Written)) (v : Option V) →
+    option_and_then (read_value read) n ≡ Some v → put_among read sorted (onto (written_if_both (Some date) n) o) ≡ put_among read (insert_entry date_cmp sorted date v) o
+among-one read sorted date n o v e =
+    left-one read (map dated_pair sorted) date n o v e ∙ ap (λ ds. put_left read ds o) (sym (map-put sorted date v))

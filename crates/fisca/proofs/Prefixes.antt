@@ -22,9 +22,6 @@ after_is n s (Some x) h =
     let at : h.0 ≡ length n = h.1.0 in
     rw (has_front n s (drop h.0 s) h.1.1) (ap Some (h.2 ∙ ap (λ k. drop k s) at))
 
-pub space_passed : (bs rest : List ℕ) → bs ≡ 32 ∷ rest → past_spaces bs ≡ past_spaces rest
-space_passed bs rest e = rw e refl
-
 pub spaces_passed : (bs : List ℕ) → ((rest : List ℕ) → bs ≢ 32 ∷ rest) → past_spaces bs ≡ bs
 spaces_passed [] h = refl
 spaces_passed (b ∷ bs) h = ⊎_elim (λ e. absurd (h bs (ap (λ c. c ∷ bs) (eqb-true b 32 e)))) (λ e. rw e refl) (cases_Bool (eqb b 32))

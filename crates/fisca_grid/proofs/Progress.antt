@@ -7,16 +7,15 @@ use Rattle.std.proofs.lemmas.Bool.Decides.{nat_tests}
 use Rattle.std.proofs.lemmas.List.{append-nil}
 use Rattle.std.proofs.lemmas.List.Elements.{filter-append, Contains-append_right}
 use Rattle.fisca_grid.specs.Row.{Row, Nothing, Line, Fault, text_of}
-use Rattle.fisca_grid.specs.Lines.{line_at, lines, AtEnd, FaultAt, run_end}
+use Rattle.fisca_grid.specs.Lines.{line_at, lines, FaultAt, run_end}
 use Rattle.fisca_grid.specs.Run.{texts, IsProperPrefix, IsBrokenOff, IsRun, IsRowWritten}
 use Rattle.fisca_grid.specs.Continued.{lines_before, limit_after, IsResumable}
 use Rattle.fisca_grid.specs.declared.rows.Selection.{Selection}
 use Rattle.fisca_grid.specs.declared.rows.Selection.TheVariants.{Kept, Dropped}
-use Rattle.fisca_grid.specs.declared.fault.RunEnd.TheVariants as answer
 use Rattle.fisca_grid.specs.declared.fault.RunFault.{RunFault}
 use Rattle.fisca_grid.specs.declared.fault.RunFault.TheVariants as fault
 use Rattle.fisca_grid.proofs.Grown.{trans, grown_then_kept}
-use Rattle.fisca_grid.proofs.Walk.{one_less, lines-dropped, lines-kept, lines-fault, lines-over, run_end-dropped, run_end-kept, run_end-fault, run_end-over, run_end-stopped}
+use Rattle.fisca_grid.proofs.Walk.{one_less, lines-dropped, lines-kept, lines-fault, run_end-dropped, run_end-kept, run_end-fault}
 
 -- all lines stand before the position, or none does
 abbrev pub IsBelow : ℕ → List (ℕ × List ℕ) → Type 0
@@ -149,15 +148,6 @@ module _ {F : Type 0} (row : ℕ → Row F) (size from : ℕ) (limit : Option �
       ∙ (filter-append (λ line. nat_lt line.0 position) w.done (lines row size position left)
       ∙ (ap (λ xs. xs ++ lines_before position (lines row size position left)) (before_below position w.done w.below)
       ∙ (ap (λ xs. w.done ++ xs) (before_from position (lines row size position left) (lines-from row size position left)) ∙ append-nil w.done)))
-
-  pub stopped_at_end : IsWritten row size from limit old new position left → from ≤ position → position ≡ size → IsRun row size from limit old new (Ok answer.End)
-  stopped_at_end w above is =
-      let here : run_end row size position left ≡ AtEnd = ap (λ p. run_end row size p left) is ∙ run_end-over row size left in
-      (omega arith, w.ends ∙ here, all_written w (lines-over row size position left (omega arith)))
-
-  pub stopped_at_limit : IsWritten row size from limit old new position left → from ≤ position → position < size → left ≡ Some 0 → IsRun row size from limit old new (Ok (answer.More position))
-  stopped_at_limit w above within is =
-      (omega arith, w.ends ∙ (ap (run_end row size position) is ∙ run_end-stopped row size position within), all_written w (ap (lines row size position) is))
 
   stopped_at_fault : (x : F) → IsWritten row size from limit old new position left → position < size → ¬ (left ≡ Some 0) → row position ≡ Fault x → (run_end row size from limit ≡ FaultAt position x) × Appends old new (texts (lines row size from limit))
   stopped_at_fault x w within some is =

@@ -19,9 +19,6 @@ pub record IsDivided (rest d left k : ℕ) (ps : List ℕ) : Type 0 where
   pub digits : AllDigits 10 ps
   pub value : rest * 10 ^ k ≡ digits_value 10 ps * d + left
 
-pub divided_none : (rest d : ℕ) (ps : List ℕ) → rest < d → ps ≡ [] → IsDivided rest d rest 0 ps
-divided_none rest d ps h e = rw e (record { small = h; digits = tt; value = omega arith })
-
 below_ten : (left d : ℕ) → left < d → 10 * left / d < 10
 below_ten left d h =
     elim (cases_lt (10 * left / d) 10) [

@@ -4,7 +4,7 @@ use Rattle.std.specs.Int.{◌∣◌, IsGcd, bit_at, abs_diff}
 use Rattle.std.proofs.lemmas.Bool.{cases_lt}
 use Rattle.std.proofs.lemmas.Nat.{mod-pow-add, pow-add}
 use Rattle.std.proofs.lemmas.Nat.Gcd.{dvd_trans, le_of_dvd, dvd_of_mod-eq-zero, mod-eq-zero_of_dvd, IsGcd-swap, IsGcd-from_sub, same_from_IsGcd}
-use Rattle.std.proofs.Math.Nat.{pow-suc, one-le-pow, mul-div_cancel', mul-div_cancel_left, dvd-mul_left_of_dvd, mul-le-mul_left, mul-div-le, div-le_self, mul-sub}
+use Rattle.std.proofs.Math.Nat.{pow-suc, one-le-pow, mul-div_cancel', mul-div_cancel_left, dvd-mul_left_of_dvd, mul-le-mul_left, mul-div-le, mul-sub}
 use Rattle.fisca_num.specs.Halves.{IsHalved}
 use Rattle.fisca_num.specs.Lowest.{euclid, Scales, scales}
 use Rattle.fisca_num.specs.Tens.{coprime_2}
@@ -99,9 +99,6 @@ opposite_halved w k m e h =
       few = few;
     }
 
-gap_less : (x y k gap : ℕ) → 0 < x → gap ≡ y - x → x ≤ y → gap / 2 ^ k ≤ gap → x + gap / 2 ^ k < x + y
-gap_less x y k gap some e le h = omega arith
-
 -- what the words x and y become
 pub record IsStep (x y w k gap : ℕ) : Type 0 where
   pub x_odd : x % 2 ≡ 1
@@ -146,16 +143,6 @@ step_odd x y w k gap s =
     elim (cases_lt x y) [
       | inl p ↦ let m : min x y ≡ x = omega arith in (rw m xo, (gap_up x y w k gap s p).1.odd)
       | inr p ↦ let m : min x y ≡ y = omega arith in (rw m yo, (gap_down x y w k gap s (omega (arith, s.other))).1.odd)
-    ]
-
-pub step_less : (x y w k gap : ℕ) → IsStep x y w k gap → min x y + gap / 2 ^ k < x + y
-step_less x y w k gap s =
-    let xo : x % 2 ≡ 1 = s.x_odd in
-    let yo : y % 2 ≡ 1 = s.y_odd in
-    let part : gap / 2 ^ k ≤ gap = div-le_self gap (2 ^ k) in
-    elim (cases_lt x y) [
-      | inl p ↦ let e = (gap_up x y w k gap s p).0 in omega arith
-      | inr p ↦ let e = (gap_down x y w k gap s (omega (arith, s.other))).0 in omega arith
     ]
 
 pub word_gcd : (a b g r : ℕ) → 0 < a → a < 2 ^ 64 → IsGcd a b g → r ≡ g % 2 ^ 64 → IsGcd a b r

@@ -9,7 +9,7 @@ use Rattle.std.proofs.lemmas.List.Elements.{filter-append}
 use Rattle.std.proofs.lemmas.Bool.{eq-eqb, ne_eqb}
 use Rattle.std.proofs.lemmas.Bool.Decides.{nat_tests}
 use Rattle.std.proofs.lemmas.List.Folds.{list_all-append}
-use Rattle.std.proofs.Math.Nat.{pow-le-pow_right, mul-le-mul_left}
+use Rattle.std.proofs.Math.Nat.{pow-le-pow_right}
 use Rattle.std.proofs.lemmas.Nat.{pow-add}
 use Rattle.fisca_num.specs.Literal.{digits_in, is_zero_digit, are_few, IsRead}
 use Rattle.fisca_num.proofs.Reading.{value_of_digit, in_digit}
@@ -79,11 +79,6 @@ pub next_skipped : (xs : List ℕ) (i : ℕ) → i < length xs → get_or xs i 0
 next_skipped xs i h is = ap digits_in (take_more xs i 0 h) ∙ filter-append is_ascii_digit (take i xs) (get_or xs i 0 ∷ []) ∙ ap (λ c. digits_in (take i xs) ++ digits_in (c ∷ [])) is ∙ append-nil (digits_in (take i xs))
 
 -- ---- the number of a literal
-
-pub small_size : (whole k places : ℕ) → whole < 2 ^ 63 → k ≤ 18 → places < 10 ^ k → whole * 10 ^ k + places < 2 ^ 126
-small_size whole k places h few small =
-    let ten : 10 ^ k ≤ 10 ^ 18 = pow-le-pow_right (lit< tt) few in
-    omega (arith, mul-le-mul_left whole ten)
 
 pub room_below : (number count : ℕ) → number < 10 ^ count → count < 18 → number < 10 ^ 17
 room_below number count small few =

@@ -13,9 +13,6 @@ pub record IsFactored (d twos fives rest : ℕ) : Type 0 where
   pub whole : d ≡ 2 ^ twos * (5 ^ fives * rest)
   pub some : 0 < rest
 
-pub factored_none : (d : ℕ) → 0 < d → IsFactored d 0 0 d
-factored_none d h = record { whole = omega arith; some = h }
-
 pub less_two : (d twos fives rest : ℕ) → IsFactored d twos fives rest → rest % 2 ≡ 0 → IsFactored d (twos + 1) fives (rest / 2)
 less_two d twos fives rest x even =
     let half : 2 * (rest / 2) ≡ rest = omega arith in

@@ -2,7 +2,7 @@
 use Rattle.std.proofs.Common.{◌≡◌, ℕ, ◌+◌, ◌*◌, ◌-◌, ◌<◌, ◌≤◌, min, Bool, true, false, ◌&&◌, ◌||◌, ◌==◌, List, [], ◌∷◌, length, drop, get_or, arith, refl, ap, sym, ◌∙◌, add-one, drop-cons, inl, inr, ◌⊎◌}
 use Rattle.std.specs.Char.{is_ascii_digit, digit_value}
 use Rattle.std.specs.Str.Parse.{digits_value_after}
-use Rattle.std.proofs.lemmas.Bool.{cases_lt, and_parts, eqb-true, ne_eqb}
+use Rattle.std.proofs.lemmas.Bool.{cases_lt, and_parts, eqb-true}
 use Rattle.std.proofs.lemmas.Bool.Decides.{nat_tests}
 use Rattle.fisca_num.specs.Literal.{are_digits, may_follow_digit, digits_in, has_no_leading_zero, is_whole}
 
@@ -57,9 +57,6 @@ capped cap n cs =
 pub in_digit : (c : ℕ) (cs : List ℕ) → is_ascii_digit c ≡ true → digits_in (c ∷ cs) ≡ c ∷ digits_in cs
 in_digit c cs h = rw h refl
 
-in_other : (c : ℕ) (cs : List ℕ) → is_ascii_digit c ≡ false → digits_in (c ∷ cs) ≡ digits_in cs
-in_other c cs h = rw h refl
-
 after_digit : (n c : ℕ) (cs : List ℕ) → is_ascii_digit c ≡ true → digits_value_after 10 n (c ∷ cs) ≡ digits_value_after 10 (10 * n + (c - 48)) cs
 after_digit n c cs h = ap (λ z. digits_value_after 10 z cs) (omega (arith, value_of_digit c h))
 
@@ -100,27 +97,7 @@ and_false : (a b : Bool) → (a ≡ true → b ≡ false) → (a && b) ≡ false
 and_false true b h = h refl
 and_false false b h = refl
 
-and_true : (a b : Bool) → (a ≡ true → b ≡ true) → (a && b) ≡ a
-and_true true b h = h refl
-and_true false b h = refl
-
 pub zero_in_front : (xs : List ℕ) → 1 < length xs → get_or xs 0 0 ≡ 48 → is_whole xs ≡ false
 zero_in_front [] h e = absurd (omega arith)
 zero_in_front (x ∷ []) h e = absurd (omega arith)
 zero_in_front (x ∷ c ∷ cs) h e = rw e (and_false (are_digits (48 ∷ c ∷ cs)) (has_no_leading_zero (digits_in (48 ∷ c ∷ cs))) (leading c cs))
-
-other_first : (x : ℕ) (xs : List ℕ) → (length xs ≡ 0) ⊎ (x ≡ 48 → ⊥) → has_no_leading_zero (x ∷ digits_in xs) ≡ true
-other_first x [] e = refl
-other_first x (y ∷ ys) (inl e) = absurd (omega arith)
-other_first x (y ∷ ys) (inr e) = second x (digits_in (y ∷ ys)) e
-  where
-    second : (x : ℕ) (ys : List ℕ) → (x ≡ 48 → ⊥) → has_no_leading_zero (x ∷ ys) ≡ true
-    second x [] e = refl
-    second x (y ∷ ys) e = rw (ne_eqb x 48 e) refl
-
--- no 0 stands in front where the first is another digit, or the only one
-pub no_zero_in_front : (xs : List ℕ) → 0 < length xs → (length xs ≡ 1) ⊎ (get_or xs 0 0 ≡ 48 → ⊥) → is_whole xs ≡ are_digits xs
-no_zero_in_front [] h e = absurd (omega arith)
-no_zero_in_front (x ∷ xs) h e = and_true (are_digits (x ∷ xs)) (has_no_leading_zero (digits_in (x ∷ xs))) (λ t.
-    let digit : is_ascii_digit x ≡ true = (and_parts (is_ascii_digit x) (may_follow_digit xs) t).0 in
-    ap has_no_leading_zero (in_digit x xs digit) ∙ other_first x xs (elim e [ inl p ↦ inl (omega arith) | inr p ↦ inr p ]))

@@ -44,9 +44,6 @@ equal_of a b e = ranked (side a b) (side b a) Equal (sym e ∙ by_sides a b)
 less_by : (k m n : ℕ) → 0 < k → k * m < k * n → m < n
 less_by k m n some h = elim (cases_lt m n) [ inl p ↦ p | inr p ↦ absurd (omega (arith, mul-le-mul_left k p)) ]
 
-greater_of : (a b : Number) → side b a < side a b → number_cmp a b ≡ Greater
-greater_of a b h = by_sides a b ∙ sym (nat_cmp_is _ _ Greater h)
-
 chain : (a a' b b' c c' A B C : ℕ) → 0 < A → 0 < B → 0 < C → a * B + b' * A < b * A + a' * B → b * C + c' * B < c * B + b' * C → a * C + c' * A < c * A + a' * C
 chain a a' b b' c c' A B C hA hB hC h1 h2 =
     let p : C * (a * B + b' * A) < C * (b * A + a' * B) = mul-lt-mul_of_pos_left h1 hC in

@@ -1,8 +1,8 @@
 -- What the methods of a text find in a path.
-use Rattle.std.proofs.Common.{◌≡◌, ℕ, ◌-◌, ◌<◌, ◌∷◌, [], true, false, eqb, List, length, take, drop, Option, Some, None, option_map, MatchOption, refl, ap, ◌∙◌, ◌+◌, arith, count_by, length-drop}
-use Rattle.std.proofs.lemmas.Str.Pattern.{starts_text, ends_text}
-use Rattle.std.specs.Str.Pattern.{FindsTextPrefix, FindsTextSuffix, StripsPrefix, StripsSuffix}
-use Rattle.fisca_params.specs.Paths.{after_start, without_ending, names_in}
+use Rattle.std.proofs.Common.{◌≡◌, ℕ, ◌-◌, ◌<◌, ◌∷◌, [], true, false, eqb, List, length, take, Option, Some, None, option_map, MatchOption, refl, ap, ◌∙◌, ◌+◌, arith, count_by, length-drop}
+use Rattle.std.proofs.lemmas.Str.Pattern.{ends_text}
+use Rattle.std.specs.Str.Pattern.{FindsTextSuffix, StripsSuffix}
+use Rattle.fisca_params.specs.Paths.{without_ending, names_in}
 use Rattle.std.specs.List.{position_or_len, before_first, after_first}
 use Rattle.std.proofs.lemmas.List.Splits.{slice_split_none, slice_split_first, length-slice_split}
 use Rattle.std.proofs.lemmas.List.Sums.{fails_before_first}
@@ -10,11 +10,6 @@ use Rattle.fisca_yaml.specs.Node.{Node}
 use Rattle.fisca_params.specs.Results.{and_then}
 use Rattle.fisca_params.specs.Tree.{TreeNode, put_below, enter}
 use denote.Ref.{Bor}
-
-pub start_is : (n s : List ℕ) (r : Option (Bor (List ℕ))) → MatchOption r (FindsTextPrefix n s None) (λ x. StripsPrefix (FindsTextPrefix n) s x.now)
-    → option_map (λ x. x.now) r ≡ after_start n s
-start_is n s None h = rw (← starts_text false n s h) refl
-start_is n s (Some x) h = rw (← starts_text true n s (h.0, h.1, rw h.1.0 h.1.2)) (ap Some (h.2 ∙ ap (λ k. drop k s) h.1.0))
 
 pub ending_is : (n s : List ℕ) (r : Option (Bor (List ℕ))) → MatchOption r (FindsTextSuffix n s None) (λ x. StripsSuffix (FindsTextSuffix n) s x.now)
     → option_map (λ x. x.now) r ≡ without_ending n s

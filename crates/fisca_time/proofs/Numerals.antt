@@ -1,5 +1,5 @@
 -- Reading decimal digits from the left, with a limit on the number.
-use Rattle.std.proofs.Common.{◌≡◌, ℕ, ◌+◌, ◌*◌, ◌-◌, ◌≤◌, ◌<◌, ◌^◌, min, cond, Option, Some, None, MatchOption, IfSome, List, [], ◌∷◌, arith, drop, get_or, length, drop-cons, refl, inl, inr, ap, sym, ◌∙◌, add-one, Bool, true, false}
+use Rattle.std.proofs.Common.{◌≡◌, ℕ, ◌+◌, ◌*◌, ◌-◌, ◌≤◌, ◌<◌, ◌^◌, min, cond, Option, Some, None, MatchOption, IfSome, List, [], ◌∷◌, arith, drop, get_or, length, drop-cons, refl, inl, inr, ap, ◌∙◌, add-one, Bool, true, false}
 use Rattle.std.proofs.lemmas.Bool.{cases_lt, and_right, and_from, eq-eqb}
 use Rattle.std.proofs.Math.Dec.{eqb}
 use Rattle.std.proofs.Math.Nat.{pow-le-pow_right}
@@ -44,12 +44,6 @@ after_digit c n cap m rest all is a b =
 pub digit_step : (xs : List ℕ) (i n cap m : ℕ) (all : Bool) → i < length xs → is_ascii_digit (get_or xs i 0) ≡ true → all_ascii_digits (drop i xs) ≡ all → min cap (digits_value_after 10 n (drop i xs)) ≡ m →
     (all_ascii_digits (drop (i + 1) xs) ≡ all) × (min cap (digits_value_after 10 (min (10 * n + (get_or xs i 0 - 48)) cap) (drop (i + 1) xs)) ≡ m)
 digit_step xs i n cap m all h is a b = after_digit (get_or xs i 0) n cap m (drop (i + 1) xs) all is (rw (front xs i h) at a) (rw (front xs i h) at b)
-
--- another byte is met: not all are digits
-pub other_step : (xs : List ℕ) (i : ℕ) (all : Bool) → i < length xs → is_ascii_digit (get_or xs i 0) ≡ false → all_ascii_digits (drop i xs) ≡ all → all ≡ false
-other_step xs i all h is a =
-    let b = rw (front xs i h) at a in
-    let c = rw is at b in sym c
 
 -- what a reader of digits answers is the number of a text with that many digits
 pub numeral_from_number : (o : Option ℕ) (count : ℕ) (text : List ℕ) → count ≤ 4 → length text ≡ count

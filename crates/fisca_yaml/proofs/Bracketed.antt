@@ -99,14 +99,6 @@ pub one_more_entry : (es ds : List Entry) (k : List ℕ) (n : ℕ) (v : Node) (o
 one_more_entry es ds k n v None e = refl
 one_more_entry es ds k n v (Some p) e = ap (λ i. Some (i, p.1)) (sym (e p.0))
 
-pub no_items_yet : (o : Option (Items × List ℕ)) → o ≡ parse_map (items_before []) o
-no_items_yet None = refl
-no_items_yet (Some p) = refl
-
-pub no_entries_yet : (o : Option (Entries × List ℕ)) → o ≡ parse_map (entries_before []) o
-no_entries_yet None = refl
-no_entries_yet (Some p) = refl
-
 -- a map with no key twice, and what follows it
 pub apart_of : (es : Entries) (rest : List ℕ) → map_apart (Some (es, rest)) ≡ option_map (λ n. (n, rest)) (map_of (Some es))
 apart_of es rest = both (repeats (keys es)) where

@@ -4,7 +4,7 @@ use Rattle.std.specs.Prelude.{not, ◌&&◌}
 use Rattle.std.specs.List.{list_all}
 use Rattle.std.specs.Prelude.{◌^◌}
 use Rattle.std.proofs.lemmas.Bool.Decides.{nat_tests}
-use Rattle.fisca_yaml.specs.Node.{Node, keys, repeats, null, scalar, list, map, Items, no_items, item, Entries, no_entries, entry, nested, items_nested, entries_nested}
+use Rattle.fisca_yaml.specs.Node.{Node, keys, repeats, null, scalar, list, map, Items, no_items, item, Entries, no_entries, nested, items_nested, entries_nested}
 use Rattle.fisca_yaml.specs.Rows.{Row, rank, begins_item, following, after_dash, is_marker, text_rows, tail}
 use Rattle.fisca_yaml.specs.Scalars.{Read, entry_of, is_key, is_quote, quoted, quoted_value, plain_value, ends_line, leaf, may_begin, key_split, trim_end, before_comment}
 use Rattle.fisca_yaml.specs.Flow.{add_pair, flow_value}

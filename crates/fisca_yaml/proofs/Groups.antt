@@ -1,5 +1,5 @@
 -- Fronts of fronts, and the groups of what is left.
-use Rattle.std.proofs.Common.{◌≡◌, ◌≢◌, ℕ, ◌+◌, ◌<◌, ◌≤◌, List, [], ◌∷◌, length, Option, Some, None, option_map, IfNone, IfSome, refl, sym, ap, ◌∙◌, arith}
+use Rattle.std.proofs.Common.{◌≡◌, ℕ, ◌+◌, ◌<◌, ◌≤◌, List, [], ◌∷◌, length, Option, Some, None, option_map, IfNone, IfSome, refl, sym, ap, ◌∙◌, arith}
 use Rattle.std.proofs.lemmas.Bool.Decides.{nat_tests}
 use Rattle.fisca_yaml.specs.Rows.{Row, rank}
 use Rattle.fisca_yaml.specs.Grouping.{Group, front, after, groups, joined, all_of}
@@ -33,9 +33,6 @@ waiting (Some a) = 1
 module _ {A B : Type 0} (none : B) (put : ℕ → A → B → B) (value : Group → Option A) (f r : ℕ) (l : Row) (ls : List Row) (below : f ≤ r) where
   pub all_turn : rank l ≡ r → all_of none put value r (groups r (l ∷ front f ls)) ≡ joined (put l.number) (value (record { head = l; inside = front r ls })) (all_of none put value r (groups r (front f (after r ls))))
   all_turn e = let a = front_front f r ls below in let b = groups_front f r ls below in grind (arith, nat_tests)
-
-  pub all_stop : rank l ≢ r → rank l ≤ r → all_of none put value r (groups r (l ∷ front f ls)) ≡ None
-  all_stop e h = grind (arith, nat_tests)
 
 -- what a call that takes the next deeper line leaves
 abbrev pub Takes : ℕ → List Row → Option Row → List Row → Type 0

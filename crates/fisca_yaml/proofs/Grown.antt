@@ -1,10 +1,10 @@
 -- Lists of items and entries that grow at their end, and their loops, a turn at a time.
 use Rattle.std.proofs.Common.{◌≡◌, ℕ, ◌≤◌, List, [], ◌∷◌, ◌++◌, Option, Some, None, option_map, refl, sym, ap, ◌∙◌, rules, Vec}
-use Rattle.fisca_yaml.specs.Node.{Node, list, map, Items, no_items, item, Entries, no_entries, entry}
+use Rattle.fisca_yaml.specs.Node.{list, Items, no_items, item, Entries, no_entries, entry}
 use Rattle.fisca_yaml.specs.Rows.{Row, rank}
 use Rattle.fisca_yaml.specs.Grouping.{Group, front, after, groups, joined, all_of}
 use Rattle.fisca_yaml.specs.Views.{node, Seen_item, Seen_entry, seen_item, seen_entry, items_view, entries_view, items_before, entries_before, AddsItem, AddsEntry}
-use Rattle.fisca_yaml.specs.declared.tree.Tree.{Tree, List as TreeList, Map as TreeMap, the_lemmas}
+use Rattle.fisca_yaml.specs.declared.tree.Tree.{Tree, List as TreeList, the_lemmas}
 use Rattle.fisca_yaml.specs.declared.tree.Item.{Item, roll-Item, the_lemmas as item_lemmas}
 use Rattle.fisca_yaml.specs.declared.tree.Entry.{Entry, roll-Entry, the_lemmas as entry_lemmas}
 use Rattle.std.specs.declared.alloc.Global.{Global}
@@ -43,9 +43,6 @@ adds_entry old new k n t e rest =
 
 pub node-List : (v : Vec Item Global) → node (TreeList v) ≡ list (items_view v.items)
 node-List v = search (rules, the_lemmas)
-
-pub node-Map : (v : Vec Entry Global) → node (TreeMap v) ≡ map (entries_view v.items)
-node-Map v = search (rules, the_lemmas)
 
 one_more : {A B X : Type 0} (put : A → B → B) (before : List X → B → B) (xs ys : List X) (a : A) (o : Option B) → ((rest : B) → before ys rest ≡ before xs (put a rest)) → option_map (before xs) (joined put (Some a) o) ≡ option_map (before ys) o
 one_more put before xs ys a None e = refl

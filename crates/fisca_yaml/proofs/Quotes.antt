@@ -2,7 +2,6 @@
 use Rattle.std.proofs.Common.{◌≡◌, ◌≢◌, ℕ, ◌+◌, ◌<◌, true, false, List, [], ◌∷◌, ◌++◌, length, get_or, take, drop, Some, refl, sym, ap, ◌∙◌, arith}
 use Rattle.std.proofs.lemmas.List.{at_drop_more, take_more}
 use Rattle.std.proofs.lemmas.Bool.Decides.{nat_tests}
-use Rattle.fisca_yaml.specs.Rows.{begins, tail}
 use Rattle.fisca_yaml.specs.Scalars.{prepend, single, double, none, begun}
 use Rattle.fisca_yaml.proofs.Steps.{prepend_twice}
 
@@ -17,17 +16,6 @@ quote_more bs i h e =
     at_drop_more (λ t. prepend (take i bs) (single false t)) bs i 0 h ∙ ap (prepend (take i bs)) (other (get_or bs i 0) (drop (i + 1) bs) e)
     ∙ prepend_twice (take i bs) (get_or bs i 0 ∷ []) (single false (drop (i + 1) bs)) ∙ ap (λ t. prepend t (single false (drop (i + 1) bs))) (sym (take_more bs i 0 h))
 
-pub quote_here : (bs : List ℕ) (i : ℕ) → i < length bs → get_or bs i 0 ≡ 39 → single false (drop i bs) ≡ single true (drop (i + 1) bs)
-quote_here bs i h e = at_drop_more (single false) bs i 0 h ∙ here (get_or bs i 0) (drop (i + 1) bs) e
-
-pub pending_end : (bs : List ℕ) → begins 39 bs ≡ false → single true bs ≡ Some ([], bs)
-pending_end [] e = refl
-pending_end (b ∷ bs) e = rw e refl
-
-pub pending_more : (bs : List ℕ) → begins 39 bs ≡ true → single true bs ≡ prepend (39 ∷ []) (single false (tail bs))
-pending_more [] e = absurd (cc)
-pending_more (b ∷ bs) e = rw e refl
-
 ordinary : (b : ℕ) (bs : List ℕ) → b ≢ 34 → b ≢ 92 → double none (b ∷ bs) ≡ prepend (b ∷ []) (double none bs)
 ordinary b bs h k = grind (arith, nat_tests)
 
@@ -41,9 +29,6 @@ pub double_more : (bs : List ℕ) (i : ℕ) → i < length bs → get_or bs i 0 
 double_more bs i h e f =
     at_drop_more (λ t. prepend (take i bs) (double none t)) bs i 0 h ∙ ap (prepend (take i bs)) (ordinary (get_or bs i 0) (drop (i + 1) bs) e f)
     ∙ prepend_twice (take i bs) (get_or bs i 0 ∷ []) (double none (drop (i + 1) bs)) ∙ ap (λ t. prepend t (double none (drop (i + 1) bs))) (sym (take_more bs i 0 h))
-
-pub double_ends : (bs : List ℕ) (i : ℕ) → i < length bs → get_or bs i 0 ≡ 34 → double none (drop i bs) ≡ Some ([], drop (i + 1) bs)
-double_ends bs i h e = at_drop_more (double none) bs i 0 h ∙ closing (get_or bs i 0) (drop (i + 1) bs) e
 
 pub double_escapes : (bs : List ℕ) (i : ℕ) → i < length bs → get_or bs i 0 ≡ 92 → double none (drop i bs) ≡ double begun (drop (i + 1) bs)
 double_escapes bs i h e = at_drop_more (double none) bs i 0 h ∙ escaping (get_or bs i 0) (drop (i + 1) bs) e

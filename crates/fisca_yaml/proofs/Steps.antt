@@ -134,9 +134,6 @@ word_here bs i after h e = (
   at_drop_more (past_word after) bs i 0 h ∙ past_stopped after (get_or bs i 0) (drop (i + 1) bs) e ∙ sym (at_drop_more (λ t. t) bs i 0 h),
 )
 
-pub stops_ascii : (after : Bool) (b : ℕ) (bs : List ℕ) → stops after b bs ≡ true → b < 128
-stops_ascii after b bs e = grind (arith, nat_tests)
-
 filled : (bs : List ℕ) (n : ℕ) → 0 < n → n ≤ length bs → is_nil (take n bs) ≡ false
 filled [] n h k = absurd (omega arith)
 filled (b ∷ bs) zero h k = absurd (omega arith)

@@ -1,7 +1,7 @@
 -- The lines, grouped by their depth, and what they stand for.
 use Rattle.std.specs.Prelude.{◌≡◌, ◌≤◌, ◌^◌, ℕ, zero, suc, List, [], ◌∷◌, length, Bool, true, not, ◌==◌, ◌||◌, ◌&&◌, nat_le, nat_lt, if◌then◌else◌, Option, Some, None, option_map, is_some}
 use Rattle.std.specs.List.{list_all}
-use Rattle.fisca_yaml.specs.Node.{Node, nested, keys, repeats, null, scalar, list, map, Items, no_items, item, Entries, no_entries, entry}
+use Rattle.fisca_yaml.specs.Node.{Node, nested, keys, repeats, null, scalar, list, map, Items, no_items, item, Entries, no_entries}
 use Rattle.fisca_yaml.specs.Rows.{Row, begins, tail, begins_item, rank, following, after_dash, is_marker, text_rows}
 use Rattle.fisca_yaml.specs.Scalars.{Read, entry_of, is_key, is_quote, quoted, quoted_value, plain_value, ends_line}
 use Rattle.fisca_yaml.specs.Flow.{add_pair, flow_value}

@@ -8,8 +8,8 @@ use Rattle.clap.specs.Walk.{Row, Rule, Text, all_of, first_of, one_of}
 use Rattle.clap.specs.Simple.{App, new_app, new_rule, on_top, with_rule, with_subcommand}
 use Rattle.clap.specs.declared.builder.action.ArgAction.TheVariants.{Append}
 use Rattle.clap.specs.declared.builder.value_parser.ValueParser.TheVariants.{Unsigned}
-use Rattle.fisca.specs.declared.task.Task.{Task}
-use Rattle.fisca.specs.declared.task.Task.TheVariants.{Check, Axes}
+use Rattle.fisca_commands.specs.declared.task.Task.{Task}
+use Rattle.fisca_commands.specs.declared.task.Task.TheVariants.{Check, Axes}
 
 -- an argument that has to be given
 abbrev pub required_rule : Text → Rule

@@ -1,7 +1,7 @@
 //! The rule files of a folder, found and read.
 
 ghost use Rattle.std.specs.Prelude.{◌≡◌, ◌≤◌, ◌^◌, length, take, map, string_bytes, All, IsSorted, IfOk, OnOk};
-ghost use Rattle.fisca.specs.Folder.{AreRuleFiles, path_of};
+ghost use Rattle.fisca.specs.Folder.{AreRuleFiles, path_of, status_of};
 
 use fisca_params::SourceFile;
 use std::alloc::{AllocError, AllocFailed, Global};
@@ -25,6 +25,20 @@ pub enum FolderFault {
     /// Memory was refused.
     #[error("Memory")]
     Memory,
+}
+
+impl FolderFault {
+    /// The exit status of the program: 3 where a file is too long, 5 where a folder or a file cannot be read, 6 for want of
+    /// memory.
+    pub fn status(&self) -> u8
+        ensures { result ≡ status_of self.now }
+    {
+        match self {
+            FolderFault::TooLong { .. } => 3,
+            FolderFault::CannotList | FolderFault::CannotRead { .. } => 5,
+            FolderFault::Memory => 6,
+        }
+    }
 }
 
 impl From<AllocError> for FolderFault {

@@ -1,35 +1,21 @@
 //! The program `fisca`: reads the command line, runs the command, and tells how it ended by its exit status.
 #![tactic(auto)]
 
-mod axes;
-mod check;
-mod condition;
 mod folder;
-mod last_line;
-mod refusal;
 mod task;
-mod words;
 
-use axes::axes_words;
-use check::check_rules;
 use clap::error::ErrorKind;
-use fisca_grid::{RunEnd, StreamSink};
+use fisca_commands::{Ending, Task, run_task};
+use fisca_grid::StreamSink;
+use fisca_params::SourceFile;
 use folder::{FolderFault, read_rules};
-use last_line::write_end;
-use refusal::Refusal;
 use std::io::{BufWriter, Write};
 use std::process::ExitCode;
 use std::{env, io};
-use task::{Task, read_task};
+use task::read_task;
 
 /// The status of a command line that `clap` refused.
 const USAGE: u8 = 2;
-
-/// The status of a rule file that is refused before it is read.
-const REFUSED: u8 = 3;
-
-/// The status of a folder or a file that cannot be read.
-const READ_FAILED: u8 = 5;
 
 /// The status of a failed write of the last line.
 const WRITE_FAILED: u8 = 5;
@@ -60,7 +46,7 @@ fn main(rt: HostRuntime) -> ExitCode {
 /// Runs what the words ask for, and answers the exit status.
 fn run_words(rt: &HostRuntime, words: &[String]) -> u8 {
     match read_task(rt.alloc(), words) {
-        Ok(task) => run_task(rt, task),
+        Ok(task) => run_task_of(rt, &task),
         Err(error) => print_text(rt, &error),
     }
 }
@@ -78,86 +64,47 @@ fn print_text(rt: &HostRuntime, error: &clap::Error) -> u8 {
     }
 }
 
-/// Runs a task, and answers the exit status.
-fn run_task(rt: &HostRuntime, task: Task<'_>) -> u8 {
-    let writer = match BufWriter::new(rt.alloc(), io::writer(rt)) {
-        Ok(writer) => writer,
-        Err(_) => return tell(rt, OUT_OF_MEMORY, NO_MEMORY),
-    };
+/// Runs a task over the files of the folder that it names, if it names one, and answers the exit status.
+fn run_task_of(rt: &HostRuntime, task: &Task<'_>) -> u8 {
     match task {
-        Task::Check { rules } => check_folder(rt, rules, StreamSink::new(writer)),
-        Task::Axes {
-            words,
-            keep,
-            from,
-            rows,
-        } => {
-            let mut sink = StreamSink::new(writer);
-            let answer = axes_words(rt.alloc(), words.as_slice(), keep, from, rows, &mut sink);
-            match answer {
-                Ok(end) => end_run(rt, end, sink),
-                Err(refusal) => refuse(rt, refusal, sink.into_writer()),
-            }
-        }
+        Task::Check { rules } => match read_rules(rt, rules) {
+            Ok(files) => run_over(rt, task, files.as_slice()),
+            Err(fault) => tell_folder(rt, rules, fault),
+        },
+        Task::Axes { .. } => run_over(rt, task, &[]),
     }
 }
 
-/// Reads the rule files of a folder, and checks them.
-fn check_folder<W: Write + Drop>(rt: &HostRuntime, rules: &str, mut sink: StreamSink<W>) -> u8 {
-    let files = match read_rules(rt, rules) {
-        Ok(files) => files,
-        Err(fault) => return tell_folder(rt, rules, fault),
+/// Runs a task over these files, and answers the exit status.
+fn run_over(rt: &HostRuntime, task: &Task<'_>, files: &[SourceFile]) -> u8 {
+    let Ok(writer) = BufWriter::new(rt.alloc(), io::writer(rt)) else {
+        return tell(rt, OUT_OF_MEMORY, NO_MEMORY);
     };
-    match check_rules(rt.alloc(), files.as_slice(), &mut sink) {
-        Ok(()) => finish(rt, sink.into_writer()),
-        Err(refusal) => refuse(rt, refusal, sink.into_writer()),
+    let mut sink = StreamSink::new(writer);
+    let ending = run_task(rt.alloc(), task, files, &mut sink);
+    finish(rt, sink, &ending)
+}
+
+/// Hands over what still waits in a buffer, tells how the command ended, and answers the exit status.
+fn finish<W: Write + Drop>(rt: &HostRuntime, mut sink: StreamSink<W>, ending: &Ending) -> u8 {
+    if sink.flush().is_err() {
+        return tell(rt, NOT_WRITTEN, WRITE_FAILED);
+    }
+    match ending.line() {
+        None => ending.status(),
+        Some(line) => tell(rt, line, ending.status()),
     }
 }
 
 /// Tells why the rule files could not be read, and answers the status.
 fn tell_folder(rt: &HostRuntime, rules: &str, fault: FolderFault) -> u8 {
-    match fault {
-        FolderFault::CannotList => {
-            let _ = eprintln!(rt; "fisca: cannot list {rules}");
-            READ_FAILED
-        }
-        FolderFault::CannotRead { path } => {
-            let _ = eprintln!(rt; "fisca: {path}: cannot read");
-            READ_FAILED
-        }
-        FolderFault::TooLong { path } => {
-            let _ = eprintln!(rt; "fisca: {path}:1: TooLong");
-            REFUSED
-        }
-        FolderFault::Memory => tell(rt, OUT_OF_MEMORY, NO_MEMORY),
-    }
-}
-
-/// Hands over what still waits in the buffer.
-fn finish<W: Write + Drop>(rt: &HostRuntime, mut writer: W) -> u8 {
-    match writer.flush() {
-        Ok(()) => 0,
-        Err(_) => tell(rt, NOT_WRITTEN, WRITE_FAILED),
-    }
-}
-
-/// Writes how the run ended, and hands over what still waits in the buffer.
-fn end_run<W: Write + Drop>(rt: &HostRuntime, end: RunEnd, mut sink: StreamSink<W>) -> u8 {
-    match write_end(end, &mut sink) {
-        Ok(()) => finish(rt, sink.into_writer()),
-        Err(_) => tell(rt, NOT_WRITTEN, WRITE_FAILED),
-    }
-}
-
-/// Hands over the lines before a refusal, and tells it.
-fn refuse<W: Write + Drop>(rt: &HostRuntime, refusal: Refusal, mut writer: W) -> u8 {
-    if writer.flush().is_err() {
-        return tell(rt, NOT_WRITTEN, WRITE_FAILED);
-    }
-    match refusal.line(rt.alloc(), "") {
-        Ok(line) => tell(rt, line.as_str(), refusal.status()),
-        Err(_) => tell(rt, OUT_OF_MEMORY, NO_MEMORY),
-    }
+    let _ = match &fault {
+        FolderFault::CannotList => eprintln!(rt; "fisca: cannot list {rules}"),
+        FolderFault::CannotRead { path } => eprintln!(rt; "fisca: {path}: cannot read"),
+        FolderFault::TooLong { path } => eprintln!(rt; "fisca: {path}:1: TooLong"),
+        FolderFault::Memory => eprintln!(rt; "{OUT_OF_MEMORY}"),
+    };
+    fault.status()
 }
 
 /// Writes a line on standard error, and answers the status. That standard error can't be written changes no status.

@@ -10,23 +10,8 @@ ghost use Rattle.clap.specs.Kinds.{FailsBy};
 ghost use Rattle.fisca.specs.CommandLine.{axis_rule, option_rule, number_rule, axes_app, check_app, fisca_app, IsAxesTask, IsCheckTask, IsTaskOf};
 
 use clap::{Arg, ArgAction, ArgMatches, Command, Error, value_parser};
+use fisca_commands::Task;
 use std::alloc::{AllocError, Global};
-
-/// What the command line asks for.
-#[derive(Debug, Drop)]
-pub enum Task<'a> {
-    /// `check`: check the rule files of a folder.
-    Check {
-        rules: &'a str,
-    },
-    /// `axes`: list the values of axes.
-    Axes {
-        words: Vec<String>,
-        keep: Option<&'a str>,
-        from: u64,
-        rows: Option<u64>,
-    },
-}
 
 const ABOUT: &str = "Run OpenFisca rules with exact fractions";
 

@@ -1,4 +1,5 @@
 use super::*;
+use fisca_commands::Refusal;
 use std::alloc::{AllocError, Global};
 
 /// The words of a command line, between single spaces.
@@ -34,24 +35,15 @@ fn each_command_line_ends_with_its_status(rt: HostRuntime) -> Result<(), AllocEr
 }
 
 #[test]
-fn the_last_line_tells_how_the_run_ended(rt: HostRuntime) {
-    let mut text = Vec::new(rt.alloc());
-    assert_eq!(rt;
-        end_run(&rt, RunEnd::More(18), StreamSink::new(&mut text)),
-        0
-    );
-    assert_eq!(rt; end_run(&rt, RunEnd::End, StreamSink::new(&mut text)), 0);
-    assert_eq!(rt; text.as_slice(), b"more 18\nend\n".as_slice());
-}
-
-#[test]
 fn lines_that_cannot_be_handed_over_are_a_failed_write(rt: HostRuntime) -> io::Result<()> {
-    let mut room = [0u8; 3];
-    let mut writer = BufWriter::new(rt.alloc(), room.as_mut_slice())?;
-    assert_eq!(rt; end_run(&rt, RunEnd::End, StreamSink::new(&mut writer)), 5);
-    let mut room = [0u8; 3];
-    let mut writer = BufWriter::new(rt.alloc(), room.as_mut_slice())?;
-    writer.write_all(b"0\t7\n")?;
-    assert_eq!(rt; refuse(&rt, Refusal::BadWord, &mut writer), 5);
+    for ending in [
+        Ending::done(),
+        Ending::refused(rt.alloc(), &Refusal::BadWord),
+    ] {
+        let mut room = [0u8; 3];
+        let mut writer = BufWriter::new(rt.alloc(), room.as_mut_slice())?;
+        writer.write_all(b"0\t7\n")?;
+        assert_eq!(rt; finish(&rt, StreamSink::new(&mut writer), &ending), 5);
+    }
     Ok(())
 }

@@ -10,3 +10,6 @@ pub mod Groups
 pub mod Positions
 pub mod Orders
 pub mod Specs
+mod Prefixes
+mod Cuts
+mod Counts

@@ -6,3 +6,5 @@ pub mod Continued
 pub mod Fault
 pub mod Axes
 pub mod AxesFault
+pub mod Condition
+pub mod Words

@@ -317,6 +317,3 @@ impl Axes {
         self.axes[axis].compare(position, number)
     }
 }
-
-#[cfg(test)]
-mod tests;

@@ -2,6 +2,7 @@
 #![tactic(auto)]
 
 mod axes;
+mod condition;
 mod cursor;
 mod fault;
 mod law;
@@ -10,8 +11,10 @@ mod rows;
 mod run;
 mod sink;
 mod stream_sink;
+mod words;
 
 pub use axes::{Axes, AxesFault, AxisSpec};
+pub use condition::{Comparison, Condition, read_condition};
 pub use cursor::GridCursor;
 pub use fault::{RowFault, RunEnd, RunFault};
 pub use law::{positions_rise, runs_continue};
@@ -20,3 +23,4 @@ pub use rows::{Rows, Selection};
 pub use run::write_lines;
 pub use sink::{RowSink, SinkFault, hand_over};
 pub use stream_sink::StreamSink;
+pub use words::read_axis;

@@ -81,6 +81,3 @@ fn write_row<R: Rows, S: RowSink>(
         Err(RowFault::Memory) => Err(RunFault::Memory { position }),
     }
 }
-
-#[cfg(test)]
-mod tests;

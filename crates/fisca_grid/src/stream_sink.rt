@@ -99,6 +99,3 @@ fn write_uninterrupted<W: Write>(writer: &mut W, piece: &[u8]) -> Option<usize>
     }
     None
 }
-
-#[cfg(test)]
-mod tests;

@@ -19,6 +19,3 @@ pub use laws::{
     equal_fractions_hash_alike, number_of_is_the_number, numerals_are_read_back,
     numerals_are_unique, text_of_is_the_text,
 };
-
-#[cfg(test)]
-mod tests;

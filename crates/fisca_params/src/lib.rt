@@ -22,6 +22,3 @@ pub use fault::ParamFault;
 pub use law::{files_stand_at_their_paths, nothing_else_stands};
 pub use source::SourceFile;
 pub use tree::{NodeId, ParamTree};
-
-#[cfg(test)]
-mod tests;

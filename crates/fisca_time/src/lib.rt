@@ -15,6 +15,3 @@ pub use fault::TimeFault;
 pub use instant::Instant;
 pub use period::Period;
 pub use unit::Unit;
-
-#[cfg(test)]
-mod tests;

@@ -19,6 +19,3 @@ mod value;
 pub use fault::{Kind, YamlFault};
 pub use reader::read;
 pub use tree::{Entry, Item, Text, Tree};
-
-#[cfg(test)]
-mod tests;

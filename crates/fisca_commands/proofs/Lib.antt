@@ -1,0 +1,3 @@
+mod ManyWords
+mod Parts
+mod Endings

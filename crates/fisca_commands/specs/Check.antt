@@ -1,0 +1,79 @@
+-- What `fisca check` answers and writes.
+use Rattle.std.specs.Prelude.{◌≡◌, ℕ, ◌<◌, ◌≤◌, ◌++◌, Bool, true, false, List, [], count_by, codes, slice_get, string_bytes, Option, Some, None, Result, Ok, Err, is_some, ⊤}
+use Rattle.std.specs.Fmt.{decimal}
+use Rattle.std.specs.Io.KnownBytes.{Appends, Keeps}
+use Rattle.fisca_grid.specs.Run.{IsProperPrefix}
+use Rattle.fisca_params.specs.Answers.{Refuses}
+use Rattle.fisca_params.specs.Source.{Source}
+use Rattle.fisca_params.specs.Paths.{names_of}
+use Rattle.fisca_params.specs.Files.{tree_of}
+use Rattle.fisca_params.specs.Tree.{TreeNode}
+use Rattle.fisca_params.specs.Lookup.{is_counted}
+use Rattle.fisca_params.specs.declared.fault.ParamFault.{ParamFault}
+use Rattle.fisca_params.specs.declared.fault.ParamFault.TheVariants as params
+use Rattle.fisca_commands.specs.declared.refusal.Refusal.{Refusal}
+use Rattle.fisca_commands.specs.declared.refusal.Refusal.TheVariants.{Params, Axes, BadWord, BadCondition, Run, Write, Memory, TooManyFiles}
+
+-- how many files are not ignored
+abbrev pub count_of_files : List Source → ℕ
+count_of_files = count_by (λ file. is_some (names_of file.path))
+
+-- the line of so many dated parameters and scales
+abbrev pub text_of_count : ℕ → List ℕ
+text_of_count parameters = codes "entities 0, variables 0, parameters " ++ decimal parameters ++ codes "\n"
+
+-- the line of a rule set
+abbrev pub text_of : List TreeNode → List ℕ
+text_of tree = text_of_count (count_by is_counted tree)
+
+-- the parameter files make this tree, and are not too many
+abbrev pub IsAccepted : List Source → List TreeNode → Type 0
+IsAccepted files tree = (count_of_files files ≤ 1000) × (tree_of files ≡ Ok tree)
+
+-- the file of a fault, by its place among the files, and the line there
+abbrev pub place_of : ParamFault → Option (ℕ × ℕ)
+place_of (params.Yaml file fault) = Some (file, fault.line)
+place_of (params.BadParameter file line) = Some (file, line)
+place_of (params.DuplicateName file line) = Some (file, line)
+place_of params.BadScale = None
+place_of params.Undefined = None
+place_of (params.Number fault) = None
+place_of params.Memory = None
+
+abbrev pub path_of : Option Source → List ℕ
+path_of None = []
+path_of (Some file) = file.path
+
+-- this path and this line are where a fault of these files stands
+abbrev pub StandsAt : List Source → Option (ℕ × ℕ) → List ℕ → ℕ → Type 0
+StandsAt files None path line = ⊥
+StandsAt files (Some place) path line = (path ≡ path_of (slice_get files place.0)) × (line ≡ place.1)
+
+-- what the check of files answers, and what a sink that held `old` then holds
+abbrev pub IsCheck : List Source → Option (List ℕ) → Option (List ℕ) → Result Unit Refusal → Type 0
+IsCheck files old new (Ok done) = (tree : List TreeNode) × IsAccepted files tree × Appends old new (text_of tree)
+IsCheck files old new (Err TooManyFiles) = (1000 < count_of_files files) × Keeps old new
+IsCheck files old new (Err (Params path line fault)) =
+    (count_of_files files ≤ 1000) × Refuses fault (tree_of files) × StandsAt files (place_of fault) (string_bytes path) line × Keeps old new
+IsCheck files old new (Err Write) = (tree : List TreeNode) × IsAccepted files tree × ((part : List ℕ) × IsProperPrefix part (text_of tree) × Appends old new part)
+IsCheck files old new (Err Memory) = Keeps old new
+IsCheck files old new (Err (Axes fault)) = ⊥
+IsCheck files old new (Err BadWord) = ⊥
+IsCheck files old new (Err BadCondition) = ⊥
+IsCheck files old new (Err (Run fault)) = ⊥
+
+-- the refusal tells this fault and where it stands, or that memory was refused
+abbrev pub IsToldOf : List Source → ParamFault → Refusal → Type 0
+IsToldOf files fault (Params path line told) = (told ≡ fault) × StandsAt files (place_of fault) (string_bytes path) line
+IsToldOf files fault Memory = ⊤
+IsToldOf files fault TooManyFiles = ⊥
+IsToldOf files fault Write = ⊥
+IsToldOf files fault (Axes other) = ⊥
+IsToldOf files fault BadWord = ⊥
+IsToldOf files fault BadCondition = ⊥
+IsToldOf files fault (Run other) = ⊥
+
+-- the answer is that the sink failed
+abbrev pub is_check_write : Result Unit Refusal → Bool
+is_check_write (Err Write) = true
+is_check_write other = false

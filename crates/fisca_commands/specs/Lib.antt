@@ -1,0 +1,5 @@
+pub mod Refusal
+pub mod AxesRun
+pub mod Check
+pub mod LastLine
+pub mod Ending

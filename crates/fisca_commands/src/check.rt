@@ -1,0 +1,80 @@
+//! `fisca check`: whether the files of a rule set are accepted, and what they hold.
+
+ghost use Rattle.std.specs.Prelude.{◌≡◌, ℕ, ◌<◌, cond, IfOk, IfSome, OnOk, IsTrue, ◌↔◌, string_bytes, length};
+ghost use Rattle.fisca_grid.specs.Sink.{one_more};
+ghost use Rattle.fisca_params.specs.Answers.{file_of};
+ghost use Rattle.fisca_commands.specs.Check.{count_of_files, text_of_count, IsCheck, IsToldOf, is_check_write};
+
+use super::refusal::Refusal;
+use fisca_grid::{RowSink, hand_over};
+use fisca_params::{ParamFault, ParamTree, SourceFile};
+use std::alloc::{AllocError, Global};
+
+/// A rule set has at most so many files.
+const MOST_FILES: usize = 1000;
+
+/// How many of the files belong to the rule set; others are ignored. At present those are its parameter files.
+fn count_files(files: &[SourceFile]) -> usize
+    ensures { result ≡ count_of_files files.now }
+{
+    files.iter().filter(|file| file.is_parameter_file()).count()
+}
+
+/// The line that `fisca check` prints of so many parameters and scales.
+fn text_of_count(alloc: Global, parameters: usize) -> Result<String, AllocError>
+    ensures { IfOk result (λ text. string_bytes text ≡ text_of_count parameters) }
+{
+    format!(in alloc; "entities 0, variables 0, parameters {parameters}\n")
+}
+
+/// The refusal of parameter files for a fault, with the path of the file that it names.
+fn refuse(alloc: Global, files: &[SourceFile], fault: ParamFault) -> Refusal
+    requires { IfSome (file_of fault) (λ file. file < length files.now) }
+    ensures { IsToldOf files.now fault result }
+{
+    let (place, line) = match fault {
+        ParamFault::Yaml { file, fault } => (file, fault.line),
+        ParamFault::BadParameter { file, line } => (file, line),
+        ParamFault::DuplicateName { file, line } => (file, line),
+        _ => return Refusal::Memory,
+    };
+    match String::from_str(alloc, files[place].path()) {
+        Ok(path) => Refusal::Params { path, line, fault },
+        Err(_) => Refusal::Memory,
+    }
+}
+
+/// Checks the files of a rule set, and writes one line: how many entities, variables and dated parameters with scales
+/// it has. At present it has parameter files alone, and other files are ignored.
+///
+/// The first refusal in this order is told, and nothing is written before it:
+///
+/// - `TooManyFiles` exactly where more than 1,000 of the files are not ignored.
+/// - `Params` exactly where the parameter files make no tree: what is wrong with the first file, in order of the paths,
+///   that makes none with those before it, its path, and the line that the fault names.
+/// - `Write` only where the sink failed in this call: it has a proper beginning of the line.
+/// - `Memory` only where memory was refused.
+///
+/// The files are those of the OpenFisca documentation; the limits and the line are this project's own.
+pub fn check_rules<S: RowSink>(
+    alloc: Global,
+    files: &[SourceFile],
+    sink: &mut S,
+) -> Result<(), Refusal>
+    ensures answer { IsCheck files.now (S.taken sink.old) (S.taken sink.new) result }
+    ensures failures { S.failures sink.new ≡ cond (is_check_write result) (one_more (S.failures sink.old)) (S.failures sink.old) }
+{
+    if count_files(files) > MOST_FILES {
+        return Err(Refusal::TooManyFiles);
+    }
+    let tree = match ParamTree::read(alloc, files) {
+        Ok(tree) => tree,
+        Err(ParamFault::Memory) => return Err(Refusal::Memory),
+        Err(fault) => return Err(refuse(alloc, files, fault)),
+    };
+    let text = text_of_count(alloc, tree.count())?;
+    match hand_over(sink, text.as_bytes()) {
+        Ok(()) => Ok(()),
+        Err(_) => Err(Refusal::Write),
+    }
+}

@@ -1,0 +1,38 @@
+//! The line that tells how a run ended.
+
+ghost use Rattle.std.specs.Prelude.{◌≡◌, List, ℕ, ◌++◌, cond, is_ok, codes, OnOk, OnErr};
+ghost use Rattle.std.specs.Fmt.{decimal};
+ghost use Rattle.std.specs.Io.KnownBytes.{Appends};
+ghost use Rattle.fisca_grid.specs.Run.{IsProperPrefix};
+ghost use Rattle.fisca_grid.specs.Sink.{one_more};
+ghost use Rattle.fisca_commands.specs.LastLine.{last_line};
+
+use fisca_grid::{RowSink, RunEnd, SinkFault, hand_over};
+
+/// Writes how a run ended: `end`, or `more` and the position from which a further run writes the remaining lines. It
+/// takes no memory.
+///
+/// `Write` only where the sink failed in this call: it has a proper beginning of the line. This project's own rule.
+pub fn write_end<S: RowSink>(end: RunEnd, sink: &mut S) -> Result<(), SinkFault>
+    ensures all { OnOk result (Appends (S.taken sink.old) (S.taken sink.new) (last_line end)) }
+    ensures part { OnErr result ((part : List ℕ) × IsProperPrefix part (last_line end) × Appends (S.taken sink.old) (S.taken sink.new) part) }
+    ensures failures { S.failures sink.new ≡ cond (is_ok result) (S.failures sink.old) (one_more (S.failures sink.old)) }
+{
+    match end {
+        RunEnd::End => hand_over(sink, b"end\n"),
+        RunEnd::More(position) => {
+            hand_over(sink, b"more ")?;
+            write_rest(position, sink)
+        }
+    }
+}
+
+/// Writes a position and a line feed.
+fn write_rest<S: RowSink>(position: u64, sink: &mut S) -> Result<(), SinkFault>
+    ensures all { OnOk result (Appends (S.taken sink.old) (S.taken sink.new) (decimal position ++ codes "\n")) }
+    ensures part { OnErr result ((part : List ℕ) × IsProperPrefix part (decimal position ++ codes "\n") × Appends (S.taken sink.old) (S.taken sink.new) part) }
+    ensures failures { S.failures sink.new ≡ cond (is_ok result) (S.failures sink.old) (one_more (S.failures sink.old)) }
+{
+    hand_over(sink, itoa::Buffer::new().format(position).as_bytes())?;
+    hand_over(sink, b"\n")
+}

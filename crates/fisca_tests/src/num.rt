@@ -2,6 +2,7 @@
 
 use fisca_num::{Fraction, NumFault};
 use std::alloc::Global;
+use std::test::Fail;
 
 type Answer = Result<Fraction, NumFault>;
 
@@ -13,8 +14,26 @@ fn shown(alloc: Global, answer: Answer) -> Result<String, NumFault> {
     }
 }
 
+/// Whether an answer has this text, or is the fault of this name.
+fn is_shown(alloc: Global, answer: Answer, text: &str) -> bool {
+    match shown(alloc, answer) {
+        Ok(shown) => shown.as_str() == text,
+        Err(_) => false,
+    }
+}
+
 fn sum(a: (i64, i64), b: (i64, i64)) -> Answer {
     Fraction::new(a.0, a.1)?.add(Fraction::new(b.0, b.1)?)
+}
+
+fn square(x: Answer) -> Answer {
+    let x = x?;
+    x.mul(x)
+}
+
+fn by_its_opposite(x: Answer) -> Answer {
+    let x = x?;
+    x.div(x.neg())
 }
 
 #[test]
@@ -27,8 +46,7 @@ fn sums_give_the_reduced_result_or_say_why_not(rt: HostRuntime) {
         (sum((1, most), (-1, most)), "0"),
         (sum((1, most), (1, most)), "2/9223372036854775807"),
     ] {
-        let shown = shown(rt.alloc(), answer);
-        assert!(rt; shown.is_ok_and(|shown| shown.as_bytes() == text.as_bytes()));
+        assert!(rt; is_shown(rt.alloc(), answer, text));
     }
 }
 
@@ -48,8 +66,7 @@ fn quotients_of_integers_are_reduced_or_say_why_not(rt: HostRuntime) {
             "-0.00000000000000000021684043449710088680149056017398834228515625",
         ),
     ] {
-        let shown = shown(rt.alloc(), Fraction::new(numerator, denominator));
-        assert!(rt; shown.is_ok_and(|shown| shown.as_bytes() == text.as_bytes()));
+        assert!(rt; is_shown(rt.alloc(), Fraction::new(numerator, denominator), text));
     }
 }
 
@@ -59,17 +76,10 @@ fn other_operations_give_the_reduced_result_or_say_why_not(rt: HostRuntime) {
         (Fraction::one().sub(Fraction::one()), "0"),
         (Fraction::one().div(Fraction::zero()), "ZeroDivisor"),
         (Fraction::zero().div(Fraction::one()), "0"),
-        (
-            Fraction::new(3, 4).map_or(Err(NumFault::Memory), |x| x.mul(x)),
-            "0.5625",
-        ),
-        (
-            Fraction::new(3, -4).map_or(Err(NumFault::Memory), |x| x.div(x.neg())),
-            "-1",
-        ),
+        (square(Fraction::new(3, 4)), "0.5625"),
+        (by_its_opposite(Fraction::new(3, -4)), "-1"),
     ] {
-        let shown = shown(rt.alloc(), answer);
-        assert!(rt; shown.is_ok_and(|shown| shown.as_bytes() == text.as_bytes()));
+        assert!(rt; is_shown(rt.alloc(), answer, text));
     }
 }
 
@@ -89,9 +99,8 @@ fn literals_are_read_exactly(rt: HostRuntime) {
         ("9223372036854775807", "9223372036854775807"),
         ("9.000000000000000001", "9.000000000000000001"),
     ] {
-        let shown = shown(rt.alloc(), Fraction::from_decimal(literal));
         assert!(rt;
-            shown.is_ok_and(|shown| shown.as_str() == text),
+            is_shown(rt.alloc(), Fraction::from_decimal(literal), text),
             "{literal}"
         );
     }
@@ -169,33 +178,31 @@ fn texts_are_the_shortest_decimals_or_fractions(rt: HostRuntime) {
             "-0.000000000000000000134217728",
         ),
     ] {
-        let shown = shown(rt.alloc(), Fraction::new(numerator, denominator));
-        assert!(rt; shown.is_ok_and(|shown| shown.as_str() == text), "{text}");
-    }
-}
-
-#[test]
-fn a_text_is_appended_to_its_line(rt: HostRuntime) {
-    let mut line = String::new(rt.alloc());
-    let half = Fraction::new(-1, 2);
-    assert!(rt;
-        half.is_ok_and(|half| line.push_str("x ").is_ok() && half.write_text(&mut line).is_ok())
-    );
-    assert_eq!(rt; line.as_str(), "x -0.5");
-}
-
-#[test]
-fn whole_parts_are_cut_towards_zero(rt: HostRuntime) {
-    for (numerator, denominator, whole) in [(-7, 2, -3), (7, 2, 3), (-1, 3, 0), (6, 3, 2)] {
-        assert_eq!(rt;
-            Fraction::new(numerator, denominator).map(|x| x.trunc()),
-            Ok(whole)
+        assert!(rt;
+            is_shown(rt.alloc(), Fraction::new(numerator, denominator), text),
+            "{text}"
         );
     }
 }
 
 #[test]
-fn order_is_that_of_the_values(rt: HostRuntime) {
+fn a_text_is_appended_to_its_line(rt: HostRuntime) -> Result<(), Fail> {
+    let mut line = String::from_str(rt.alloc(), "x ")?;
+    Fraction::new(-1, 2)?.write_text(&mut line)?;
+    assert_eq!(rt; line.as_str(), "x -0.5");
+    Ok(())
+}
+
+#[test]
+fn whole_parts_are_cut_towards_zero(rt: HostRuntime) -> Result<(), Fail> {
+    for (numerator, denominator, whole) in [(-7, 2, -3), (7, 2, 3), (-1, 3, 0), (6, 3, 2)] {
+        assert_eq!(rt; Fraction::new(numerator, denominator)?.trunc(), whole);
+    }
+    Ok(())
+}
+
+#[test]
+fn order_is_that_of_the_values(rt: HostRuntime) -> Result<(), Fail> {
     let rising = [
         (-i64::MAX, 1),
         (-1, 2),
@@ -208,25 +215,19 @@ fn order_is_that_of_the_values(rt: HostRuntime) {
     ];
     for (i, left) in rising.iter().enumerate() {
         for (j, right) in rising.iter().enumerate() {
-            if let (Ok(a), Ok(b)) = (
-                Fraction::new(left.0, left.1),
-                Fraction::new(right.0, right.1),
-            ) {
-                assert_eq!(rt; a.cmp(&b), i.cmp(&j), "{i} {j}");
-                assert_eq!(rt; a == b, i == j, "{i} {j}");
-                assert_eq!(rt;
-                    (a.numerator(), a.denominator()),
-                    (left.0, left.1.unsigned_abs())
-                );
-            } else {
-                panic!(rt; "a fraction within the limits");
-            }
+            let a = Fraction::new(left.0, left.1)?;
+            let b = Fraction::new(right.0, right.1)?;
+            assert_eq!(rt; a.cmp(&b), i.cmp(&j), "{i} {j}");
+            assert_eq!(rt; a == b, i == j, "{i} {j}");
+            assert_eq!(rt; a.numerator(), left.0);
+            assert_eq!(rt; a.denominator(), left.1.unsigned_abs());
         }
     }
+    Ok(())
 }
 
 #[test]
-fn faults_show_their_names(rt: HostRuntime) {
+fn faults_show_their_names(rt: HostRuntime) -> Result<(), Fail> {
     for (fault, number, name) in [
         (NumFault::TooWide, 1, "TooWide"),
         (NumFault::ZeroDivisor, 2, "ZeroDivisor"),
@@ -235,10 +236,7 @@ fn faults_show_their_names(rt: HostRuntime) {
     ] {
         assert_eq!(rt; fault as u8, number);
         assert_eq!(rt; fault.name(), name);
-        assert!(rt;
-            fault
-                .to_string(rt.alloc())
-                .is_ok_and(|text| text.as_str() == name)
-        );
+        assert_eq!(rt; fault.to_string(rt.alloc())?.as_str(), name);
     }
+    Ok(())
 }

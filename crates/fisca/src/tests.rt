@@ -34,16 +34,23 @@ fn each_command_line_ends_with_its_status(rt: HostRuntime) -> Result<(), AllocEr
     Ok(())
 }
 
-#[test]
-fn lines_that_cannot_be_handed_over_are_a_failed_write(rt: HostRuntime) -> io::Result<()> {
-    for ending in [
-        Ending::done(),
-        Ending::refused(rt.alloc(), &Refusal::BadWord),
-    ] {
-        let mut room = [0u8; 3];
-        let mut writer = BufWriter::new(rt.alloc(), room.as_mut_slice())?;
-        writer.write_all(b"0\t7\n")?;
-        assert_eq!(rt; finish(&rt, StreamSink::new(&mut writer), &ending), 5);
+/// A writer that takes every byte, and cannot hand it over.
+#[derive(Drop)]
+struct Stuck;
+
+impl Write for Stuck {
+    fn write(&mut self, bytes: &[u8]) -> io::Result<usize> {
+        Ok(bytes.len())
     }
-    Ok(())
+
+    fn flush(&mut self) -> io::Result<()> {
+        Err(io::Error::from(io::ErrorKind::StorageFull))
+    }
+}
+
+#[test]
+fn lines_that_cannot_be_handed_over_are_a_failed_write(rt: HostRuntime) {
+    let refused = Ending::refused(rt.alloc(), &Refusal::BadWord);
+    assert_eq!(rt; finish(&rt, StreamSink::new(Stuck), &refused), 5);
+    assert_eq!(rt; finish(&rt, StreamSink::new(Stuck), &Ending::done()), 5);
 }

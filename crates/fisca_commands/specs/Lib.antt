@@ -3,3 +3,4 @@ pub mod AxesRun
 pub mod Check
 pub mod LastLine
 pub mod Ending
+pub mod Shown

@@ -1,3 +1,4 @@
+mod Days
 mod Forms
 mod Numerals
 mod ReadBack

@@ -7,6 +7,7 @@
 mod fault;
 mod form;
 mod instant;
+mod law;
 mod period;
 mod pieces;
 mod text;
@@ -14,5 +15,9 @@ mod unit;
 
 pub use fault::TimeFault;
 pub use instant::Instant;
+pub use law::{
+    moves_go_back, numbers_give_their_dates, subperiods_by_day_are_its_days,
+    texts_read_as_their_periods,
+};
 pub use period::Period;
 pub use unit::Unit;

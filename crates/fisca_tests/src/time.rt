@@ -5,7 +5,7 @@ use std::alloc::Global;
 use std::test::Fail;
 
 /// Texts and the shortest texts of what they name.
-const SHORTEST: [(&str, &str); 22] = [
+const SHORTEST: [(&str, &str); 34] = [
     ("2010", "2010"),
     ("2010-04", "2010-04"),
     ("2010-4", "2010-04"),
@@ -31,6 +31,18 @@ const SHORTEST: [(&str, &str); 22] = [
         "month:2010-01:0000000000000000000000000000000000000012",
         "month:2010-01:12",
     ),
+    ("2014-04-05", "2014-04-05"),
+    ("2014-4-5", "2014-04-05"),
+    ("2014-12-5", "2014-12-05"),
+    ("day:2014-04-05", "2014-04-05"),
+    ("day:2014-4-05:1", "2014-04-05"),
+    ("day:2014-04-05:3", "day:2014-04-05:3"),
+    ("2016-02-29", "2016-02-29"),
+    ("2000-2-29", "2000-02-29"),
+    ("0001-01-01", "0001-01-01"),
+    ("9999-12-31", "9999-12-31"),
+    ("day:9999-12-30:2", "day:9999-12-30:2"),
+    ("day:9996-09-18:1200", "day:9996-09-18:1200"),
 ];
 
 #[test]
@@ -43,7 +55,7 @@ fn texts_are_read_and_written_shortest(rt: HostRuntime) -> Result<(), Fail> {
 }
 
 /// Texts of no form.
-const BAD_TEXTS: [&str; 35] = [
+const BAD_TEXTS: [&str; 39] = [
     "",
     "201",
     "20100",
@@ -58,10 +70,14 @@ const BAD_TEXTS: [&str; 35] = [
     "2010-0x",
     "month:2014",
     "month:2014:3",
-    "2014-04-05",
-    "2014-13-01",
-    "2014-4-5",
-    "day:2014-04-05",
+    "2014-04-05-06",
+    "2014-04-005",
+    "2014-04-",
+    "day:2014",
+    "day:2010-04",
+    "day:2010-04:2",
+    "month:2010-04-05",
+    "year:2010-04-05:2",
     "year:",
     "year:2010:",
     "2010:3",
@@ -89,7 +105,7 @@ fn texts_that_almost_fit_are_bad(rt: HostRuntime) {
 }
 
 /// Texts of a right form that name no period.
-const OUT_OF_RANGE: [&str; 16] = [
+const OUT_OF_RANGE: [&str; 27] = [
     "0000",
     "0000-01",
     "2014-13",
@@ -106,6 +122,17 @@ const OUT_OF_RANGE: [&str; 16] = [
     "month:9999-12:2",
     "month:0000-13:0",
     "month:9900-02:1200",
+    "2014-13-01",
+    "2014-04-31",
+    "2014-04-0",
+    "2016-02-30",
+    "1900-02-29",
+    "0000-01-01",
+    "day:2014-04-05:0",
+    "day:2014-04-05:1201",
+    "day:9999-12-31:2",
+    "day:9996-09-19:1200",
+    "day:2014-04-31:0",
 ];
 
 #[test]
@@ -124,7 +151,7 @@ fn told(alloc: Global, moved: Result<Period, TimeFault>) -> Result<String, TimeF
 }
 
 /// Offsets of periods by a number of units.
-const OFFSETS: [(&str, i64, Unit, &str); 15] = [
+const OFFSETS: [(&str, i64, Unit, &str); 35] = [
     ("month:2014-03:3", 1, Unit::Month, "month:2014-04:3"),
     ("month:2014-03:3", -15, Unit::Month, "month:2012-12:3"),
     ("month:2014-03:3", -1, Unit::Year, "month:2013-03:3"),
@@ -140,6 +167,26 @@ const OFFSETS: [(&str, i64, Unit, &str); 15] = [
     ("2010", 0, Unit::Eternity, "OutOfRange"),
     ("ETERNITY", 0, Unit::Month, "OutOfRange"),
     ("ETERNITY", 0, Unit::Eternity, "OutOfRange"),
+    ("ETERNITY", 0, Unit::Day, "OutOfRange"),
+    ("2014-04", 0, Unit::Day, "OutOfRange"),
+    ("2014", 1, Unit::Day, "OutOfRange"),
+    ("day:2016-02-28:2", 1, Unit::Day, "day:2016-02-29:2"),
+    ("2016-03-01", -1, Unit::Day, "2016-02-29"),
+    ("1900-03-01", -1, Unit::Day, "1900-02-28"),
+    ("2014-12-31", 1, Unit::Day, "2015-01-01"),
+    ("2014-04-05", 365, Unit::Day, "2015-04-05"),
+    ("9999-12-31", 1, Unit::Day, "OutOfRange"),
+    ("0001-01-01", -1, Unit::Day, "OutOfRange"),
+    ("day:9999-12-30:2", 1, Unit::Day, "OutOfRange"),
+    ("2014-04-05", i64::MIN, Unit::Day, "OutOfRange"),
+    ("2016-01-31", 1, Unit::Month, "2016-02-29"),
+    ("2015-01-31", 1, Unit::Month, "2015-02-28"),
+    ("2016-03-31", -1, Unit::Month, "2016-02-29"),
+    ("2016-02-29", 1, Unit::Year, "2017-02-28"),
+    ("day:2016-02-29:3", 4, Unit::Year, "day:2020-02-29:3"),
+    ("9999-12-31", 1, Unit::Month, "OutOfRange"),
+    ("day:9998-12-31:2", 1, Unit::Year, "OutOfRange"),
+    ("2014-04-05", 1, Unit::Eternity, "OutOfRange"),
 ];
 
 #[test]
@@ -159,7 +206,16 @@ fn offsets_go_by_units(rt: HostRuntime) -> Result<(), Fail> {
 const OUT: &str = "OutOfRange";
 
 /// This year, the first month, the last month, the last year, the year before it and the last three months of periods.
-const NAMED_MOVES: [(&str, &str, &str, &str, &str, &str, &str); 7] = [
+const NAMED_MOVES: [(&str, &str, &str, &str, &str, &str, &str); 8] = [
+    (
+        "day:2016-01-31:3",
+        "2016",
+        "2016-01",
+        "2015-12",
+        "2015",
+        "2014",
+        "month:2015-10:3",
+    ),
     (
         "2017-01",
         "2017",
@@ -220,6 +276,20 @@ fn named_moves_start_from_year_and_month(rt: HostRuntime) -> Result<(), Fail> {
 }
 
 #[test]
+fn the_first_day_is_that_of_the_start(rt: HostRuntime) -> Result<(), Fail> {
+    for (text, first) in [
+        ("2016-02", "2016-02-01"),
+        ("year:2010-04:2", "2010-04-01"),
+        ("day:2016-02-29:3", "2016-02-29"),
+        ("ETERNITY", OUT),
+    ] {
+        let day = Period::read(text)?.first_day();
+        assert_eq!(rt; told(rt.alloc(), day)?.as_str(), first, "{text}");
+    }
+    Ok(())
+}
+
+#[test]
 fn subperiods_stand_in_order_of_time(rt: HostRuntime) -> Result<(), Fail> {
     let table = [
         ("year:2010-04", Unit::Month, 12, "2010-04", "2011-03"),
@@ -227,6 +297,12 @@ fn subperiods_stand_in_order_of_time(rt: HostRuntime) -> Result<(), Fail> {
         ("year:2008-11:3", Unit::Year, 3, "2008", "2010"),
         ("month:2016-01:2", Unit::Month, 2, "2016-01", "2016-02"),
         ("year:8800:1200", Unit::Month, 14_400, "8800-01", "9999-12"),
+        ("2016-02", Unit::Day, 29, "2016-02-01", "2016-02-29"),
+        ("2015", Unit::Day, 365, "2015-01-01", "2015-12-31"),
+        ("year:2015-03", Unit::Day, 366, "2015-03-01", "2016-02-29"),
+        ("day:2016-02-28:3", Unit::Day, 3, "2016-02-28", "2016-03-01"),
+        ("9999-12", Unit::Day, 31, "9999-12-01", "9999-12-31"),
+        ("year:8800:1200", Unit::Day, 438_291, "8800-01-01", "9999-12-31"),
     ];
     for (text, unit, count, first, last) in table {
         let period = Period::read(text)?;
@@ -243,6 +319,10 @@ fn subperiods_stand_in_order_of_time(rt: HostRuntime) -> Result<(), Fail> {
         ("2014", Unit::Eternity),
         ("ETERNITY", Unit::Month),
         ("ETERNITY", Unit::Eternity),
+        ("ETERNITY", Unit::Day),
+        ("day:2016-01-01:31", Unit::Month),
+        ("day:2016-01-01:366", Unit::Year),
+        ("2016-01-01", Unit::Eternity),
     ] {
         let count = Period::read(text)?.sub_count(unit);
         assert_eq!(rt; count, Err(TimeFault::NoSubperiods), "{text}");
@@ -256,7 +336,17 @@ fn periods_tell_their_parts(rt: HostRuntime) -> Result<(), Fail> {
     assert_eq!(rt; years.unit(), Unit::Year);
     assert_eq!(rt; years.months(), Some(36));
     assert_eq!(rt; years.start(), Some(Instant::read("2010-04-01")?));
+    assert_eq!(rt; years.days(), Some(1096));
+    assert_eq!(rt; years.size(), Some(3));
+    let days = Period::read("day:2016-02-28:3")?;
+    assert_eq!(rt; days.unit(), Unit::Day);
+    assert_eq!(rt; days.months(), None);
+    assert_eq!(rt; days.days(), Some(3));
+    assert_eq!(rt; days.size(), Some(3));
+    assert_eq!(rt; days.start(), Some(Instant::new(2016, 2, 28)?));
     assert_eq!(rt; Period::ETERNITY.months(), None);
+    assert_eq!(rt; Period::ETERNITY.days(), None);
+    assert_eq!(rt; Period::ETERNITY.size(), None);
     assert_eq!(rt; Period::ETERNITY.start(), None);
     Ok(())
 }
@@ -264,13 +354,22 @@ fn periods_tell_their_parts(rt: HostRuntime) -> Result<(), Fail> {
 #[test]
 fn periods_are_compared_by_unit_start_and_size(rt: HostRuntime) -> Result<(), Fail> {
     for (text, other, overlaps, equal, before) in [
-        ("month:2010-01:12", "2010", true, false, false),
+        ("month:2010-01:12", "2010", true, false, true),
         ("year:2010-01", "2010", true, true, false),
         ("2010-12", "2011-01", false, false, true),
         ("month:2010-12:2", "2011", true, false, true),
         ("2010-12", "2011", false, false, true),
-        ("ETERNITY", "0001-01", true, false, true),
-        ("9999-12", "eternity", true, false, false),
+        ("ETERNITY", "0001-01", true, false, false),
+        ("9999-12", "eternity", true, false, true),
+        ("2010-12-31", "2010-12", true, false, true),
+        ("2010-12-31", "2011", false, false, true),
+        ("day:2010-12-31:2", "2011", true, false, true),
+        ("2016-02-29", "2016-03", false, false, true),
+        ("2016-02", "day:2016-01-30:3", true, false, false),
+        ("2016-02-29", "day:2016-02-28:2", true, false, false),
+        ("2016-02-29", "day:2016-02-29:2", true, false, true),
+        ("day:2016-02-28:1", "2016-02-29", false, false, true),
+        ("2016-02-29", "ETERNITY", true, false, true),
     ] {
         let period = Period::read(text)?;
         let other = Period::read(other)?;
@@ -329,6 +428,30 @@ fn instants_are_days_of_the_calendar(rt: HostRuntime) -> Result<(), Fail> {
     assert!(rt; Instant::read("2015-12-31")? < Instant::read("2016-01-01")?);
     assert!(rt; Instant::read("2016-01-31")? < Instant::read("2016-02-01")?);
     Ok(())
+}
+
+#[test]
+fn instants_are_made_of_their_parts(rt: HostRuntime) -> Result<(), Fail> {
+    assert_eq!(rt; Instant::new(2016, 2, 29)?, Instant::read("2016-02-29")?);
+    for (year, month, day) in [
+        (2015, 2, 29),
+        (0, 1, 1),
+        (10_000, 1, 1),
+        (2015, 0, 1),
+        (2015, 13, 1),
+        (2015, 1, 0),
+        (65_535, 255, 255),
+    ] {
+        assert_eq!(rt; Instant::new(year, month, day), Err(TimeFault::OutOfRange));
+    }
+    Ok(())
+}
+
+#[test]
+fn the_smaller_unit_is_the_lesser(rt: HostRuntime) {
+    assert!(rt; Unit::Day < Unit::Month);
+    assert!(rt; Unit::Month < Unit::Year);
+    assert!(rt; Unit::Year < Unit::Eternity);
 }
 
 #[test]

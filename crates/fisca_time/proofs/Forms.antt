@@ -6,17 +6,21 @@ use Rattle.std.specs.Str.Parse.{digits_value}
 use Rattle.std.specs.Option.{option_map}
 use Rattle.std.proofs.lemmas.Bool.{cases_lt, and_right, lt-leb}
 use Rattle.std.proofs.lemmas.List.Splits.{length-slice_split}
-use Rattle.fisca_time.specs.Instant.{is_between}
-use Rattle.fisca_time.specs.PeriodText.{start_of_text, start_of_pieces, unit_named, form_in, form_of_start, form_of_pieces, is_size_text, with_size, with_limit, period_of_form, period_if_written}
+use Rattle.fisca_time.specs.Instant.{is_between, is_on_calendar}
+use Rattle.fisca_time.specs.PeriodText.{start_of_text, start_of_pieces, unit_named, form_in, form_of_start, form_of_pieces, is_size_text, with_size, with_limit, date_in, period_of_form, period_if_written}
 use Rattle.fisca_time.specs.Pieces.{pieces}
 use Rattle.fisca_time.specs.declared.fault.TimeFault.TheVariants.{OutOfRange}
 use Rattle.fisca_time.specs.declared.form.Form.{Form}
 use Rattle.fisca_time.specs.declared.unit.Unit.{Unit}
-use Rattle.fisca_time.proofs.Splits.{start_of_pieces-month, form_of_pieces-size}
+use Rattle.fisca_time.proofs.Splits.{start_of_pieces-day, form_of_pieces-size}
 
--- a start of a year and a month
-pub start_of_text-month : (text year month : List ℕ) → pieces 45 text ≡ year ∷ pieces 45 month → start_of_text text ≡ start_of_pieces (year ∷ month ∷ [])
-start_of_text-month text year month parts = rw parts (start_of_pieces-month year month)
+-- a start of a year and a month, and of a year, a month and a day
+pub start_of_text-month : (text year rest : List ℕ) → pieces 45 text ≡ year ∷ pieces 45 rest → pieces 45 rest ≡ rest ∷ [] → start_of_text text ≡ start_of_pieces (year ∷ rest ∷ [])
+start_of_text-month text year rest parts none = rw (parts, none) refl
+
+pub start_of_text-day : (text year rest month day : List ℕ) → pieces 45 text ≡ year ∷ pieces 45 rest → pieces 45 rest ≡ month ∷ pieces 45 day
+    → start_of_text text ≡ start_of_pieces (year ∷ month ∷ day ∷ [])
+start_of_text-day text year rest month day parts more = rw (parts, more) (start_of_pieces-day year month day)
 
 -- a unit, a start and a size
 pub form_of_text-size : (text word rest start size : List ℕ) → pieces 58 text ≡ word ∷ pieces 58 rest → pieces 58 rest ≡ start ∷ pieces 58 size
@@ -49,7 +53,7 @@ sized_form word start size unit lone form n u l f is e = rw (is, ← u, ← l, �
 too_large : (form : Form) → 1200 < form.size → period_of_form form ≡ Err OutOfRange
 too_large form large =
     let outside = and_right (leb 1 form.size) (leb form.size 1200) (lt-leb form.size 1200 large) in
-    rw (and_right (is_between 1 12 form.month) (is_between 1 1200 form.size) outside) refl
+    rw (and_right (is_on_calendar (date_in form)) (is_between 1 1200 form.size) outside) refl
 
 -- a limit above the largest size does not change what is a period
 limited_form : (form : Form) → period_of_form (with_limit 10_000 form) ≡ period_of_form form

@@ -1,7 +1,10 @@
+mod Days
 mod Forms
+mod Laws
 mod Numerals
 mod ReadBack
 mod Shortest
 mod Spans
 mod Splits
 mod Texts
+mod Worked

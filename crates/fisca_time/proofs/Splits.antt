@@ -9,7 +9,7 @@ use Rattle.std.proofs.lemmas.Bool.Decides.{nat_tests}
 use Rattle.std.proofs.lemmas.List.Splits.{slice_split_none, slice_split_first, join_with_byte-slice_split, length-slice_split}
 use Rattle.std.proofs.lemmas.List.Sums.{fails_before_first}
 use Rattle.fisca_time.specs.Instant.{date_of_pieces}
-use Rattle.fisca_time.specs.PeriodText.{start_of_pieces, form_of_pieces, is_month_text, is_size_text}
+use Rattle.fisca_time.specs.PeriodText.{start_of_pieces, form_of_pieces, is_short_numeral, is_size_text}
 use Rattle.fisca_time.specs.Pieces.{pieces, is_numeral}
 
 -- no separator: the one piece is the text
@@ -49,7 +49,7 @@ last_piece separator text test f other digits refuses single =
     refused (p ∷ []) joined some fails = refuses p (rw joined fails)
     refused (p ∷ q ∷ ps) joined some fails = single p q ps
 
--- the day of a date, the month of a start and the size of a period
+-- the day of a date, the day of a start and the size of a period
 pub date_of_pieces-day : (year month day : List ℕ) → date_of_pieces (year ∷ month ∷ pieces 45 day) ≡ date_of_pieces (year ∷ month ∷ day ∷ [])
 date_of_pieces-day year month day =
     last_piece 45 day (is_numeral 2) (λ ps. date_of_pieces (year ∷ month ∷ ps)) refl
@@ -57,17 +57,17 @@ date_of_pieces-day year month day =
     (λ p fails. rw (and_right (is_numeral 4 year && is_numeral 2 month) (is_numeral 2 p) fails) refl)
     (λ _ _ _. refl)
 
-month_digits : (month : List ℕ) → is_month_text month ≡ true → all_ascii_digits month ≡ true
-month_digits month passes =
-    elim (or_cases (is_numeral 1 month) (is_numeral 2 month) passes) [
-      | inl one ↦ (and_parts (eqb (length month) 1) (all_ascii_digits month) one).1
-      | inr two ↦ (and_parts (eqb (length month) 2) (all_ascii_digits month) two).1
+short_digits : (day : List ℕ) → is_short_numeral day ≡ true → all_ascii_digits day ≡ true
+short_digits day passes =
+    elim (or_cases (is_numeral 1 day) (is_numeral 2 day) passes) [
+      | inl one ↦ (and_parts (eqb (length day) 1) (all_ascii_digits day) one).1
+      | inr two ↦ (and_parts (eqb (length day) 2) (all_ascii_digits day) two).1
     ]
 
-pub start_of_pieces-month : (year month : List ℕ) → start_of_pieces (year ∷ pieces 45 month) ≡ start_of_pieces (year ∷ month ∷ [])
-start_of_pieces-month year month =
-    last_piece 45 month is_month_text (λ ps. start_of_pieces (year ∷ ps)) refl (month_digits month)
-    (λ p fails. rw (and_right (is_numeral 4 year) (is_month_text p) fails) refl)
+pub start_of_pieces-day : (year month day : List ℕ) → start_of_pieces (year ∷ month ∷ pieces 45 day) ≡ start_of_pieces (year ∷ month ∷ day ∷ [])
+start_of_pieces-day year month day =
+    last_piece 45 day is_short_numeral (λ ps. start_of_pieces (year ∷ month ∷ ps)) refl (short_digits day)
+    (λ p fails. rw (and_right (is_numeral 4 year && is_short_numeral month) (is_short_numeral p) fails) refl)
     (λ _ _ _. refl)
 
 pub form_of_pieces-size : (word start size : List ℕ) → form_of_pieces (word ∷ start ∷ pieces 58 size) ≡ form_of_pieces (word ∷ start ∷ size ∷ [])

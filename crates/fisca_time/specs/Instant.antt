@@ -3,7 +3,7 @@ use Rattle.std.specs.Prelude.{ℕ, pos, Bool, ◌&&◌, nat_le, if◌then◌else
 use Rattle.std.specs.Ordering.{nat_cmp, on, then_cmp}
 use Rattle.std.specs.Str.Parse.{digits_value}
 use Rattle.std.specs.declared.cmp.Ordering.{Ordering}
-use Rattle.jiff.specs.Words.{days_in_month}
+use Rattle.jiff_core.specs.Calendar.{days_in_month}
 use Rattle.fisca_time.specs.Pieces.{pieces, is_numeral}
 use Rattle.fisca_time.specs.declared.fault.TimeFault.{TimeFault}
 use Rattle.fisca_time.specs.declared.fault.TimeFault.TheVariants.{BadText, OutOfRange}

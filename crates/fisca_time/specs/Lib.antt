@@ -1,4 +1,6 @@
+pub mod Calendar
 pub mod Instant
+pub mod Kept
 pub mod Period
 pub mod PeriodText
 pub mod Pieces

@@ -1,7 +1,7 @@
 ghost use Rattle.std.specs.Prelude.{◌≡◌, ◌≢◌, ◌<◌, min, true, false, IfSome, MatchOption, option_map, if◌then◌else◌};
 ghost use Rattle.std.specs.Str.Parse.{digits_value};
 ghost use Rattle.fisca_time.specs.Pieces.{pieces};
-ghost use Rattle.fisca_time.specs.PeriodText.{start_of_text, unit_named, form_in, form_of_pieces, with_limit, is_month_text, is_size_text};
+ghost use Rattle.fisca_time.specs.PeriodText.{start_of_text, unit_named, form_in, form_of_pieces, with_limit, is_short_numeral, is_size_text};
 
 use crate::Unit;
 use crate::pieces::{TOO_LARGE, number_of, numeral, split};
@@ -12,6 +12,7 @@ pub(crate) struct Form {
     pub unit: Unit,
     pub year: u32,
     pub month: u32,
+    pub day: u32,
     pub size: u32,
 }
 
@@ -21,6 +22,7 @@ pub(crate) fn written_period(text: &str) -> Option<Form>
     ensures unit { IfSome result (λ form. form.unit ≢ Unit.Eternity) }
     ensures year { IfSome result (λ form. form.year < 10_000) }
     ensures month { IfSome result (λ form. form.month < 100) }
+    ensures day { IfSome result (λ form. form.day < 100) }
 {
     let Some((word, rest)) = split(text, ':') else {
         return written_start(text);
@@ -34,36 +36,45 @@ pub(crate) fn written_period(text: &str) -> Option<Form>
     Some(Form { size, ..form })
 }
 
-/// A year, or a month of a year.
+/// A year, a month of a year, or a day of a month.
 fn written_start(text: &str) -> Option<Form>
     ensures form { result ≡ start_of_text text.now }
     ensures unit { IfSome result (λ form. form.unit ≢ Unit.Eternity) }
     ensures year { IfSome result (λ form. form.year < 10_000) }
     ensures month { IfSome result (λ form. form.month < 100) }
+    ensures day { IfSome result (λ form. form.day < 100) }
     ensures size { IfSome result (λ form. form.size ≡ 1) }
 {
-    let Some((year, month)) = split(text, '-') else {
+    let Some((year, rest)) = split(text, '-') else {
         let year = numeral(4, text)?;
-        return Some(Form {
-            unit: Unit::Year,
-            year,
-            month: 1,
-            size: 1,
-        });
+        return Some(start_in(Unit::Year, year, 1, 1));
     };
     let year = numeral(4, year)?;
-    let month = written_month(month)?;
-    Some(Form {
-        unit: Unit::Month,
-        year,
-        month,
-        size: 1,
-    })
+    let Some((month, day)) = split(rest, '-') else {
+        let month = short_numeral(rest)?;
+        return Some(start_in(Unit::Month, year, month, 1));
+    };
+    let month = short_numeral(month)?;
+    let day = short_numeral(day)?;
+    Some(start_in(Unit::Day, year, month, day))
 }
 
-fn written_month(text: &str) -> Option<u32>
-    ensures value { result ≡ (if is_month_text text.now then Some (digits_value 10 text.now) else None) }
-    ensures bound { IfSome result (λ month. month < 100) }
+fn start_in(unit: Unit, year: u32, month: u32, day: u32) -> Form
+    ensures { result ≡ record { unit = unit; year = year; month = month; day = day; size = 1 } }
+{
+    Form {
+        unit,
+        year,
+        month,
+        day,
+        size: 1,
+    }
+}
+
+/// A month or a day, in one digit or two.
+fn short_numeral(text: &str) -> Option<u32>
+    ensures value { result ≡ (if is_short_numeral text.now then Some (digits_value 10 text.now) else None) }
+    ensures bound { IfSome result (λ n. n < 100) }
 {
     numeral(1, text).or(numeral(2, text))
 }
@@ -75,6 +86,7 @@ fn named_unit(word: &str) -> Option<Unit>
     match word {
         "year" => Some(Unit::Year),
         "month" => Some(Unit::Month),
+        "day" => Some(Unit::Day),
         _ => None,
     }
 }
@@ -84,9 +96,9 @@ fn under_unit(unit: Unit, start: Form) -> Option<Form>
     ensures { result ≡ form_in unit start }
 {
     match unit {
-        Unit::Year => Some(Form { unit, ..start }),
-        Unit::Month if start.unit == Unit::Month => Some(start),
-        _ => None,
+        Unit::Year if start.unit != Unit::Day => Some(Form { unit, ..start }),
+        Unit::Month | Unit::Day if start.unit == unit => Some(start),
+        Unit::Day | Unit::Month | Unit::Year | Unit::Eternity => None,
     }
 }
 

@@ -1,12 +1,16 @@
-ghost use Rattle.std.specs.Prelude.{◌≡◌, ◌<◌, ◌≤◌, ◌+◌, ◌/◌, ◌%◌, IsTrue, IfSome, option_map};
+ghost use Rattle.std.specs.Prelude.{◌≡◌, ◌<◌, ◌≤◌, pos, ◌≤ℤ◌, unsigned_abs, IsTrue, IfSome, option_map};
+ghost use Rattle.fisca_time.specs.Calendar.{first_of_month, day_in_month, month_number, day_number, date_of, first_day, end_day};
 ghost use Rattle.fisca_time.specs.Instant.{is_on_calendar, date_of_pieces, instant_if_real, instant_of_text};
 ghost use Rattle.fisca_time.specs.Pieces.{pieces};
 
 use crate::TimeFault;
 use crate::pieces::{numeral, split};
-use jiff::civil::Date;
+use jiff_core::civil::{Date, days_in_month};
 use std::cmp::Ordering;
 use std::marker::Model;
+
+/// The number of the first date that `jiff` has, -9999-01-01: it counts from a year before it.
+const FIRST_DATE: u32 = 366;
 
 /// A day of the calendar, from 0001-01-01 to 9999-12-31. Instants are ordered by time.
 #[derive(Clone, Copy, Debug, PartialEq, Eq, Hash)]
@@ -77,41 +81,90 @@ impl Instant {
         ensures { result ≡ instant_of_text text.now }
     {
         match written_date(text) {
-            Some((year, month, day)) => Instant::on_calendar(year, month, day),
+            Some((year, month, day)) => Instant::new(year as u16, month as u8, day as u8),
             None => Err(TimeFault::BadText),
         }
     }
 
-    fn on_calendar(year: u32, month: u32, day: u32) -> Result<Instant, TimeFault>
-        requires year { year < 10_000 }
-        requires month { month < 100 }
-        requires day { day < 100 }
+    /// The instant with that year, month and day of the month. `OutOfRange` where the calendar lacks
+    /// the day, or the year is not from 1 to 9999.
+    pub fn new(year: u16, month: u8, day: u8) -> Result<Instant, TimeFault>
         ensures { result ≡ instant_if_real (Some (record { year = year; month = month; day = day })) }
     {
-        if year == 0 {
+        let is_month = year >= 1 && year <= 9999 && month >= 1 && month <= 12;
+        if !is_month || day < 1 || day > days_in_month(year as i16, month) {
             return Err(TimeFault::OutOfRange);
         }
-        match Date::new(year as i16, month as i8, day as i8) {
-            Ok(_) => Ok(Instant {
-                year: year as u16,
-                month: month as u8,
-                day: day as u8,
-            }),
-            Err(_) => Err(TimeFault::OutOfRange),
-        }
+        Ok(Instant { year, month, day })
     }
 
     /// The first day of a month, which is numbered from January of the year 0 on.
     pub(crate) fn first_of(month: u32) -> Instant
         requires from { 12 ≤ month }
         requires to { month < 120_000 }
-        ensures { result ≡ record { year = month / 12; month = month % 12 + 1; day = 1 } }
+        ensures { result ≡ first_of_month month }
     {
         Instant {
             year: (month / 12) as u16,
             month: (month % 12 + 1) as u8,
             day: 1,
         }
+    }
+
+    /// That day of a month, or its last one where the month is too short.
+    pub(crate) fn in_month(day: u8, month: u32) -> Instant
+        requires some { 1 ≤ day }
+        requires from { 12 ≤ month }
+        requires to { month < 120_000 }
+        ensures { result ≡ day_in_month day month }
+    {
+        let date = Date::constrain((month / 12) as i16, (month % 12 + 1) as u8, day);
+        Instant::of_date(date)
+    }
+
+    /// The date of a day, which is numbered as `jiff` counts days.
+    pub(crate) fn of_day(day: u32) -> Instant
+        requires from { first_day ≤ day }
+        requires to { day < end_day }
+        ensures { result ≡ date_of day }
+    {
+        Instant::of_date(Date::from_days_since_min(day - FIRST_DATE))
+    }
+
+    fn of_date(date: Date) -> Instant
+        requires { pos 1 ≤ℤ date.year }
+        ensures value { result.year ≡ unsigned_abs date.year }
+        ensures month { result.month ≡ date.month }
+        ensures day { result.day ≡ date.day }
+    {
+        Instant {
+            year: date.year as u16,
+            month: date.month,
+            day: date.day,
+        }
+    }
+
+    /// The number of the month that the day lies in, from January of the year 0 on.
+    pub(crate) fn month_number(self) -> u32
+        ensures value { result ≡ month_number self }
+        ensures from { 12 ≤ result }
+        ensures to { result < 120_000 }
+    {
+        12 * u32::from(self.year) + (u32::from(self.month) - 1)
+    }
+
+    /// The number of the day, as `jiff` counts them.
+    pub(crate) fn day_number(self) -> u32
+        ensures value { result ≡ day_number self }
+        ensures from { first_day ≤ result }
+        ensures to { result < end_day }
+    {
+        let date = Date {
+            year: self.year as i16,
+            month: self.month,
+            day: self.day,
+        };
+        date.days_since_min() + FIRST_DATE
     }
 
     /// The year, from 1 to 9999.

@@ -1,11 +1,15 @@
-ghost use Rattle.std.specs.Prelude.{◌≡◌, ◌≢◌, ◌<◌, ◌≤◌, ◌*◌, ◌↔◌, [], length, slice_get, IfOk, IfErr, IsTrue, string_bytes, if◌then◌else◌};
-ghost use Rattle.fisca_time.specs.Period.{eternity, is_period, is_eternal, months_of, start_of, span_from, moved_by, this_year_of, first_month_of, last_month_of, last_year_of, n_2_of, last_3_months_of, subs, Overlaps};
+ghost use Rattle.std.specs.Prelude.{◌≡◌, ◌≢◌, ◌<◌, ◌≤◌, ◌+◌, ◌*◌, ◌||◌, ◌↔◌, [], length, slice_get, IfSome, IfOk, IfErr, IsTrue, string_bytes, if◌then◌else◌};
+ghost use Rattle.fisca_time.specs.Calendar.{first_day, end_day};
+ghost use Rattle.fisca_time.specs.Unit.{is_month, is_year};
+ghost use Rattle.fisca_time.specs.Period.{eternity, is_period, is_eternal, is_of_months, unit_of, first_of, size_of, months_of, days_of, month_start, month_of, start_day, stop_day, start_of, months_from, days_from, days_from_month, months_moved, days_moved, moved_by, later_month, day_at, month_at, year_at, this_year_of, first_month_of, first_day_of, last_month_of, last_year_of, n_2_of, last_3_months_of, subs, Overlaps};
 ghost use Rattle.fisca_time.specs.PeriodText.{period_of_form, period_of_text, text_of, IsShortest};
 
 use crate::form::{Form, written_period};
+use crate::text::{written_days, written_months, written_years};
 use crate::unit::months_in;
 use crate::{Instant, TimeFault, Unit};
 use std::alloc::{AllocError, Global};
+use std::cmp::Ordering;
 use std::marker::Model;
 
 /// The month before which no period starts, 0001-01. Months are numbered from January of year 0.
@@ -14,14 +18,22 @@ const FIRST_MONTH: u32 = 12;
 /// The month after the last one of all periods, 9999-12.
 const END_MONTH: u32 = 120_000;
 
+/// The day before which no period starts, 0001-01-01, as `jiff` counts days.
+const FIRST_DAY: u32 = 3_652_791;
+
+/// The day after the last one of all periods, 9999-12-31.
+const END_DAY: u32 = 7_304_850;
+
 /// The largest size of a period.
 const LARGEST_SIZE: u32 = 1_200;
 
-/// Eternity, or a size counted in months or years from the first of a month on, between 0001-01
-/// and 9999-12, as in the OpenFisca documentation. Periods are equal when unit, first month and
-/// size are, and ordered by first month, then size, then unit, with eternity first.
-#[derive(Clone, Copy, Debug, PartialEq, Eq, PartialOrd, Ord, Hash)]
+/// Eternity, a size counted in months or years from the first of a month on, or a size counted in
+/// days from a day on, between 0001-01-01 and 9999-12-31, as in the OpenFisca documentation.
+/// Periods are equal when unit, start and size are, and ordered by unit, the smaller first, then by
+/// start, then by size.
+#[derive(Clone, Copy, Debug, PartialEq, Eq, Hash)]
 pub struct Period {
+    /// The number of the first month, and for days of the first day.
     first: u32,
     size: u16,
     unit: Unit,
@@ -29,15 +41,56 @@ pub struct Period {
 
 impl Model for Period {
     ghost use Rattle.std.specs.Prelude.{IsTrue};
-    ghost use Rattle.fisca_time.specs.Period.{Span, is_period};
+    ghost use Rattle.fisca_time.specs.Period.{Span};
 
     ghost Value = { Span };
 
-    ghost view = { λ p. record { unit = p.unit; first = p.first; size = p.size } };
+    ghost use Rattle.fisca_time.specs.Kept.{span_of, is_kept, kept_of, kept_back};
 
-    ghost invariant = { λ p. IsTrue (is_period (record { unit = p.unit; first = p.first; size = p.size })) };
+    ghost view = { λ p. span_of p.unit p.first p.size };
 
-    ghost inverse = { λ p. record { unit = p.unit; first = p.first; size = p.size } };
+    ghost invariant = { λ p. IsTrue (is_kept p.unit p.first p.size) };
+
+    ghost inverse = { kept_of };
+
+    ghost inverse_ok = { kept_back };
+}
+
+impl Ord for Period {
+    ghost use Rattle.std.proofs.Common.{rules};
+    ghost use Rattle.std.specs.Cmp.Rules.{comparing};
+    ghost use Rattle.fisca_time.specs.Period.{span_cmp};
+
+    ghost cmp = { span_cmp };
+
+    ghost total = { Prim.search (comparing, rules) };
+
+    ghost matches_partial_cmp = { Prim.search (comparing, rules) };
+
+    ghost matches_eq = { Prim.search (comparing, rules) };
+
+    fn cmp(&self, other: &Period) -> Ordering {
+        let unit = self.unit.cmp(&other.unit);
+        let first = self.first.cmp(&other.first);
+        let size = self.size.cmp(&other.size);
+        unit.then(first.then(size))
+    }
+}
+
+impl PartialOrd for Period {
+    ghost use Rattle.std.proofs.Common.{rules};
+    ghost use Rattle.std.specs.Cmp.{partial_order_from_own_ties};
+    ghost use Rattle.std.specs.Cmp.Rules.{comparing};
+    ghost use Rattle.std.specs.Ordering.{as_partial_cmp};
+    ghost use Rattle.fisca_time.specs.Period.{span_cmp};
+
+    ghost partial_cmp = { as_partial_cmp span_cmp };
+
+    ghost laws = { partial_order_from_own_ties (Prim.search (comparing, rules)) (Prim.search (comparing, rules)) };
+
+    fn partial_cmp(&self, other: &Period) -> Option<Ordering> {
+        Some(self.cmp(other))
+    }
 }
 
 impl Period {
@@ -49,12 +102,14 @@ impl Period {
     };
 
     /// The period that a text names, in the forms of the OpenFisca documentation: `2010` is a year,
-    /// `2010-04` a month, `year:2010-04` the year from April 2010, `year:2010:3` three years,
-    /// `month:2010-04:3` three months, and `ETERNITY` or `eternity` is all of time. Years have four
-    /// digits, months one or two, and sizes any number of them.
+    /// `2010-04` a month, `2010-04-05` a day, `year:2010-04` the year from April 2010, `year:2010:3`
+    /// three years, `month:2010-04:3` three months, `day:2010-04-05:3` three days, and `ETERNITY` or
+    /// `eternity` is all of time. Years have four digits, months and days one or two, and sizes any
+    /// number of them.
     ///
-    /// Any other text is `BadText`. In one of these forms, the year 0000, a month outside 1 to 12, a
-    /// size outside 1 to 1,200 and a last month after 9999-12 are `OutOfRange`.
+    /// Any other text is `BadText`. In one of these forms, a start that is no day of the calendar in
+    /// the years 1 to 9999, a size outside 1 to 1,200 and a last day after 9999-12-31 are
+    /// `OutOfRange`.
     pub fn read(text: &str) -> Result<Period, TimeFault>
         ensures { result ≡ period_of_text text.now }
     {
@@ -71,18 +126,24 @@ impl Period {
         requires unit { form.unit ≢ Unit.Eternity }
         requires year { form.year < 10_000 }
         requires month { form.month < 100 }
+        requires day { form.day < 100 }
         ensures { result ≡ period_of_form form }
     {
-        if form.month < 1 || form.month > 12 || form.size < 1 || form.size > LARGEST_SIZE {
+        let start = Instant::new(form.year as u16, form.month as u8, form.day as u8)?;
+        if form.size < 1 || form.size > LARGEST_SIZE {
             return Err(TimeFault::OutOfRange);
         }
-        let first = 12 * form.year + (form.month - 1);
-        Period::from_month(form.unit, form.size as u16, i128::from(first))
+        let size = form.size as u16;
+        if form.unit == Unit::Day {
+            Period::from_day(size, i128::from(start.day_number()))
+        } else {
+            Period::from_month(form.unit, size, i128::from(start.month_number()))
+        }
     }
 
-    /// The shortest text that reads as this period in its own unit, with months in two digits:
-    /// `2010`, `2010-04`, `year:2010-04`, `year:2010:3`, `month:2010-04:3`, `ETERNITY`. `Memory` only
-    /// where none is left.
+    /// The shortest text that reads as this period in its own unit, with months and days in two
+    /// digits: `2010`, `2010-04`, `2010-04-05`, `year:2010-04`, `year:2010:3`, `month:2010-04:3`,
+    /// `day:2010-04-05:3`, `ETERNITY`. `Memory` only where none is left.
     pub fn text(self, alloc: Global) -> Result<String, TimeFault>
         ensures value { IfOk result (λ text. string_bytes text ≡ text_of self) }
         ensures reads_back { IfOk result (λ text. period_of_text (string_bytes text) ≡ Ok self) }
@@ -96,44 +157,53 @@ impl Period {
         ensures value { IfOk result (λ text. string_bytes text ≡ text_of self) }
         ensures period { IsTrue (is_period self) }
     {
-        let (year, month, size) = (self.first / 12, self.first % 12 + 1, self.size);
-        match (self.unit, month, size) {
-            (Unit::Eternity, ..) => String::from_str(alloc, "ETERNITY"),
-            (Unit::Month, _, 1) => format!(in alloc; "{year:04}-{month:02}"),
-            (Unit::Month, ..) => format!(in alloc; "month:{year:04}-{month:02}:{size}"),
-            (Unit::Year, 1, 1) => format!(in alloc; "{year:04}"),
-            (Unit::Year, 1, _) => format!(in alloc; "year:{year:04}:{size}"),
-            (Unit::Year, _, 1) => format!(in alloc; "year:{year:04}-{month:02}"),
-            (Unit::Year, ..) => format!(in alloc; "year:{year:04}-{month:02}:{size}"),
+        match self.unit {
+            Unit::Day => written_days(alloc, Instant::of_day(self.first), self.size),
+            Unit::Month => written_months(alloc, self.first, self.size),
+            Unit::Year => written_years(alloc, self.first, self.size),
+            Unit::Eternity => String::from_str(alloc, "ETERNITY"),
         }
     }
 
-    /// The day on which the period starts, the first of a month. `None` for eternity.
+    /// The day on which the period starts: for months and years the first of a month. `None` for
+    /// eternity.
     pub fn start(self) -> Option<Instant>
         ensures { result ≡ start_of self }
     {
-        if self.unit == Unit::Eternity {
-            return None;
+        match self.unit {
+            Unit::Day => Some(Instant::of_day(self.first)),
+            Unit::Month | Unit::Year => Some(Instant::first_of(self.first)),
+            Unit::Eternity => None,
         }
-        Some(Instant::first_of(self.first))
     }
 
     /// What the size is counted in.
     pub fn unit(self) -> Unit
-        ensures value { result ≡ self.unit }
+        ensures value { result ≡ unit_of self }
         ensures period { IsTrue (is_period self) }
     {
         self.unit
     }
 
-    /// The number of months, 1 to 14,400. `None` for eternity.
-    pub fn months(self) -> Option<u32>
-        ensures value { result ≡ (if is_eternal self then None else Some (months_of self)) }
+    /// How many of its unit the period has, 1 to 1,200. `None` for eternity.
+    pub fn size(self) -> Option<u32>
+        ensures value { result ≡ (if is_eternal self then None else Some (size_of self)) }
         ensures period { IsTrue (is_period self) }
     {
         match self.unit {
+            Unit::Day | Unit::Month | Unit::Year => Some(u32::from(self.size)),
             Unit::Eternity => None,
-            _ => Some(self.month_count()),
+        }
+    }
+
+    /// The number of months, 1 to 14,400. `None` for days and for eternity.
+    pub fn months(self) -> Option<u32>
+        ensures value { result ≡ (if is_of_months self then Some (months_of self) else None) }
+        ensures period { IsTrue (is_period self) }
+    {
+        match self.unit {
+            Unit::Month | Unit::Year => Some(self.month_count()),
+            Unit::Day | Unit::Eternity => None,
         }
     }
 
@@ -143,9 +213,65 @@ impl Period {
         u32::from(months_in(self.unit)) * u32::from(self.size)
     }
 
-    /// How many subperiods by that unit there are: a month or year period has its months, a year
-    /// period its years. `NoSubperiods` for all others: years of a month period, subperiods by
-    /// eternity and any of eternity.
+    /// The number of days, 1 to 438,291. `None` for eternity.
+    pub fn days(self) -> Option<u32>
+        ensures value { result ≡ (if is_eternal self then None else Some (days_of self)) }
+        ensures period { IsTrue (is_period self) }
+    {
+        let (first, end) = self.day_range()?;
+        Some(end - first)
+    }
+
+    /// The numbers of the first day and of the day after the last one. `None` for eternity.
+    fn day_range(self) -> Option<(u32, u32)>
+        ensures value { result ≡ (if is_eternal self then None else Some (record { 0 = start_day self; 1 = stop_day self })) }
+        ensures order { IfSome result (λ range. range.0 < range.1) }
+        ensures period { IsTrue (is_period self) }
+    {
+        match self.unit {
+            Unit::Day | Unit::Month | Unit::Year => Some((self.start_day(), self.stop_day())),
+            Unit::Eternity => None,
+        }
+    }
+
+    /// The number of the first day, and 0 for eternity.
+    fn start_day(self) -> u32
+        ensures value { result ≡ start_day self }
+        ensures period { IsTrue (is_period self) }
+    {
+        match self.unit {
+            Unit::Day => self.first,
+            Unit::Month | Unit::Year => month_start(self.first),
+            Unit::Eternity => 0,
+        }
+    }
+
+    /// The number of the day after the last one, and 0 for eternity.
+    fn stop_day(self) -> u32
+        ensures { result ≡ stop_day self }
+    {
+        match self.unit {
+            Unit::Day => self.first + u32::from(self.size),
+            Unit::Month | Unit::Year => month_start(self.first + self.month_count()),
+            Unit::Eternity => 0,
+        }
+    }
+
+    /// The numbers of the first month and of the month after the last one. `None` for days and for
+    /// eternity.
+    fn month_range(self) -> Option<(u32, u32)>
+        ensures value { result ≡ (if is_of_months self then Some (record { 0 = first_of self; 1 = first_of self + months_of self }) else None) }
+        ensures period { IsTrue (is_period self) }
+    {
+        match self.unit {
+            Unit::Month | Unit::Year => Some((self.first, self.first + self.month_count())),
+            Unit::Day | Unit::Eternity => None,
+        }
+    }
+
+    /// How many subperiods by that unit there are: each period but eternity has its days, a month or
+    /// year period its months, a year period its years. `NoSubperiods` for all others: years of a
+    /// month period, months and years of a day period, subperiods by eternity and any of eternity.
     pub fn sub_count(self, unit: Unit) -> Result<u32, TimeFault>
         ensures count { IfOk result (λ count. (count ≡ length (subs self unit)) × (0 < count)) }
         ensures none { IfErr result (λ fault. (fault ≡ TimeFault.NoSubperiods) × (subs self unit ≡ [])) }
@@ -160,10 +286,11 @@ impl Period {
         ensures { result ≡ length (subs self unit) }
     {
         match (unit, self.unit) {
-            // Eternity is not counted in months and has 0.
+            (Unit::Day, _) => self.stop_day() - self.start_day(),
+            // Days and eternity are not counted in months and have 0.
             (Unit::Month, _) => self.month_count(),
             (Unit::Year, Unit::Year) => u32::from(self.size),
-            _ => 0,
+            (Unit::Year, Unit::Day | Unit::Month | Unit::Eternity) | (Unit::Eternity, _) => 0,
         }
     }
 
@@ -173,55 +300,62 @@ impl Period {
         ensures { slice_get (subs self unit) i ≡ Some result }
     {
         match unit {
-            Unit::Month => Period {
-                first: self.first + i,
-                size: 1,
-                unit,
-            },
-            _ => Period {
-                first: 12 * (self.first / 12 + i),
-                size: 1,
-                unit: Unit::Year,
-            },
+            Unit::Day => day_at(self.start_day() + i),
+            Unit::Month => month_at(self.first + i),
+            Unit::Year => year_at(self.first / 12 + i),
+            Unit::Eternity => unreachable!(),
         }
     }
 
-    /// Whether the two share a month. Eternity overlaps every period.
+    /// Whether the two share a day. Eternity overlaps every period.
     pub fn overlaps(self, other: &Period) -> bool
         ensures { IsTrue result ↔ Overlaps self other.now }
     {
-        let (Some(months), Some(other_months)) = (self.months(), other.months()) else {
+        // The days of two rows of months need not be worked out.
+        if let (Some(ours), Some(theirs)) = (self.month_range(), other.month_range()) {
+            return meet(ours, theirs);
+        }
+        let (Some(ours), Some(theirs)) = (self.day_range(), other.day_range()) else {
             return true;
         };
-        self.first < other.first + other_months && other.first < self.first + months
+        meet(ours, theirs)
+    }
+
+    /// The number of the month in which the period starts. `OutOfRange` for eternity.
+    fn start_month(self) -> Result<u32, TimeFault>
+        ensures value { result ≡ (if is_eternal self then Err TimeFault.OutOfRange else Ok (month_of self)) }
+        ensures from { IfOk result (λ month. 12 ≤ month) }
+        ensures to { IfOk result (λ month. month < 120_000) }
+    {
+        match self.unit {
+            Unit::Day => Ok(Instant::of_day(self.first).month_number()),
+            Unit::Month | Unit::Year => Ok(self.first),
+            Unit::Eternity => Err(TimeFault::OutOfRange),
+        }
     }
 
     /// The calendar year of the start. `OutOfRange` for eternity.
     pub fn this_year(self) -> Result<Period, TimeFault>
         ensures { result ≡ this_year_of self }
     {
-        if self.unit == Unit::Eternity {
-            return Err(TimeFault::OutOfRange);
-        }
-        Ok(Period {
-            first: 12 * (self.first / 12),
-            size: 1,
-            unit: Unit::Year,
-        })
+        Ok(year_at(self.start_month()? / 12))
     }
 
     /// The month of the start. `OutOfRange` for eternity.
     pub fn first_month(self) -> Result<Period, TimeFault>
         ensures { result ≡ first_month_of self }
     {
-        if self.unit == Unit::Eternity {
-            return Err(TimeFault::OutOfRange);
+        Ok(month_at(self.start_month()?))
+    }
+
+    /// The day of the start. `OutOfRange` for eternity.
+    pub fn first_day(self) -> Result<Period, TimeFault>
+        ensures { result ≡ first_day_of self }
+    {
+        match self.unit {
+            Unit::Day | Unit::Month | Unit::Year => Ok(day_at(self.start_day())),
+            Unit::Eternity => Err(TimeFault::OutOfRange),
         }
-        Ok(Period {
-            first: self.first,
-            size: 1,
-            unit: Unit::Month,
-        })
     }
 
     /// The month before that of the start. `OutOfRange` for eternity and before 0001-01.
@@ -250,39 +384,75 @@ impl Period {
     pub fn last_3_months(self) -> Result<Period, TimeFault>
         ensures { result ≡ last_3_months_of self }
     {
-        if self.unit == Unit::Eternity {
-            return Err(TimeFault::OutOfRange);
-        }
-        Period::from_month(Unit::Month, 3, i128::from(self.first) - 3)
+        Period::from_month(Unit::Month, 3, i128::from(self.start_month()?) - 3)
     }
 
     /// The period with its start moved by `k` of its own unit, back for a negative `k`, and its
-    /// size kept. `OutOfRange` for eternity, and where it would leave 0001-01 to 9999-12.
+    /// size kept. `OutOfRange` for eternity, and where it would leave 0001-01-01 to 9999-12-31.
     pub fn offset(self, k: i64) -> Result<Period, TimeFault>
-        ensures { result ≡ moved_by k self.unit self }
+        ensures { result ≡ moved_by k (unit_of self) self }
     {
         self.offset_by(k, self.unit)
     }
 
     /// The period with its start moved by `k` of `unit`, back for a negative `k`, and its own unit
-    /// and size kept. `OutOfRange` for eternity, by eternity, and where it would leave 0001-01 to
-    /// 9999-12.
+    /// and size kept. A day that is moved by months or years keeps its place in the month or, where
+    /// the month is too short, becomes its last day. `OutOfRange` for eternity, by eternity, by days
+    /// of a month or year period, and where it would leave 0001-01-01 to 9999-12-31.
     pub fn offset_by(self, k: i64, unit: Unit) -> Result<Period, TimeFault>
         ensures { result ≡ moved_by k unit self }
     {
-        if self.unit == Unit::Eternity || unit == Unit::Eternity {
-            return Err(TimeFault::OutOfRange);
+        match self.unit {
+            Unit::Day => Period::days_moved(self.size, self.first, k, unit),
+            Unit::Month | Unit::Year => Period::months_moved(
+                self.unit, self.size, self.first, k, unit,
+            ),
+            Unit::Eternity => Err(TimeFault::OutOfRange),
         }
-        let moved = i128::from(k) * i128::from(months_in(unit));
-        Period::from_month(self.unit, self.size, i128::from(self.first) + moved)
+    }
+
+    fn months_moved(
+        own: Unit,
+        size: u16,
+        first: u32,
+        k: i64,
+        unit: Unit,
+    ) -> Result<Period, TimeFault>
+        requires counted { IsTrue (is_month own || is_year own) }
+        requires some { 1 ≤ size }
+        requires most { size ≤ 1200 }
+        ensures { result ≡ months_moved k unit own first size }
+    {
+        match unit {
+            Unit::Month | Unit::Year => Period::from_month(own, size, later_month(first, k, unit)),
+            Unit::Day | Unit::Eternity => Err(TimeFault::OutOfRange),
+        }
+    }
+
+    fn days_moved(size: u16, first: u32, k: i64, unit: Unit) -> Result<Period, TimeFault>
+        requires some { 1 ≤ size }
+        requires most { size ≤ 1200 }
+        requires from { first_day ≤ first }
+        requires to { first < end_day }
+        ensures { result ≡ days_moved k unit first size }
+    {
+        match unit {
+            Unit::Day => Period::from_day(size, i128::from(first) + i128::from(k)),
+            Unit::Month | Unit::Year => {
+                let start = Instant::of_day(first);
+                let month = later_month(start.month_number(), k, unit);
+                Period::from_day_in_month(size, start.day(), month)
+            }
+            Unit::Eternity => Err(TimeFault::OutOfRange),
+        }
     }
 
     /// The period of that unit and size from a month on.
     fn from_month(unit: Unit, size: u16, first: i128) -> Result<Period, TimeFault>
-        requires counted { unit ≢ Unit.Eternity }
+        requires counted { IsTrue (is_month unit || is_year unit) }
         requires some { 1 ≤ size }
         requires most { size ≤ 1200 }
-        ensures { result ≡ span_from unit size first }
+        ensures { result ≡ months_from unit size first }
     {
         let months = u32::from(months_in(unit)) * u32::from(size);
         if first < i128::from(FIRST_MONTH) || first > i128::from(END_MONTH - months) {
@@ -293,5 +463,98 @@ impl Period {
             size,
             unit,
         })
+    }
+
+    /// So many days from a day on.
+    fn from_day(size: u16, first: i128) -> Result<Period, TimeFault>
+        requires some { 1 ≤ size }
+        requires most { size ≤ 1200 }
+        ensures { result ≡ days_from size first }
+    {
+        if first < i128::from(FIRST_DAY) || first > i128::from(END_DAY - u32::from(size)) {
+            return Err(TimeFault::OutOfRange);
+        }
+        Ok(Period {
+            first: first as u32,
+            size,
+            unit: Unit::Day,
+        })
+    }
+
+    /// So many days from that day of a month on, or from its last one where it is too short.
+    fn from_day_in_month(size: u16, day: u8, month: i128) -> Result<Period, TimeFault>
+        requires day { 1 ≤ day }
+        requires some { 1 ≤ size }
+        requires most { size ≤ 1200 }
+        ensures { result ≡ days_from_month size day month }
+    {
+        if month < i128::from(FIRST_MONTH) || month >= i128::from(END_MONTH) {
+            return Err(TimeFault::OutOfRange);
+        }
+        let start = Instant::in_month(day, month as u32);
+        Period::from_day(size, i128::from(start.day_number()))
+    }
+}
+
+/// Whether two rows of numbers, each from a first one to before an end, have one in common.
+fn meet(ours: (u32, u32), theirs: (u32, u32)) -> bool
+    ensures { IsTrue result ↔ ((ours.0 < theirs.1) × (theirs.0 < ours.1)) }
+{
+    ours.0 < theirs.1 && theirs.0 < ours.1
+}
+
+/// The number of a month that was moved by `k` of a unit of months.
+fn later_month(month: u32, k: i64, unit: Unit) -> i128
+    ensures { result ≡ later_month k unit month }
+{
+    i128::from(month) + i128::from(k) * i128::from(months_in(unit))
+}
+
+/// The number of the first day of a month, and of the day after 9999-12-31 for the month after it.
+fn month_start(month: u32) -> u32
+    requires from { 12 ≤ month }
+    requires to { month ≤ 120_000 }
+    ensures { result ≡ month_start month }
+{
+    if month == END_MONTH {
+        END_DAY
+    } else {
+        Instant::first_of(month).day_number()
+    }
+}
+
+fn day_at(day: u32) -> Period
+    requires from { first_day ≤ day }
+    requires to { day < end_day }
+    ensures { result ≡ day_at day }
+{
+    Period {
+        first: day,
+        size: 1,
+        unit: Unit::Day,
+    }
+}
+
+fn month_at(month: u32) -> Period
+    requires from { 12 ≤ month }
+    requires to { month < 120_000 }
+    ensures { result ≡ month_at month }
+{
+    Period {
+        first: month,
+        size: 1,
+        unit: Unit::Month,
+    }
+}
+
+fn year_at(year: u32) -> Period
+    requires from { 1 ≤ year }
+    requires to { year < 10_000 }
+    ensures { result ≡ year_at year }
+{
+    Period {
+        first: 12 * year,
+        size: 1,
+        unit: Unit::Year,
     }
 }

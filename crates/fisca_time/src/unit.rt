@@ -1,9 +1,14 @@
 ghost use Rattle.std.specs.Prelude.{◌≡◌};
 ghost use Rattle.fisca_time.specs.Unit.{months_in};
 
-/// What the size of a period is counted in, the smaller unit first.
-#[derive(Clone, Copy, Debug, PartialEq, Eq, PartialOrd, Ord, Hash)]
+use std::cmp::Ordering;
+
+/// What the size of a period is counted in. The smaller unit is the lesser one: a day is less than
+/// a month, a month than a year, and a year than eternity.
+#[derive(Clone, Copy, Debug, PartialEq, Eq, Hash)]
 pub enum Unit {
+    /// A day of the calendar.
+    Day,
     /// A calendar month.
     Month,
     /// Twelve months, from the first of any month on.
@@ -12,11 +17,46 @@ pub enum Unit {
     Eternity,
 }
 
-/// The months in one such unit; eternity is not counted in months and has 0.
+impl Ord for Unit {
+    ghost use Rattle.std.proofs.Common.{rules};
+    ghost use Rattle.std.specs.Cmp.Rules.{comparing};
+    ghost use Rattle.fisca_time.specs.Unit.{unit_cmp};
+
+    ghost cmp = { unit_cmp };
+
+    ghost total = { Prim.search (comparing, rules) };
+
+    ghost matches_partial_cmp = { Prim.search (comparing, rules) };
+
+    ghost matches_eq = { Prim.search (comparing, rules) };
+
+    fn cmp(&self, other: &Unit) -> Ordering {
+        (*self as u8).cmp(&(*other as u8))
+    }
+}
+
+impl PartialOrd for Unit {
+    ghost use Rattle.std.proofs.Common.{rules};
+    ghost use Rattle.std.specs.Cmp.{partial_order_from_own_ties};
+    ghost use Rattle.std.specs.Cmp.Rules.{comparing};
+    ghost use Rattle.std.specs.Ordering.{as_partial_cmp};
+    ghost use Rattle.fisca_time.specs.Unit.{unit_cmp};
+
+    ghost partial_cmp = { as_partial_cmp unit_cmp };
+
+    ghost laws = { partial_order_from_own_ties (Prim.search (comparing, rules)) (Prim.search (comparing, rules)) };
+
+    fn partial_cmp(&self, other: &Unit) -> Option<Ordering> {
+        Some(self.cmp(other))
+    }
+}
+
+/// The months in one such unit; days and eternity are not counted in months and have 0.
 pub(crate) fn months_in(unit: Unit) -> u8
     ensures { result ≡ months_in unit }
 {
     match unit {
+        Unit::Day => 0,
         Unit::Month => 1,
         Unit::Year => 12,
         Unit::Eternity => 0,

@@ -1,38 +1,72 @@
 use Rattle.std.proofs.Common.{arith}
-use Rattle.fisca_time.proofs.Spans.{month_sub, year_sub_at}
+use Rattle.fisca_time.proofs.Spans.{IsKept, kept_is, IsDaySub, IsMonthSub, IsYearSub, day_sub, month_sub, year_sub}
 use Rattle.fisca_time.proofs.period.Period.sub.Goals as goal
+
+pub overflow_add-start_day : goal.overflow_add-start_day
+overflow_add-start_day c =
+    let requires = rw c.in-Day.is at c.requires in
+    let k : IsDaySub c.args.self c.args.i = day_sub c.args.self c.args.i c.start_day.ensures.period requires in
+    omega (arith, k.to, c.start_day.ensures.value)
+
+pub day_at-requires-clause-from : goal.day_at-requires-clause-from
+day_at-requires-clause-from c =
+    let requires = rw c.in-Day.is at c.requires in
+    let k : IsDaySub c.args.self c.args.i = day_sub c.args.self c.args.i c.start_day.ensures.period requires in
+    omega (arith, k.from, c.start_day.ensures.value)
+
+pub day_at-requires-clause-to : goal.day_at-requires-clause-to
+day_at-requires-clause-to c =
+    let requires = rw c.in-Day.is at c.requires in
+    let k : IsDaySub c.args.self c.args.i = day_sub c.args.self c.args.i c.start_day.ensures.period requires in
+    omega (arith, k.to, c.start_day.ensures.value)
+
+pub returns-in-Day : goal.returns-in-Day
+returns-in-Day c =
+    let requires = rw c.in-Day.is at c.requires in
+    let k : IsDaySub c.args.self c.args.i = day_sub c.args.self c.args.i c.start_day.ensures.period requires in
+    rw (c.in-Day.is, c.day_at.ensures, c.start_day.ensures.value) k.at
 
 pub overflow_add-self-inside : goal.overflow_add-self-inside
 overflow_add-self-inside c =
-    let requires = rw (← c.self.view_is, c.in-Month.is) at c.requires in
-    omega (arith, (month_sub _ c.args.i c.self.invariant requires).1)
+    let k : IsKept c.self.inside.unit c.self.inside.first c.self.inside.size c.args.self = kept_is c.self.inside.unit c.self.inside.first c.self.inside.size c.args.self c.self.invariant c.self.view_is in
+    let m : IsMonthSub c.args.self c.args.i = month_sub c.args.self c.args.i k.period (rw c.in-Month.is at c.requires) in
+    omega (arith, m.to, k.first)
 
-pub invariant_of-t-4 : goal.invariant_of-t-4
-invariant_of-t-4 c =
-    let requires = rw (← c.self.view_is, c.in-Month.is) at c.requires in
-    rw c.in-Month.is (month_sub _ c.args.i c.self.invariant requires).0
+pub month_at-requires-clause-to : goal.month_at-requires-clause-to
+month_at-requires-clause-to c =
+    let k : IsKept c.self.inside.unit c.self.inside.first c.self.inside.size c.args.self = kept_is c.self.inside.unit c.self.inside.first c.self.inside.size c.args.self c.self.invariant c.self.view_is in
+    let m : IsMonthSub c.args.self c.args.i = month_sub c.args.self c.args.i k.period (rw c.in-Month.is at c.requires) in
+    omega (arith, m.to, k.first)
 
-pub overflow_add-result : goal.overflow_add-result
-overflow_add-result c =
-    let requires = rw (← c.self.view_is) at c.requires in
-    omega (arith, (year_sub_at _ c.args.unit c.args.i c.self.invariant c.in_default.not-Month requires).1)
-
-pub overflow_mul-result : goal.overflow_mul-result
-overflow_mul-result c =
-    let requires = rw (← c.self.view_is) at c.requires in
-    omega (arith, (year_sub_at _ c.args.unit c.args.i c.self.invariant c.in_default.not-Month requires).1)
-
-pub invariant_of-result : goal.invariant_of-result
-invariant_of-result c =
-    let requires = rw (← c.self.view_is) at c.requires in
-    (year_sub_at _ c.args.unit c.args.i c.self.invariant c.in_default.not-Month requires).0
+pub month_at-requires-clause-from : goal.month_at-requires-clause-from
+month_at-requires-clause-from c =
+    let k : IsKept c.self.inside.unit c.self.inside.first c.self.inside.size c.args.self = kept_is c.self.inside.unit c.self.inside.first c.self.inside.size c.args.self c.self.invariant c.self.view_is in
+    let m : IsMonthSub c.args.self c.args.i = month_sub c.args.self c.args.i k.period (rw c.in-Month.is at c.requires) in
+    omega (arith, m.from, k.first)
 
 pub returns-in-Month : goal.returns-in-Month
 returns-in-Month c =
-    let requires = rw (← c.self.view_is, c.in-Month.is) at c.requires in
-    rw (← c.self.view_is, c.in-Month.is) (month_sub _ c.args.i c.self.invariant requires).2
+    let k : IsKept c.self.inside.unit c.self.inside.first c.self.inside.size c.args.self = kept_is c.self.inside.unit c.self.inside.first c.self.inside.size c.args.self c.self.invariant c.self.view_is in
+    let m : IsMonthSub c.args.self c.args.i = month_sub c.args.self c.args.i k.period (rw c.in-Month.is at c.requires) in
+    rw (c.in-Month.is, c.month_at.ensures, ← k.first) m.at
 
-pub returns-in_default : goal.returns-in_default
-returns-in_default c =
-    let requires = rw (← c.self.view_is) at c.requires in
-    rw (← c.self.view_is) (year_sub_at _ c.args.unit c.args.i c.self.invariant c.in_default.not-Month requires).2
+pub overflow_add-self-inside-in-Year : goal.overflow_add-self-inside-in-Year
+overflow_add-self-inside-in-Year c =
+    let p = c.self-in-Year.inside in
+    let k : IsKept p.unit p.first p.size c.args.self = kept_is p.unit p.first p.size c.args.self c.self-in-Year.invariant c.self-in-Year.view_is in
+    let y : IsYearSub c.args.self c.args.i = year_sub c.args.self c.args.i k.period (rw c.in-Year.is at c.requires) in
+    omega (arith, y.to, k.first)
+
+pub year_at-requires : goal.year_at-requires
+year_at-requires c =
+    let p = c.self-in-Year.inside in
+    let k : IsKept p.unit p.first p.size c.args.self = kept_is p.unit p.first p.size c.args.self c.self-in-Year.invariant c.self-in-Year.view_is in
+    let y : IsYearSub c.args.self c.args.i = year_sub c.args.self c.args.i k.period (rw c.in-Year.is at c.requires) in
+    record { from = omega (arith, y.from, k.first); to = omega (arith, y.to, k.first) }
+
+pub returns-in-Year : goal.returns-in-Year
+returns-in-Year c =
+    let p = c.self-in-Year.inside in
+    let k : IsKept p.unit p.first p.size c.args.self = kept_is p.unit p.first p.size c.args.self c.self-in-Year.invariant c.self-in-Year.view_is in
+    let y : IsYearSub c.args.self c.args.i = year_sub c.args.self c.args.i k.period (rw c.in-Year.is at c.requires) in
+    rw (c.in-Year.is, c.year_at.ensures, ← k.first) y.at

@@ -214,9 +214,9 @@ mutual
   node-held : (Q : List (List ℕ) → Content → Type 0) (t : List TreeNode) (parent : ℕ) (name : List ℕ) (line : ℕ) (n : Node) (above : List (List ℕ)) →
       Only Q t → Leads t above parent → ((names : List (List ℕ)) (c : Content) → Says n names c → Q ((above ++ name ∷ []) ++ names) c) →
       Grows t (put_node t parent name line n) (Held Q t)
-  node-held Q t parent name line null above o l says = tt
-  node-held Q t parent name line (scalar text q k) above o l says = tt
-  node-held Q t parent name line (list is) above o l says = tt
+  node-held Q t parent name line null above o l says = grows-if t (is_some (child_of t parent name)) (duplicate_name line) (Err _) (Held Q t) (λ free. tt)
+  node-held Q t parent name line (scalar text q k) above o l says = grows-if t (is_some (child_of t parent name)) (duplicate_name line) (Err _) (Held Q t) (λ free. tt)
+  node-held Q t parent name line (list is) above o l says = grows-if t (is_some (child_of t parent name)) (duplicate_name line) (Err _) (Held Q t) (λ free. tt)
   node-held Q t parent name line (map es) above o l says =
       grows-if t (is_some (child_of t parent name)) (duplicate_name line) (put_map t parent name line (map es) (λ u. put_children u (length t) es) (date_map (map es)) (get (codes "brackets") (map es))) (Held Q t)
       (λ free. map-held Q t parent name line es above (date_map (map es)) (get (codes "brackets") (map es)) refl refl o l says

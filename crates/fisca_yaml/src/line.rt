@@ -1,7 +1,7 @@
 ghost use Rattle.std.specs.Prelude.{◌≡◌, ◌+◌, ◌*◌, ◌<◌, ◌≤◌, ◌^◌, length, Option, Some, None, option_map, IsTrue, IfOk, IfSome, is_some, false};
 ghost use Rattle.fisca_yaml.specs.Rows.{begins_item, rank, indented, following, row_of, after_dash, is_start, is_marker, begins};
 ghost use Rattle.fisca_yaml.specs.Scalars.{entry_of, key_split, trimmed, after_quoted, quoted};
-ghost use Rattle.fisca_yaml.specs.Grouping.{opens};
+ghost use Rattle.fisca_yaml.specs.Grouping.{opens, opens_item, begins_text};
 
 use crate::marks::{
     around, begins, begins_item, ends_mark, is_bare, is_blank, is_empty_line, is_quote, may_begin,
@@ -155,6 +155,24 @@ impl<'a> Line<'a> {
         }
         let entry = self.entry(alloc)?;
         Ok(entry.is_some())
+    }
+
+    /// Whether a block text begins here, beside a key or a dash.
+    pub(crate) fn begins_text(&self) -> bool
+        ensures { result ≡ begins_text (row self.now) }
+    {
+        let bytes = self.content.as_bytes();
+        begins(bytes, b'|') || begins(bytes, b'>')
+    }
+
+    /// Whether a list or a map begins here, behind a dash.
+    pub(crate) fn opens_item(self, alloc: Global) -> Result<bool, AllocError>
+        ensures { IfOk result (λ b. b ≡ opens_item (row self.entry)) }
+    {
+        if self.begins_text() {
+            return Ok(false);
+        }
+        self.opens(alloc)
     }
 }
 

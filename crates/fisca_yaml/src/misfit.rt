@@ -29,8 +29,8 @@ pub(crate) fn misfit(alloc: Global, line: Line<'_>, depth: usize) -> YamlFault {
     let mut inner = line;
     'items: while inner.is_item() {
         match inner.after_dash() {
-            Some(next) => inner = next,
-            None => return at(line.number, Kind::Unsupported),
+            Some(next) if !next.begins_text() => inner = next,
+            _ => return at(line.number, Kind::Unsupported),
         }
     }
     match look_over(alloc, inner, depth) {

@@ -140,7 +140,7 @@ fn read_item<'a>(
     match line.after_dash() {
         None => read_below(alloc, rest, floor, depth),
         Some(inner) => {
-            if inner.opens(alloc)? {
+            if inner.opens_item(alloc)? {
                 read_block(alloc, inner, rest, floor, depth)
             } else {
                 read_beside(alloc, &inner, rest, line.indent, floor, depth)

@@ -12,7 +12,7 @@ use crate::fault::{Kind, YamlFault, at};
 use crate::flow::{Flow, read_flow, refused_kind};
 use crate::line::Line;
 use crate::lines::Lines;
-use crate::marks::{around, begins, ends_line, is_bracket, is_quote, may_begin, trim_end};
+use crate::marks::{around, ends_line, is_bracket, is_quote, may_begin, trim_end};
 use crate::misfit::{is_open, misplaced};
 use crate::plain::value_text;
 use crate::quoted::read_quoted;
@@ -109,8 +109,7 @@ pub(crate) fn read_beside<'a>(
     ensures value { Gives node result (beside depth indent (row line.now) (front floor rest.old)) }
     ensures rest { OnOk result (rest.new ≡ after floor rest.old) }
 {
-    let bytes = line.content.as_bytes();
-    if begins(bytes, b'|') || begins(bytes, b'>') {
+    if line.begins_text() {
         return read_text(alloc, line, rest, indent, floor, depth);
     }
     read_alone(alloc, line, rest, floor, depth)

@@ -1,4 +1,5 @@
-ghost use Rattle.std.specs.Prelude.{◌≡◌};
+ghost use Rattle.std.specs.Prelude.{◌≡◌, ◌≢◌, ◌<◌, ◌↔◌};
+ghost use Rattle.fisca_yaml.specs.declared.fault.Kind.TheVariants as kinds;
 ghost use Rattle.fisca_yaml.specs.Faults.{name_of, number_of};
 
 use std::alloc::{AllocError, AllocFailed};
@@ -70,13 +71,14 @@ impl Kind {
 pub struct YamlFault {
     pub line: usize,
     pub kind: Kind,
+    pub ghost placed: { (line ≡ 0) ↔ (kind ≡ kinds.Memory) },
 }
 
 impl From<AllocError> for YamlFault {
     ghost use Rattle.std.specs.Prelude.{◌≡◌};
     ghost use Rattle.fisca_yaml.specs.declared.fault.Kind.TheVariants.{Memory};
 
-    ghost from_gives = { λ _ f. f.kind ≡ Memory };
+    ghost from_gives = { λ _ f. (f.kind ≡ Memory) × (f.line ≡ 0) };
 
     fn from(_error: AllocError) -> YamlFault {
         YamlFault {
@@ -90,7 +92,7 @@ impl<T: Drop> From<AllocFailed<T>> for YamlFault {
     ghost use Rattle.std.specs.Prelude.{◌≡◌};
     ghost use Rattle.fisca_yaml.specs.declared.fault.Kind.TheVariants.{Memory};
 
-    ghost from_gives = { λ _ f. f.kind ≡ Memory };
+    ghost from_gives = { λ _ f. (f.kind ≡ Memory) × (f.line ≡ 0) };
 
     fn from(_error: AllocFailed<T>) -> YamlFault {
         YamlFault {
@@ -102,7 +104,10 @@ impl<T: Drop> From<AllocFailed<T>> for YamlFault {
 
 /// The fault of a line.
 pub(crate) fn at(line: usize, kind: Kind) -> YamlFault
-    ensures { result ≡ record { line = line; kind = kind } }
+    requires numbered { 0 < line }
+    requires known { kind ≢ Kind.Memory }
+    ensures line { result.line ≡ line }
+    ensures kind { result.kind ≡ kind }
 {
     YamlFault { line, kind }
 }

@@ -53,7 +53,7 @@ none_if : {X : Type 0} (o : Option X) → is_some o ≡ false → o ≡ None
 none_if None e = refl
 none_if (Some x) e = cc
 
-put-found : (t : List TreeNode) (parent : ℕ) (name : List ℕ) (c : Content) → is_some (child_of t parent name) ≡ false →
+pub put-found : (t : List TreeNode) (parent : ℕ) (name : List ℕ) (c : Content) → is_some (child_of t parent name) ≡ false →
     child_of (with_child t parent name c) parent name ≡ Some (length t)
 put-found t parent name c free =
     child-put_below t parent name c name (none_if (child_of t parent name) free) ∙ rw ((bytes_eq-Decides name name).1 refl) refl

@@ -69,7 +69,11 @@ fn write_items(alloc: Global, line: &mut String, items: &[Item<'_>]) -> Result<(
 }
 
 #[cycle(write)]
-fn write_entries(alloc: Global, line: &mut String, entries: &[Entry<'_>]) -> Result<(), AllocError> {
+fn write_entries(
+    alloc: Global,
+    line: &mut String,
+    entries: &[Entry<'_>],
+) -> Result<(), AllocError> {
     line.push_str("{")?;
     for entry in entries {
         let number = entry.line;

@@ -16,12 +16,12 @@ use Rattle.fisca_params.specs.Content.{date_map, parameter_in, scale_of}
 use Rattle.fisca_params.specs.FaultLines.{line_at, values_line, scale_line}
 use Rattle.fisca_params.specs.Files.{Placed, in_path_order, with_tree, with_names, with_file, after_file, with_files, root_alone, tree_of}
 use Rattle.fisca_params.specs.Paths.{names_of}
-use Rattle.fisca_params.specs.Places.{walk, Says, EntrySays, SaysBelow, FileSays, SomeFileSays}
+use Rattle.fisca_params.specs.Places.{walk, EachReachedOnce, Says, EntrySays, SaysBelow, FileSays, SomeFileSays}
 use Rattle.fisca_params.specs.Results.{and_then}
 use Rattle.fisca_params.specs.Source.{Source}
 use Rattle.fisca_params.specs.Tree.{TreeNode, child_of, child_node, is_child, is_at, content_at, with_child, with_read, put_map, put_node, put_children, is_description, is_folder, describes_folder, enter_child, put_below}
 use Rattle.fisca_params.proofs.EachFile.{Each, each-ordered}
-use Rattle.fisca_params.proofs.Standing.{Grows, grows-if, grows-then, grows-from, grows-either, there-grows, kept-same, kept-put}
+use Rattle.fisca_params.proofs.Standing.{Kept, put-found, Grows, grows-if, grows-then, grows-from, grows-either, there-grows, kept-same, kept-put}
 
 -- names that lead to a place, by the nodes above it
 data Leads (t : List TreeNode) : List (List ℕ) → ℕ → Type 0 where
@@ -74,9 +74,14 @@ one-way t _ _ _ w (below names parent place x l e p) (below others above _ y m f
     let names_same : names ≡ others = one-way t names others parent w l (rw up m) in
     ap (λ ns. ns ++ x.name ∷ []) names_same ∙ ap (λ z. others ++ z.name ∷ []) same
 
+-- names lead to each node
+abbrev IsReached : List TreeNode → Type 0
+IsReached t = (place : ℕ) → place < length t → (names : List (List ℕ)) × (walk t 0 names ≡ Some place)
+
 -- all that names lead to is what Q says
 record Only (Q : List (List ℕ) → Content → Type 0) (t : List TreeNode) : Type 0 where
   tree : IsTree t
+  reached : IsReached t
   said : (names : List (List ℕ)) (place : ℕ) (x : TreeNode) → Leads t names place → slice_get t place ≡ Some x → Q names x.content
 
 leads-new : (t : List TreeNode) (parent : ℕ) (name : List ℕ) (c : Content) (above : List (List ℕ)) → Leads t above parent →
@@ -103,15 +108,46 @@ tree-put t parent name c w h =
           ];
     }
 
+-- a step of a walk, and the rest from where it leads
+walk-on : (t u : List TreeNode) (place : ℕ) (name : List ℕ) (names rest : List (List ℕ)) (found : Option ℕ) (k j : ℕ) → ((child : ℕ) → found ≡ Some child → child_of u place name ≡ Some child) →
+    option_and_then (λ child. walk t child names) found ≡ Some k → ((child : ℕ) → walk t child names ≡ Some k → walk u child rest ≡ Some j) → walk u place (name ∷ rest) ≡ Some j
+walk-on t u place name names rest None k j f e later = cc
+walk-on t u place name names rest (Some child) k j f e later = ap (option_and_then (λ place. walk u place rest)) (f child refl) ∙ later child e
+
+walk-snoc : (t : List TreeNode) (name : List ℕ) (mid k : ℕ) → child_of t mid name ≡ Some k → (names : List (List ℕ)) (place : ℕ) → walk t place names ≡ Some mid → walk t place (names ++ name ∷ []) ≡ Some k
+walk-snoc t name mid k h [] place e =
+    let same : place ≡ mid = cc in
+    ap (option_and_then (λ child. Some child)) (ap (λ p. child_of t p name) same ∙ h)
+walk-snoc t name mid k h (first ∷ names) place e =
+    walk-on t t place first names (names ++ name ∷ []) (child_of t place first) mid k (λ child is. is) e (λ child down. walk-snoc t name mid k h names child down)
+
+walk-kept : (t u : List TreeNode) → Kept t u → (names : List (List ℕ)) (place k : ℕ) → walk t place names ≡ Some k → walk u place names ≡ Some k
+walk-kept t u h [] place k e = e
+walk-kept t u h (name ∷ names) place k e =
+    walk-on t u place name names names (child_of t place name) k k (λ child is. h.child place name child is) e (λ child down. walk-kept t u h names child k down)
+
+reached-put : (t : List TreeNode) (parent : ℕ) (name : List ℕ) (c : Content) → IsReached t → parent < length t → is_some (child_of t parent name) ≡ false → IsReached (with_child t parent name c)
+reached-put t parent name c r inside free place h =
+    let u = with_child t parent name c in
+    let kept = kept-put t parent name c in
+    elim (cases_lt place (length t)) [
+      | inl before ↦ let way = r place before in (way.0, walk-kept t u kept way.0 0 place way.1)
+      | inr last ↦
+          let there : place ≡ length t = omega (arith, last, h, length-append t (child_node parent name c ∷ [])) in
+          let way = r parent inside in
+          (way.0 ++ name ∷ [], walk-snoc u name parent (length t) (put-found t parent name c free) way.0 0 (walk-kept t u kept way.0 0 parent way.1) ∙ ap Some (sym there))
+    ]
+
 only-put : (Q : List (List ℕ) → Content → Type 0) (t : List TreeNode) (parent : ℕ) (name : List ℕ) (c : Content) (above : List (List ℕ)) →
-    Only Q t → Leads t above parent → Q (above ++ name ∷ []) c → Only Q (with_child t parent name c)
-only-put Q t parent name c above o l q =
+    is_some (child_of t parent name) ≡ false → Only Q t → Leads t above parent → Q (above ++ name ∷ []) c → Only Q (with_child t parent name c)
+only-put Q t parent name c above free o l q =
     let y = child_node parent name c in
     let inside : parent < length t = within t above parent o.tree l in
     let more : length (t ++ y ∷ []) ≡ length t + 1 = length-append t (y ∷ []) in
     let grown : IsTree (t ++ y ∷ []) = tree-put t parent name c o.tree inside in
     record {
       tree = grown;
+      reached = reached-put t parent name c o.reached inside free;
       said = λ names place x leads e.
           elim (cases_lt place (length t)) [
             | inl before ↦ o.said names place x (leads-back t y names place o.tree before leads) (sym (get-back t y place before) ∙ e)
@@ -179,33 +215,33 @@ abbrev Held : (List (List ℕ) → Content → Type 0) → List TreeNode → Lis
 Held Q t u = Only Q u × ((names : List (List ℕ)) (place : ℕ) → Leads t names place → Leads u names place)
 
 held-put : (Q : List (List ℕ) → Content → Type 0) (t : List TreeNode) (parent : ℕ) (name : List ℕ) (c : Content) (above : List (List ℕ)) →
-    Only Q t → Leads t above parent → Q (above ++ name ∷ []) c → Held Q t (with_child t parent name c)
-held-put Q t parent name c above o l q = (only-put Q t parent name c above o l q, λ names place k. leads-held t (child_node parent name c) names place k)
+    is_some (child_of t parent name) ≡ false → Only Q t → Leads t above parent → Q (above ++ name ∷ []) c → Held Q t (with_child t parent name c)
+held-put Q t parent name c above free o l q = (only-put Q t parent name c above free o l q, λ names place k. leads-held t (child_node parent name c) names place k)
 
 held-then : (Q : List (List ℕ) → Content → Type 0) (t u v : List TreeNode) → Held Q t u → Held Q u v → Held Q t v
 held-then Q t u v h k = (k.0, λ names place l. k.1 names place (h.1 names place l))
 
 read-held : (Q : List (List ℕ) → Content → Type 0) (t : List TreeNode) (parent : ℕ) (name : List ℕ) (c : Option Content) (line : ℕ) (above : List (List ℕ)) →
-    Only Q t → Leads t above parent → ((d : Content) → c ≡ Some d → Q (above ++ name ∷ []) d) → Grows t (with_read t parent name c line) (Held Q t)
-read-held Q t parent name None line above o l q = tt
-read-held Q t parent name (Some c) line above o l q = (kept-put t parent name c, held-put Q t parent name c above o l (q c refl))
+    is_some (child_of t parent name) ≡ false → Only Q t → Leads t above parent → ((d : Content) → c ≡ Some d → Q (above ++ name ∷ []) d) → Grows t (with_read t parent name c line) (Held Q t)
+read-held Q t parent name None line above free o l q = tt
+read-held Q t parent name (Some c) line above free o l q = (kept-put t parent name c, held-put Q t parent name c above free o l (q c refl))
 
 map-held : (Q : List (List ℕ) → Content → Type 0) (t : List TreeNode) (parent : ℕ) (name : List ℕ) (line : ℕ) (es : Entries) (above : List (List ℕ)) (values brackets : Option Node) →
-    date_map (map es) ≡ values → get (codes "brackets") (map es) ≡ brackets → Only Q t → Leads t above parent →
+    is_some (child_of t parent name) ≡ false → date_map (map es) ≡ values → get (codes "brackets") (map es) ≡ brackets → Only Q t → Leads t above parent →
     ((names : List (List ℕ)) (c : Content) → Says (map es) names c → Q ((above ++ name ∷ []) ++ names) c) →
     ((u : List TreeNode) (place : ℕ) → Only Q u → Leads u (above ++ name ∷ []) place →
     ((other : List ℕ) (names : List (List ℕ)) (c : Content) → EntrySays es other names c → Q ((above ++ name ∷ []) ++ other ∷ names) c) →
     Grows u (put_children u place es) (Held Q u)) →
     Grows t (put_map t parent name line (map es) (λ u. put_children u (length t) es) values brackets) (Held Q t)
-map-held Q t parent name line es above (Some values) brackets e f o l says deeper =
-    read-held Q t parent name (parameter_in values) (values_line (line_at (codes "values") line (map es)) values) above o l
+map-held Q t parent name line es above (Some values) brackets free e f o l says deeper =
+    read-held Q t parent name (parameter_in values) (values_line (line_at (codes "values") line (map es)) values) above free o l
     (λ d is. rw (append-nil (above ++ name ∷ [])) at (says [] d (rw e is)))
-map-held Q t parent name line es above None (Some brackets) e f o l says deeper =
-    read-held Q t parent name (scale_of (map es) brackets) (scale_line (line_at (codes "brackets") line (map es)) brackets) above o l
+map-held Q t parent name line es above None (Some brackets) free e f o l says deeper =
+    read-held Q t parent name (scale_of (map es) brackets) (scale_line (line_at (codes "brackets") line (map es)) brackets) above free o l
     (λ d is. rw (append-nil (above ++ name ∷ [])) at (says [] d (rw (e, f) is)))
-map-held Q t parent name line es above None None e f o l says deeper =
+map-held Q t parent name line es above None None free e f o l says deeper =
     let middle = with_child t parent name content.Branch in
-    let here : Held Q t middle = held-put Q t parent name content.Branch above o l (rw (append-nil (above ++ name ∷ [])) at (says [] content.Branch (rw (e, f) refl))) in
+    let here : Held Q t middle = held-put Q t parent name content.Branch above free o l (rw (append-nil (above ++ name ∷ [])) at (says [] content.Branch (rw (e, f) refl))) in
     grows-from t middle (put_children middle (length t) es) (Held Q middle) (Held Q t) (kept-put t parent name content.Branch)
     (deeper middle (length t) here.0 (leads-new t parent name content.Branch above l) (λ other names c h. says (other ∷ names) c (rw (e, f) refl, h)))
     (λ u k h. held-then Q t middle u here h)
@@ -214,12 +250,12 @@ mutual
   node-held : (Q : List (List ℕ) → Content → Type 0) (t : List TreeNode) (parent : ℕ) (name : List ℕ) (line : ℕ) (n : Node) (above : List (List ℕ)) →
       Only Q t → Leads t above parent → ((names : List (List ℕ)) (c : Content) → Says n names c → Q ((above ++ name ∷ []) ++ names) c) →
       Grows t (put_node t parent name line n) (Held Q t)
-  node-held Q t parent name line null above o l says = tt
-  node-held Q t parent name line (scalar text q k) above o l says = tt
-  node-held Q t parent name line (list is) above o l says = tt
+  node-held Q t parent name line null above o l says = grows-if t (is_some (child_of t parent name)) (duplicate_name line) (Err _) (Held Q t) (λ free. tt)
+  node-held Q t parent name line (scalar text q k) above o l says = grows-if t (is_some (child_of t parent name)) (duplicate_name line) (Err _) (Held Q t) (λ free. tt)
+  node-held Q t parent name line (list is) above o l says = grows-if t (is_some (child_of t parent name)) (duplicate_name line) (Err _) (Held Q t) (λ free. tt)
   node-held Q t parent name line (map es) above o l says =
       grows-if t (is_some (child_of t parent name)) (duplicate_name line) (put_map t parent name line (map es) (λ u. put_children u (length t) es) (date_map (map es)) (get (codes "brackets") (map es))) (Held Q t)
-      (λ free. map-held Q t parent name line es above (date_map (map es)) (get (codes "brackets") (map es)) refl refl o l says
+      (λ free. map-held Q t parent name line es above (date_map (map es)) (get (codes "brackets") (map es)) free refl refl o l says
       (λ u place p k s. children-held Q u place es (above ++ name ∷ []) p k s))
 
   children-held : (Q : List (List ℕ) → Content → Type 0) (t : List TreeNode) (place : ℕ) (es : Entries) (above : List (List ℕ)) →
@@ -242,7 +278,7 @@ entered-held : (Q : List (List ℕ) → Content → Type 0) (t : List TreeNode) 
     Grows t (and_then (enter_child t folder name found) (λ e. put_below e.tree e.place (m ∷ ms) n)) (Held Q t)
 entered-held Q t folder name m ms n above None e o l says deeper =
     let middle = with_child t folder name content.Folder in
-    let here : Held Q t middle = held-put Q t folder name content.Folder above o l (says (name ∷ []) content.Folder (refl, refl)) in
+    let here : Held Q t middle = held-put Q t folder name content.Folder above (rw e refl) o l (says (name ∷ []) content.Folder (refl, refl)) in
     grows-from t middle (put_below middle (length t) (m ∷ ms) n) (Held Q middle) (Held Q t) (kept-put t folder name content.Folder)
     (deeper middle (length t) here.0 (leads-new t folder name content.Folder above l)) (λ u k h. held-then Q t middle u here h)
 entered-held Q t folder name m ms n above (Some place) e o l says deeper =
@@ -296,6 +332,7 @@ root-said (f ∷ fs) = inr (root-said fs)
 
 only-root : (Q : List (List ℕ) → Content → Type 0) → Q [] content.Folder → Only Q root_alone
 only-root Q q = record {
+  reached = λ place h. ([], let here : 0 ≡ place = omega (arith, h) in ap Some here);
   tree = record {
     root = λ x parent e p. let both : Some (record { parent = None; name = []; content = content.Folder }) ≡ Some x = e in no-parent x parent e p;
     some = omega arith;
@@ -320,11 +357,20 @@ content-of [] place c e = cc
 content-of (y ∷ t) zero c e = (y, refl, (let both : Some y.content ≡ Some c = e in cc))
 content-of (y ∷ t) (suc k) c e = content-of t k c e
 
+all-said : (files : List Source) (t : List TreeNode) → tree_of files ≡ Ok t → Only (SomeFileSays files) t
+all-said files t e =
+    let Q : List (List ℕ) → Content → Type 0 = SomeFileSays files in
+    all-only Q root_alone (in_path_order files) t (only-root Q (root-said files)) (each-ordered (Agrees Q) [] (enumerate_from 0 files) tt (files-say Q 0 files (λ names c s. s))) e
+
 -- what names lead to is what some file says, or the root
 pub nothing-else : (files : List Source) (t : List TreeNode) → tree_of files ≡ Ok t → (names : List (List ℕ)) (place : ℕ) (c : Content) →
     walk t 0 names ≡ Some place → content_at t place ≡ Some c → SomeFileSays files names c
 nothing-else files t e names place c w is =
-    let Q : List (List ℕ) → Content → Type 0 = SomeFileSays files in
-    let only : Only Q t = all-only Q root_alone (in_path_order files) t (only-root Q (root-said files)) (each-ordered (Agrees Q) [] (enumerate_from 0 files) tt (files-say Q 0 files (λ names c s. s))) e in
     let there = content-of t place c is in
-    rw (← there.2) (only.said names place there.0 (walk-leads t [] names 0 place at_root w) there.1)
+    rw (← there.2) ((all-said files t e).said names place there.0 (walk-leads t [] names 0 place at_root w) there.1)
+
+pub reached-once : (files : List Source) (t : List TreeNode) → tree_of files ≡ Ok t → EachReachedOnce t
+reached-once files t e place h =
+    let only = all-said files t e in
+    let way = only.reached place h in
+    (way.0, way.1, λ others w. one-way t way.0 others place only.tree (walk-leads t [] way.0 0 place at_root way.1) (walk-leads t [] others 0 place at_root w))

@@ -53,7 +53,7 @@ none_if : {X : Type 0} (o : Option X) → is_some o ≡ false → o ≡ None
 none_if None e = refl
 none_if (Some x) e = cc
 
-put-found : (t : List TreeNode) (parent : ℕ) (name : List ℕ) (c : Content) → is_some (child_of t parent name) ≡ false →
+pub put-found : (t : List TreeNode) (parent : ℕ) (name : List ℕ) (c : Content) → is_some (child_of t parent name) ≡ false →
     child_of (with_child t parent name c) parent name ≡ Some (length t)
 put-found t parent name c free =
     child-put_below t parent name c name (none_if (child_of t parent name) free) ∙ rw ((bytes_eq-Decides name name).1 refl) refl
@@ -132,9 +132,9 @@ child-kept t u place name n k h = (h.0, k.child place name h.0 h.1, stands-kept 
 mutual
   node-grows : (t : List TreeNode) (parent : ℕ) (name : List ℕ) (line : ℕ) (n : Node) →
       Grows t (put_node t parent name line n) (λ u. ChildStands u parent name n)
-  node-grows t parent name line null = tt
-  node-grows t parent name line (scalar text q l) = tt
-  node-grows t parent name line (list is) = tt
+  node-grows t parent name line null = grows-if t (is_some (child_of t parent name)) (duplicate_name line) (Err _) _ (λ free. tt)
+  node-grows t parent name line (scalar text q l) = grows-if t (is_some (child_of t parent name)) (duplicate_name line) (Err _) _ (λ free. tt)
+  node-grows t parent name line (list is) = grows-if t (is_some (child_of t parent name)) (duplicate_name line) (Err _) _ (λ free. tt)
   node-grows t parent name line (map es) =
       grows-if t (is_some (child_of t parent name)) (duplicate_name line) (put_map t parent name line (map es) (λ u. put_children u (length t) es) (date_map (map es)) (get (codes "brackets") (map es))) (λ u. ChildStands u parent name (map es))
       (λ free. map-grows t parent name line es (date_map (map es)) (get (codes "brackets") (map es)) free refl refl (λ u place. children-grow u place es))

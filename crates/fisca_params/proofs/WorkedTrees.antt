@@ -39,6 +39,15 @@ same_path : tree_of (file (codes "parameters/a.yaml") (codes "b: {}") ∷ file (
 unfolding document block flow_value series
 same_path = refl
 
+-- of one file its text comes first, then its name, then its content
+text_first : tree_of (file (codes "parameters/b.yaml") (codes "c: {}") ∷ file (codes "parameters/b.yml") (codes "a: b: c") ∷ []) ≡ Err (record { file = 1; cause = no_yaml_tree })
+unfolding document block flow_value series
+text_first = refl
+
+name_before_content : tree_of (file (codes "parameters/b.yaml") (codes "c: {}") ∷ file (codes "parameters/b.yml") (codes "5") ∷ []) ≡ Err (record { file = 1; cause = duplicate_name 1 })
+unfolding document block flow_value series
+name_before_content = refl
+
 -- of a map with several faults the first in the order of its keys is told, at its line
 first_key : tree_of (file (codes "parameters/a.yaml") (codes "b: {}\nc:\n  d: 5\ne: 6") ∷ []) ≡ Err (record { file = 0; cause = bad_parameter 3 })
 unfolding document block flow_value series

@@ -1,5 +1,5 @@
 -- What stands where in a tree of parameters.
-use Rattle.std.specs.Prelude.{◌≡◌, ◌⊎◌, ℕ, Bool, true, false, ◌&&◌, List, [], ◌∷◌, Option, Some, None, is_none, option_and_then, codes}
+use Rattle.std.specs.Prelude.{◌≡◌, ◌⊎◌, ℕ, ◌<◌, length, Bool, true, false, ◌&&◌, List, [], ◌∷◌, Option, Some, None, is_none, option_and_then, codes}
 use Rattle.std.specs.Str.{bytes_eq}
 use Rattle.fisca_yaml.specs.Find.{get}
 use Rattle.fisca_yaml.specs.Grouping.{document}
@@ -60,6 +60,11 @@ EachStands t (f ∷ fs) = StandsAtItsPath t f × EachStands t fs
 abbrev pub walk : List TreeNode → ℕ → List (List ℕ) → Option ℕ
 walk t place [] = Some place
 walk t place (name ∷ names) = option_and_then (λ child. walk t child names) (child_of t place name)
+
+-- names from the root lead to each node, and to each of them no others
+abbrev pub EachReachedOnce : List TreeNode → Type 0
+EachReachedOnce t =
+    (place : ℕ) → place < length t → (names : List (List ℕ)) × (walk t 0 names ≡ Some place) × ((others : List (List ℕ)) → walk t 0 others ≡ Some place → names ≡ others)
 
 abbrev mutual
   -- a map of a file says that this stands at these names below it

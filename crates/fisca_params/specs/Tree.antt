@@ -57,16 +57,18 @@ put_map t parent name line n below None (Some brackets) =
     with_read t parent name (scale_of n brackets) (scale_line (line_at (codes "brackets") line n) brackets)
 put_map t parent name line n below None None = below (with_child t parent name content.Branch)
 
--- The tree with the node of this name that a map of a file is, and the nodes below it. No two children of a node have one
--- name.
+-- no two children of a node have one name
+abbrev pub if_free : List TreeNode → ℕ → List ℕ → ℕ → Result (List TreeNode) Cause → Result (List TreeNode) Cause
+if_free t parent name line put = if is_some (child_of t parent name) then Err (duplicate_name line) else put
+
+-- The tree with the node of this name that a map of a file is, and the nodes below it. Its name is judged before its content.
 abbrev mutual
   pub put_node : List TreeNode → ℕ → List ℕ → ℕ → Node → Result (List TreeNode) Cause
-  put_node t parent name line null = Err (bad_parameter (line_of line null))
-  put_node t parent name line (scalar text q l) = Err (bad_parameter (line_of line (scalar text q l)))
-  put_node t parent name line (list is) = Err (bad_parameter (line_of line (list is)))
+  put_node t parent name line null = if_free t parent name line (Err (bad_parameter line))
+  put_node t parent name line (scalar text q l) = if_free t parent name line (Err (bad_parameter l))
+  put_node t parent name line (list is) = if_free t parent name line (Err (bad_parameter (line_of line (list is))))
   put_node t parent name line (map es) =
-      if is_some (child_of t parent name) then Err (duplicate_name line)
-      else put_map t parent name line (map es) (λ u. put_children u (length t) es) (date_map (map es)) (get (codes "brackets") (map es))
+      if_free t parent name line (put_map t parent name line (map es) (λ u. put_children u (length t) es) (date_map (map es)) (get (codes "brackets") (map es)))
 
   pub put_children : List TreeNode → ℕ → Entries → Result (List TreeNode) Cause
   put_children t place no_entries = Ok t

@@ -32,13 +32,13 @@ pub(crate) fn put_node(
     ensures indexed { OnOk result (IsIndexed nodes.new.nodes.items nodes.new.children.items) }
     ensures longer { OnOk result (length nodes.old.nodes.items ≤ length nodes.new.nodes.items) }
 {
+    if nodes.child(parent, name).is_some() {
+        return Err(NodeFault::DuplicateName { line });
+    }
     let Tree::Map(entries) = tree else {
         let line = line_of(tree, line);
         return Err(NodeFault::BadParameter { line });
     };
-    if nodes.child(parent, name).is_some() {
-        return Err(NodeFault::DuplicateName { line });
-    }
     if let Some(values) = date_map(tree) {
         let parameter = read_parameter(alloc, line_at(tree, "values", line), values)?;
         nodes.put(alloc, parent, name, parameter)?;

@@ -1,7 +1,7 @@
 //! Why parameters are refused, or a scale has no sum.
 ghost use Rattle.std.specs.Prelude.{◌≡◌};
 ghost use Rattle.fisca_params.specs.Answers.{fault_in};
-ghost use Rattle.fisca_params.specs.Names.{name_of};
+ghost use Rattle.fisca_params.specs.Names.{name_of, number_of};
 
 use fisca_num::NumFault;
 use fisca_yaml::YamlFault;
@@ -30,6 +30,21 @@ pub enum ParamFault {
 }
 
 impl ParamFault {
+    /// The number of the fault, from 1 to 7.
+    pub fn number(self) -> u8
+        ensures { result ≡ number_of self }
+    {
+        match self {
+            ParamFault::Yaml { .. } => 1,
+            ParamFault::BadParameter { .. } => 2,
+            ParamFault::DuplicateName { .. } => 3,
+            ParamFault::BadScale => 4,
+            ParamFault::Undefined => 5,
+            ParamFault::Number(_) => 6,
+            ParamFault::Memory => 7,
+        }
+    }
+
     /// The plain name of the fault, as `BadScale`: of a fault of YAML or of a number, that one's name.
     pub fn name(self) -> &'static str
         ensures { result.now ≡ name_of self }

@@ -2,7 +2,7 @@
 
 ghost use Rattle.std.specs.Prelude.{◌≡◌, ℕ, List, Ok, Some};
 ghost use Rattle.fisca_params.specs.Files.{tree_of};
-ghost use Rattle.fisca_params.specs.Places.{EachStands, SomeFileSays, walk};
+ghost use Rattle.fisca_params.specs.Places.{EachReachedOnce, EachStands, SomeFileSays, walk};
 ghost use Rattle.fisca_params.specs.Source.{Source};
 ghost use Rattle.fisca_params.specs.Tree.{TreeNode, content_at};
 ghost use Rattle.fisca_params.specs.declared.content.Content.{Content};
@@ -17,4 +17,9 @@ pub fn files_stand_at_their_paths()
 /// Nothing else stands there: what the names of a path lead to is the root, or is what some file says of that path.
 pub fn nothing_else_stands()
     ensures { (files : List Source) (tree : List TreeNode) → tree_of files ≡ Ok tree → (names : List (List ℕ)) (place : ℕ) (content : Content) → walk tree 0 names ≡ Some place → content_at tree place ≡ Some content → SomeFileSays files names content }
+{}
+
+/// Each node is reached by one path: names lead from the root to it, and no other names do.
+pub fn each_node_is_reached_once()
+    ensures { (files : List Source) (tree : List TreeNode) → tree_of files ≡ Ok tree → EachReachedOnce tree }
 {}

@@ -223,6 +223,16 @@ fn a_file_beside_a_folder_of_its_name(rt: HostRuntime) -> Result<(), Fail> {
         ("parameters/a.yaml", "2000-01-01: 1\n"),
     ];
     assert_eq!(rt; fault(alloc, &endings)?.as_str(), "DuplicateName 0:1");
+    let taken = [
+        ("parameters/a.yml", "x"),
+        ("parameters/a.yaml", "2000-01-01: 1\n"),
+    ];
+    assert_eq!(rt; fault(alloc, &taken)?.as_str(), "DuplicateName 0:1");
+    let unread = [
+        ("parameters/a.yml", "["),
+        ("parameters/a.yaml", "2000-01-01: 1\n"),
+    ];
+    assert_eq!(rt; fault(alloc, &unread)?.as_str(), "BadFlow 0:1");
     Ok(())
 }
 

@@ -51,7 +51,7 @@ fn show_entries(alloc: Global, entries: &[Entry<'_>]) -> Result<String, AllocErr
 }
 
 /// Texts and their trees, as `show` writes them.
-const TREES: [(&str, &str); 25] = [
+const TREES: [(&str, &str); 26] = [
     ("", "~"),
     ("# a comment\n\n  \t\n", "~"),
     ("---\n", "~"),
@@ -86,6 +86,7 @@ const TREES: [(&str, &str); 25] = [
         "a: NULL\nb: 'null'\nc: nuLL",
         "{a@1:~ b@2:'null'@2 c@3:nuLL@3 }",
     ),
+    ("-\n  | a: 1", "[1:{| a@2:1@2 } ]"),
 ];
 
 #[test]
@@ -149,7 +150,7 @@ fn indentations_that_are_not_open_are_refused(rt: HostRuntime) {
 }
 
 /// The second of two equal keys, before what stands behind it.
-const KEYS: [(&str, usize); 9] = [
+const KEYS: [(&str, usize); 16] = [
     ("a: 1\nb: 2\na: 3", 3),
     ("a: 1\n'a' : [", 2),
     ("a: 1\na: 2\nb: \"x", 2),
@@ -159,6 +160,16 @@ const KEYS: [(&str, usize); 9] = [
     ("{a: 1, a: [}", 1),
     ("{a: 1, \"\\x61\":2}", 1),
     ("a: 1\n- b: {c: 1, c: 2}", 2),
+    (
+        "a: 1\nb: 1\nc: 1\nd: 1\ne: 1\nf: 1\ng: 1\nh: 1\ni: 1\nc: 2\nd: [",
+        10,
+    ),
+    ("{a: 1, a: [2] b: 3}", 1),
+    ("{a: 1, a: 2, &b: 3}", 1),
+    ("a: 1\na: 2\nb", 2),
+    ("a: 1\na: 2\n\"\": 3", 2),
+    ("  a: 1\n  a: 2\n b: 3", 2),
+    ("a: 1\nb: 2\na: 3\n  c: 4", 3),
 ];
 
 #[test]
@@ -167,7 +178,7 @@ fn equal_keys_are_refused_before_later_faults(rt: HostRuntime) {
 }
 
 /// Brackets, and the commas and colons in them.
-const BRACKETS: [(&str, usize); 20] = [
+const BRACKETS: [(&str, usize); 21] = [
     ("a: [1, 2", 1),
     ("a: {b: 1", 1),
     ("a: [1]]", 1),
@@ -188,6 +199,7 @@ const BRACKETS: [(&str, usize); 20] = [
     (", a", 1),
     ("} a: 1", 1),
     ("a: 1\n- - [b", 2),
+    ("a: [\n  b", 1),
 ];
 
 #[test]
@@ -248,7 +260,7 @@ fn forms_that_are_left_out_are_refused(rt: HostRuntime) {
 }
 
 /// Forms that are left out.
-const LEFT_OUT_TOO: [(&str, usize); 16] = [
+const LEFT_OUT_TOO: [(&str, usize); 21] = [
     ("a: b:", 1),
     ("a: b:\tc", 1),
     ("a: |x", 1),
@@ -265,6 +277,11 @@ const LEFT_OUT_TOO: [(&str, usize); 16] = [
     ("- - a\n  b: 1", 2),
     ("a: |\n  x\n- y", 3),
     ("a: 1\nb", 2),
+    ("a:\n    - x\n- y", 3),
+    ("- x\n<<: [", 2),
+    ("- | a: 1", 1),
+    ("- >-: 1", 1),
+    ("a: 1\n- | b: [", 2),
 ];
 
 #[test]
@@ -471,6 +488,24 @@ fn texts_drawn_by_lot_are_answered(rt: HostRuntime) -> Result<(), Fail> {
             text.push_str(PIECES[piece])?;
         }
         assert!(rt; is_answered(rt.alloc(), text.as_str()), "of {text}");
+    }
+    Ok(())
+}
+
+/// Texts without escapes, and where they stand in their source.
+const BORROWED: [(&str, usize); 3] = [("abc", 0), ("'abc'", 1), ("\"abc\"", 1)];
+
+#[test]
+fn texts_without_escapes_are_borrowed(rt: HostRuntime) -> Result<(), Fail> {
+    for (source, at) in BORROWED {
+        let tree = read(rt.alloc(), source)?;
+        let text = tree.as_text().unwrap_or("none");
+        assert_eq!(rt; text, "abc");
+        let same = match (text.as_bytes().first(), source.as_bytes().get(at)) {
+            (Some(first), Some(there)) => std::ptr::eq(first, there),
+            _ => false,
+        };
+        assert!(rt; same, "of {source}");
     }
     Ok(())
 }

@@ -8,7 +8,7 @@ use Rattle.fisca_yaml.specs.Node.{Node, keys, repeats, null, scalar, list, map, 
 use Rattle.fisca_yaml.specs.Rows.{Row, rank, begins_item, following, after_dash, is_marker, text_rows, tail}
 use Rattle.fisca_yaml.specs.Scalars.{Read, entry_of, is_key, is_quote, quoted, quoted_value, plain_value, ends_line, leaf, may_begin, key_split, trim_end, before_comment}
 use Rattle.fisca_yaml.specs.Flow.{add_pair, flow_value}
-use Rattle.fisca_yaml.specs.Grouping.{Group, groups, joined, all_of, items_of, entries_of, item_value, item_rest, entry_value, entry_rest, entry_with, keyed, alone, ended, is_bracket, on_line, is_header, is_text_line, text_block, begins_text, beside, opens, block, block_step, value_of, map_of, tree, document}
+use Rattle.fisca_yaml.specs.Grouping.{Group, groups, joined, all_of, items_of, entries_of, item_value, item_rest, entry_value, entry_rest, entry_with, keyed, alone, ended, is_bracket, on_line, is_header, is_text_line, text_block, begins_text, beside, opens, opens_item, block, block_step, value_of, map_of, tree, document}
 use Rattle.fisca_yaml.proofs.Blocks.{block-nil}
 use Rattle.fisca_yaml.proofs.FlowDepth.{deep_pair, flow_grow, flow_bounded, leaf_nests}
 
@@ -125,7 +125,7 @@ module _ (d e : ℕ) (b c : List Row → Option Node) (h : Grows e b c) where
 
   item_rest_grow : (i : ℕ) (o : Option Row) (ls : List Row) (t : Node) → item_rest d b i o ls ≡ Some t → nested t ≤ e → item_rest e c i o ls ≡ Some t
   item_rest_grow i None ls t k n = h ls t k n
-  item_rest_grow i (Some r) ls t k n = choice_grow (opens r) (r ∷ ls) (beside d i r ls) (beside e i r ls) t (beside_grow d e i r ls t) k n
+  item_rest_grow i (Some r) ls t k n = choice_grow (opens_item r) (r ∷ ls) (beside d i r ls) (beside e i r ls) t (beside_grow d e i r ls t) k n
 
   entry_rest_grow : (i : ℕ) (o : Option Row) (ls : List Row) (t : Node) → entry_rest d b i o ls ≡ Some t → nested t ≤ e → entry_rest e c i o ls ≡ Some t
   entry_rest_grow i None ls t k n = h ls t k n
@@ -194,7 +194,7 @@ module _ (d : ℕ) (b : List Row → Option Node) (h : Bounded d b) where
 
   item_rest_bounded : (i : ℕ) (o : Option Row) (ls : List Row) (t : Node) → item_rest d b i o ls ≡ Some t → nested t ≤ d
   item_rest_bounded i None ls t e = h ls t e
-  item_rest_bounded i (Some r) ls t e = choice_bounded (opens r) (r ∷ ls) (beside d i r ls) t (beside_bounded d i r ls t) e
+  item_rest_bounded i (Some r) ls t e = choice_bounded (opens_item r) (r ∷ ls) (beside d i r ls) t (beside_bounded d i r ls t) e
 
   entry_rest_bounded : (i : ℕ) (o : Option Row) (ls : List Row) (t : Node) → entry_rest d b i o ls ≡ Some t → nested t ≤ d
   entry_rest_bounded i None ls t e = h ls t e

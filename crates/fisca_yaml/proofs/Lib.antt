@@ -4,6 +4,7 @@ pub mod Depth
 pub mod FlowDepth
 pub mod Grown
 pub mod Groups
+pub mod Numbers
 pub mod Quotes
 pub mod Splits
 pub mod Steps

@@ -178,12 +178,16 @@ comment_below_text : tree 16 (text (codes "a: |" ∷ codes "# c" ∷ codes "  x:
 unfolding block flow_value series
 comment_below_text = refl
 
--- Other text there is refused, and an item at the key's own indentation ends the text.
-beside_header : refused (codes "a: |x" ∷ codes "- >1 x" ∷ text (codes "a: |" ∷ codes "  x" ∷ codes "- y" ∷ []) ∷ []) ≡ true
+-- Other text there is refused, also where a colon follows it behind a dash, and an item at the key's own indentation ends the text.
+beside_header : refused (codes "a: |x" ∷ codes "- >1 x" ∷ codes "- | a: 1" ∷ codes "- >-: 1" ∷ text (codes "a: |" ∷ codes "  x" ∷ codes "- y" ∷ []) ∷ []) ≡ true
 unfolding block flow_value series
 beside_header = refl
 
--- Where no key and no dash comes before it, the sign begins a plain scalar.
+-- Where no key and no dash comes before it on its line, the sign begins a plain scalar or a plain key.
 bar_alone : tree 16 (codes "| x") ≡ Some (s (codes "| x") 1)
 unfolding block flow_value series
 bar_alone = refl
+
+bar_in_key : tree 16 (text (codes "-" ∷ codes "  | a: 1" ∷ [])) ≡ Some (list (item 1 (map (holds (codes "| a") 2 (codes "1") no_entries)) no_items))
+unfolding block flow_value series
+bar_in_key = refl

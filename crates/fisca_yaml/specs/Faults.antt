@@ -1,4 +1,4 @@
--- The plain names of the kinds of faults.
+-- The numbers and the plain names of the kinds of faults.
 use Rattle.std.specs.Prelude.{ℕ, List, codes}
 use Rattle.fisca_yaml.specs.declared.fault.Kind.{Kind}
 use Rattle.fisca_yaml.specs.declared.fault.Kind.TheVariants.{Tab, BadIndent, DuplicateKey, BadFlow, BadQuote, Unsupported, TooDeep, TooLong, Memory}
@@ -13,3 +13,14 @@ name_of Unsupported = codes "Unsupported"
 name_of TooDeep = codes "TooDeep"
 name_of TooLong = codes "TooLong"
 name_of Memory = codes "Memory"
+
+abbrev pub number_of : Kind → ℕ
+number_of Tab = 1
+number_of BadIndent = 2
+number_of DuplicateKey = 3
+number_of BadFlow = 4
+number_of BadQuote = 5
+number_of Unsupported = 6
+number_of TooDeep = 7
+number_of TooLong = 8
+number_of Memory = 9

@@ -94,10 +94,14 @@ begins_text r = begins 124 r.content || begins 62 r.content
 abbrev pub beside : ℕ → ℕ → Row → List Row → Option Node
 beside d indent r inside = if begins_text r then text_block indent r inside else alone inside (on_line d r)
 
+-- a list or a map begins behind a dash, where `|` and `>` begin a block text
+abbrev pub opens_item : Row → Bool
+opens_item r = not (begins_text r) && opens r
+
 -- the value of an item, from what follows its dash; block reads a block of lines
 abbrev pub item_rest : ℕ → (List Row → Option Node) → ℕ → Option Row → List Row → Option Node
 item_rest d block indent None inside = block inside
-item_rest d block indent (Some r) inside = if opens r then block (r ∷ inside) else beside d indent r inside
+item_rest d block indent (Some r) inside = if opens_item r then block (r ∷ inside) else beside d indent r inside
 
 abbrev pub item_value : ℕ → (List Row → Option Node) → Group → Option Node
 item_value d block g = item_rest d block g.head.indent (after_dash g.head) g.inside

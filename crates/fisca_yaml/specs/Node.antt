@@ -1,5 +1,5 @@
 -- What a text of this subset means.
-use Rattle.std.specs.Prelude.{ℕ, suc, max, List, [], ◌∷◌, Bool, false, ◌||◌}
+use Rattle.std.specs.Prelude.{ℕ, suc, ◌<◌, max, List, [], ◌∷◌, Bool, false, ◌||◌}
 use Rattle.std.specs.List.{list_any}
 use Rattle.std.specs.Str.{bytes_eq}
 
@@ -45,3 +45,13 @@ keys (entry k n v es) = k ∷ keys es
 abbrev pub repeats : List (List ℕ) → Bool
 repeats [] = false
 repeats (k ∷ ks) = list_any (bytes_eq k) ks || repeats ks
+
+-- the lines of entries are counted from 1
+abbrev pub AreNumbered : Entries → Type 0
+AreNumbered no_entries = Unit
+AreNumbered (entry k n v es) = (0 < n) × AreNumbered es
+
+-- the greatest line of an entry
+abbrev pub last_line : Entries → ℕ
+last_line no_entries = 0
+last_line (entry k n v es) = max n (last_line es)

@@ -1,5 +1,5 @@
 -- The lines of a text that have content, and how deep each stands.
-use Rattle.std.specs.Prelude.{ℕ, ◌+◌, ◌*◌, List, [], ◌∷◌, Bool, true, false, ◌==◌, ◌||◌, ◌&&◌, if◌then◌else◌, Option, Some, None}
+use Rattle.std.specs.Prelude.{ℕ, max, ◌+◌, ◌*◌, List, [], ◌∷◌, Bool, true, false, ◌==◌, ◌||◌, ◌&&◌, if◌then◌else◌, Option, Some, None}
 use Rattle.std.specs.Str.Lines.{lines}
 
 -- the number of a line, its leading spaces, and what follows them
@@ -63,6 +63,11 @@ with_row (Some r) rs = r ∷ rs
 abbrev pub rows : ℕ → List (List ℕ) → List Row
 rows number [] = []
 rows number (l ∷ ls) = with_row (row_of number l) (rows (number + 1) ls)
+
+-- the greatest number of these rows
+abbrev pub last_number : List Row → ℕ
+last_number [] = 0
+last_number (r ∷ rs) = max r.number (last_number rs)
 
 -- three of a character alone on a line, or with a comment
 abbrev pub is_bare : ℕ → List ℕ → Bool

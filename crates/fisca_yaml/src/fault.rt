@@ -1,34 +1,52 @@
-ghost use Rattle.std.specs.Prelude.{◌≡◌};
-ghost use Rattle.fisca_yaml.specs.Faults.{name_of};
+ghost use Rattle.std.specs.Prelude.{◌≡◌, ◌≢◌, ◌<◌, ◌↔◌};
+ghost use Rattle.fisca_yaml.specs.declared.fault.Kind.TheVariants as kinds;
+ghost use Rattle.fisca_yaml.specs.Faults.{name_of, number_of};
 
 use std::alloc::{AllocError, AllocFailed};
 use thiserror::Error;
 
-/// Why a text is refused: this project's own list, in the order of its numbers.
+/// Why a text is refused: this project's own list, by its numbers.
 #[derive(Clone, Copy, Debug, PartialEq, Eq, Error)]
 #[error("{}", self.name())]
 pub enum Kind {
-    /// A tab stands among the leading blanks of a line.
-    Tab = 1,
-    /// A line stands at an indentation that is not open, or below a value that stands on its line.
-    BadIndent = 2,
-    /// A map has a key twice.
-    DuplicateKey = 3,
-    /// A bracket is unclosed or misplaced, or a comma, a key's colon or an element is missing.
-    BadFlow = 4,
-    /// A quote is not closed on its line, an escape is unknown, or text follows the closing quote.
-    BadQuote = 5,
-    /// The line has a form of YAML that is left out, or none.
-    Unsupported = 6,
-    /// More than 16 lists and maps stand in one another.
-    TooDeep = 7,
-    /// The text has more than 1 MiB.
-    TooLong = 8,
-    /// A growth was refused.
-    Memory = 9,
+    /// 1: a tab stands among the leading blanks of a line.
+    Tab,
+    /// 2: a line stands at an indentation that is not open, or below a value that stands on its line.
+    BadIndent,
+    /// 3: a map has a key twice.
+    DuplicateKey,
+    /// 4: a bracket is unclosed or misplaced, or a comma, a key's colon or an element is missing.
+    BadFlow,
+    /// 5: a quote is not closed on its line, an escape is unknown, or text follows the closing quote.
+    BadQuote,
+    /// 6: the line has a form of YAML that is left out, or none.
+    Unsupported,
+    /// 7: more than 16 lists and maps stand in one another.
+    TooDeep,
+    /// 8: the text has more than 1 MiB.
+    TooLong,
+    /// 9: a growth was refused.
+    Memory,
 }
 
 impl Kind {
+    /// The number of the kind, from 1 to 9.
+    pub fn number(self) -> u8
+        ensures { result ≡ number_of self }
+    {
+        match self {
+            Kind::Tab => 1,
+            Kind::BadIndent => 2,
+            Kind::DuplicateKey => 3,
+            Kind::BadFlow => 4,
+            Kind::BadQuote => 5,
+            Kind::Unsupported => 6,
+            Kind::TooDeep => 7,
+            Kind::TooLong => 8,
+            Kind::Memory => 9,
+        }
+    }
+
     /// The plain name of the kind, as `BadIndent`.
     pub fn name(self) -> &'static str
         ensures { result.now ≡ name_of self }
@@ -53,13 +71,14 @@ impl Kind {
 pub struct YamlFault {
     pub line: usize,
     pub kind: Kind,
+    pub ghost placed: { (line ≡ 0) ↔ (kind ≡ kinds.Memory) },
 }
 
 impl From<AllocError> for YamlFault {
     ghost use Rattle.std.specs.Prelude.{◌≡◌};
     ghost use Rattle.fisca_yaml.specs.declared.fault.Kind.TheVariants.{Memory};
 
-    ghost from_gives = { λ _ f. f.kind ≡ Memory };
+    ghost from_gives = { λ _ f. (f.kind ≡ Memory) × (f.line ≡ 0) };
 
     fn from(_error: AllocError) -> YamlFault {
         YamlFault {
@@ -73,7 +92,7 @@ impl<T: Drop> From<AllocFailed<T>> for YamlFault {
     ghost use Rattle.std.specs.Prelude.{◌≡◌};
     ghost use Rattle.fisca_yaml.specs.declared.fault.Kind.TheVariants.{Memory};
 
-    ghost from_gives = { λ _ f. f.kind ≡ Memory };
+    ghost from_gives = { λ _ f. (f.kind ≡ Memory) × (f.line ≡ 0) };
 
     fn from(_error: AllocFailed<T>) -> YamlFault {
         YamlFault {
@@ -85,7 +104,10 @@ impl<T: Drop> From<AllocFailed<T>> for YamlFault {
 
 /// The fault of a line.
 pub(crate) fn at(line: usize, kind: Kind) -> YamlFault
-    ensures { result ≡ record { line = line; kind = kind } }
+    requires numbered { 0 < line }
+    requires known { kind ≢ Kind.Memory }
+    ensures line { result.line ≡ line }
+    ensures kind { result.kind ≡ kind }
 {
     YamlFault { line, kind }
 }

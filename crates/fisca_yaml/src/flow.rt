@@ -1,14 +1,15 @@
-ghost use Rattle.std.specs.Prelude.{◌≡◌, ◌≢◌, ◌<◌, ◌≤◌, ◌-◌, ◌∷◌, Some, None, length, IsTrue, IfOk, OnOk, MatchOption, MatchResult, false, true, slice_index, drop, ◌+◌, take, [], option_map};
+ghost use Rattle.std.specs.Prelude.{◌≡◌, ◌≢◌, ◌<◌, ◌≤◌, ◌-◌, ◌∷◌, Some, None, length, IsTrue, IfOk, OnOk, MatchOption, MatchResult, false, true, slice_index, drop, ◌+◌, take, [], option_map, IfErr};
 ghost use Rattle.std.specs.Bool.{OnTrue, OnFalse};
 ghost use Rattle.fisca_yaml.specs.Rows.{begins, tail};
 ghost use Rattle.fisca_yaml.specs.Scalars.{is_quote, quoted, past_blanks, is_key};
 ghost use Rattle.fisca_yaml.specs.Flow.{ends_key, plain_flow, after_value, flow_key, flow_entry, flow_items, flow_entries, flow_scalar, flow_value, value_or_null, keyed_by};
 ghost use Rattle.fisca_yaml.specs.Grouping.{map_of};
 ghost use Rattle.fisca_yaml.specs.Views.{node, items_view, entries_view, keyed_view};
-ghost use Rattle.fisca_yaml.specs.Answers.{GivesAnd, Gives};
+ghost use Rattle.fisca_yaml.specs.Answers.{GivesAnd, Gives, IsTold};
+ghost use Rattle.fisca_yaml.specs.Node.{AreNumbered, last_line};
 
 use crate::fault::{Kind, YamlFault, at};
-use crate::keys::{first_fault, repeated};
+use crate::keys::{first_fault, first_of_entry, repeated};
 use crate::marks::{around, begins, is_quote, may_begin, past_blanks, trim_end};
 use crate::plain::{ends_key, is_key, word_len};
 use crate::quoted::read_quoted;
@@ -110,7 +111,8 @@ impl<'a> Flow<'a> {
 
 /// Why no plain scalar may begin so.
 pub(crate) fn refused_kind(bytes: &[u8]) -> Kind
-    ensures { result ≢ Kind.Memory }
+    ensures memory { result ≢ Kind.Memory }
+    ensures long { result ≢ Kind.TooLong }
 {
     match bytes {
         [b'\t', ..] => Kind::Tab,
@@ -126,7 +128,9 @@ fn read_flow_scalar<'a>(
     number: usize,
     flow: &mut Flow<'a>,
 ) -> Result<Tree<'a>, YamlFault>
+    requires { 0 < number }
     ensures value { GivesAnd node result flow.new (flow_scalar number flow.old) }
+    ensures told { IfErr result (IsTold number) }
     ensures shorter { OnOk result (length flow.new < length flow.old) }
 {
     if is_quote(flow.rest().as_bytes()) {
@@ -149,7 +153,9 @@ pub(crate) fn read_flow<'a>(
     flow: &mut Flow<'a>,
     depth: usize,
 ) -> Result<Tree<'a>, YamlFault>
+    requires { 0 < number }
     ensures value { GivesAnd node result flow.new (flow_value depth number flow.old) }
+    ensures told { IfErr result (IsTold number) }
     ensures shorter { OnOk result (length flow.new < length flow.old) }
 {
     if flow.take(b'[') {
@@ -172,7 +178,9 @@ pub(crate) fn read_flow<'a>(
 
 /// The map of these entries, where no key comes twice.
 pub(crate) fn make_map<'a>(alloc: Global, entries: Vec<Entry<'a>>) -> Result<Tree<'a>, YamlFault>
-    ensures { Gives node result (map_of (Some (entries_view entries.entry.items))) }
+    requires { AreNumbered (entries_view entries.items) }
+    ensures value { Gives node result (map_of (Some (entries_view entries.entry.items))) }
+    ensures told { IfErr result (IsTold (last_line (entries_view entries.entry.items))) }
 {
     if let Some(line) = repeated(alloc, &entries)? {
         return Err(at(line, Kind::DuplicateKey));
@@ -188,7 +196,9 @@ fn read_flow_items<'a>(
     flow: &mut Flow<'a>,
     depth: usize,
 ) -> Result<Vec<Item<'a>>, YamlFault>
+    requires { 0 < number }
     ensures value { GivesAnd (λ v. items_view v.items) result flow.new (flow_items (flow_value depth number) number flow.old) }
+    ensures told { IfErr result (IsTold number) }
     ensures shorter { OnOk result (length flow.new ≤ length flow.old) }
 {
     let mut items = Vec::new(alloc);
@@ -202,8 +212,10 @@ fn read_flow_items<'a>(
 
 /// Goes past a value's comma, or to the closing bracket.
 fn separate(number: usize, flow: &mut Flow<'_>, close: u8) -> Result<(), YamlFault>
-    requires { close < 128 }
+    requires ascii { close < 128 }
+    requires numbered { 0 < number }
     ensures value { MatchResult result (λ _. after_value close flow.old ≡ Some flow.new) (λ f. (f.kind ≢ Kind.Memory) × (after_value close flow.old ≡ None)) }
+    ensures told { IfErr result (IsTold number) }
     ensures shorter { OnOk result (length flow.new ≤ length flow.old) }
 {
     flow.skip_blanks();
@@ -226,15 +238,20 @@ fn read_flow_entries<'a>(
     flow: &mut Flow<'a>,
     depth: usize,
 ) -> Result<Vec<Entry<'a>>, YamlFault>
+    requires { 0 < number }
     ensures value { GivesAnd (λ v. entries_view v.items) result flow.new (flow_entries (flow_value depth number) number flow.old) }
+    ensures told { IfErr result (IsTold number) }
+    ensures lines { IfOk result (λ v. AreNumbered (entries_view v.items) × (last_line (entries_view v.items) ≤ number)) }
     ensures shorter { OnOk result (length flow.new ≤ length flow.old) }
 {
     let mut entries = Vec::new(alloc);
     while !flow.take(b'}') {
-        let (key, value) = read_flow_entry(alloc, number, flow, depth, &entries)?;
-        push_entry(&mut entries, key, number, value)?;
+        match read_flow_entry(alloc, number, flow, depth, &entries) {
+            Ok((key, value)) => push_entry(&mut entries, key, number, value)?,
+            Err(fault) => return Err(first_fault(alloc, &entries, fault)),
+        }
         if let Err(fault) = separate(number, flow, b'}') {
-            return Err(first_fault(alloc, &entries, None, fault));
+            return Err(first_fault(alloc, &entries, fault));
         }
     }
     Ok(entries)
@@ -249,19 +266,15 @@ fn read_flow_entry<'a>(
     depth: usize,
     before: &[Entry<'a>],
 ) -> Result<(Text<'a>, Tree<'a>), YamlFault>
+    requires { 0 < number }
     ensures value { GivesAnd keyed_view result flow.new (flow_entry (flow_value depth number) flow.old) }
+    ensures told { IfErr result (IsTold number) }
     ensures shorter { OnOk result (length flow.new < length flow.old) }
 {
-    let key = match read_flow_key(alloc, number, flow) {
-        Ok(key) => key,
-        Err(fault) => return Err(first_fault(alloc, before, None, fault)),
-    };
+    let key = read_flow_key(alloc, number, flow)?;
     match read_flow_beside(alloc, number, flow, depth) {
         Ok(value) => Ok((key, value)),
-        Err(fault) => {
-            let last = Some((key.as_str(), number));
-            Err(first_fault(alloc, before, last, fault))
-        }
+        Err(fault) => Err(first_of_entry(before, key.as_str(), number, fault)),
     }
 }
 
@@ -273,7 +286,9 @@ fn read_flow_beside<'a>(
     flow: &mut Flow<'a>,
     depth: usize,
 ) -> Result<Tree<'a>, YamlFault>
+    requires { 0 < number }
     ensures value { GivesAnd node result flow.new (value_or_null (flow_value depth number) flow.old) }
+    ensures told { IfErr result (IsTold number) }
     ensures shorter { OnOk result (length flow.new ≤ length flow.old) }
 {
     if flow.begins(b',') || flow.begins(b'}') {
@@ -288,7 +303,9 @@ fn read_flow_key<'a>(
     number: usize,
     flow: &mut Flow<'a>,
 ) -> Result<Text<'a>, YamlFault>
+    requires { 0 < number }
     ensures value { GivesAnd (λ k. k) result flow.new (flow_key flow.old) }
+    ensures told { IfErr result (IsTold number) }
     ensures shorter { OnOk result (length flow.new < length flow.old) }
 {
     if is_quote(flow.rest().as_bytes()) {
@@ -307,7 +324,8 @@ fn read_flow_key<'a>(
 
 /// Why no plain key may begin so. A colon with a blank or an end behind it follows an empty key.
 fn refused_key(bytes: &[u8]) -> Kind
-    ensures { result ≢ Kind.Memory }
+    ensures memory { result ≢ Kind.Memory }
+    ensures long { result ≢ Kind.TooLong }
 {
     match bytes {
         [b':', rest @ ..] if ends_key(rest) => Kind::Unsupported,
@@ -317,7 +335,9 @@ fn refused_key(bytes: &[u8]) -> Kind
 
 /// Goes past a key's colon and the blanks behind it. Behind a plain key's colon a blank or an end must follow.
 fn take_colon(number: usize, flow: &mut Flow<'_>, loose: bool, key: &str) -> Result<(), YamlFault>
+    requires { 0 < number }
     ensures value { MatchResult result (λ _. keyed_by loose (Some (key.now, flow.old)) ≡ Some (key.now, flow.new)) (λ f. (f.kind ≢ Kind.Memory) × (keyed_by loose (Some (key.now, flow.old)) ≡ None)) }
+    ensures told { IfErr result (IsTold number) }
     ensures shorter { OnOk result (length flow.new ≤ length flow.old) }
 {
     flow.skip_blanks();

@@ -1,7 +1,7 @@
-ghost use Rattle.std.specs.Prelude.{◌≡◌, ◌≢◌, IfOk, is_some};
+ghost use Rattle.std.specs.Prelude.{◌≡◌, ◌≢◌, IfOk, is_some, IfSome, ◌<◌, ◌≤◌, max};
 ghost use Rattle.std.specs.List.{list_any};
 ghost use Rattle.std.specs.Str.{bytes_eq};
-ghost use Rattle.fisca_yaml.specs.Node.{keys, repeats};
+ghost use Rattle.fisca_yaml.specs.Node.{keys, repeats, AreNumbered, last_line};
 ghost use Rattle.fisca_yaml.specs.Views.{entries_view};
 
 use crate::fault::{Kind, YamlFault, at};
@@ -14,7 +14,9 @@ const FEW: usize = 8;
 
 /// The line of the first key that comes a second time.
 pub(crate) fn repeated(alloc: Global, entries: &[Entry<'_>]) -> Result<Option<usize>, AllocError>
-    ensures { IfOk result (λ line. is_some line ≡ repeats (keys (entries_view entries.now))) }
+    requires { AreNumbered (entries_view entries.now) }
+    ensures value { IfOk result (λ line. is_some line ≡ repeats (keys (entries_view entries.now))) }
+    ensures line { IfOk result (λ line. IfSome line (λ n. (0 < n) × (n ≤ last_line (entries_view entries.now)))) }
 {
     if entries.len() <= FEW {
         Ok(repeated_among_few(entries))
@@ -25,7 +27,9 @@ pub(crate) fn repeated(alloc: Global, entries: &[Entry<'_>]) -> Result<Option<us
 
 /// The same, without memory, in a time that grows with the square of their number.
 fn repeated_among_few(entries: &[Entry<'_>]) -> Option<usize>
-    ensures { is_some result ≡ repeats (keys (entries_view entries.now)) }
+    requires { AreNumbered (entries_view entries.now) }
+    ensures value { is_some result ≡ repeats (keys (entries_view entries.now)) }
+    ensures line { IfSome result (λ n. (0 < n) × (n ≤ last_line (entries_view entries.now))) }
 {
     for (at, entry) in entries.iter().enumerate() {
         if has_key(&entries[..at], entry.key.as_str()) {
@@ -37,7 +41,9 @@ fn repeated_among_few(entries: &[Entry<'_>]) -> Option<usize>
 
 /// The same, by a map of the keys.
 fn repeated_among_many(alloc: Global, entries: &[Entry<'_>]) -> Result<Option<usize>, AllocError>
-    ensures { IfOk result (λ line. is_some line ≡ repeats (keys (entries_view entries.now))) }
+    requires { AreNumbered (entries_view entries.now) }
+    ensures value { IfOk result (λ line. is_some line ≡ repeats (keys (entries_view entries.now))) }
+    ensures line { IfOk result (λ line. IfSome line (λ n. (0 < n) × (n ≤ last_line (entries_view entries.now)))) }
 {
     let mut seen = BTreeMap::new(alloc);
     for entry in entries {
@@ -61,26 +67,38 @@ fn has_key(entries: &[Entry<'_>], key: &str) -> bool
     false
 }
 
-/// The first fault of a map's lines: the key that comes a second time before this fault, or this fault. The last key and its line
-/// are given where the fault lies behind it.
-pub(crate) fn first_fault(
-    alloc: Global,
-    entries: &[Entry<'_>],
-    last: Option<(&str, usize)>,
-    fault: YamlFault,
-) -> YamlFault
-    ensures { result.kind ≢ Kind.Memory → fault.kind ≢ Kind.Memory }
+/// The first fault of a map's lines: the key that comes a second time before this fault, or this fault.
+pub(crate) fn first_fault(alloc: Global, entries: &[Entry<'_>], fault: YamlFault) -> YamlFault
+    requires { AreNumbered (entries_view entries.now) }
+    ensures memory { result.kind ≢ Kind.Memory → fault.kind ≢ Kind.Memory }
+    ensures line { result.line ≤ max fault.line (last_line (entries_view entries.now)) }
+    ensures long { fault.kind ≢ Kind.TooLong → result.kind ≢ Kind.TooLong }
 {
     if fault.kind == Kind::Memory {
         return fault;
     }
     match repeated(alloc, entries) {
-        Ok(Some(line)) => return at(line, Kind::DuplicateKey),
-        Ok(None) => {}
-        Err(error) => return YamlFault::from(error),
+        Ok(Some(line)) => at(line, Kind::DuplicateKey),
+        Ok(None) => fault,
+        Err(error) => YamlFault::from(error),
     }
-    match last {
-        Some((key, line)) if has_key(entries, key) => at(line, Kind::DuplicateKey),
-        _ => fault,
+}
+
+/// The first fault of an entry whose value has this fault: that its key stands among those before it, or this fault.
+pub(crate) fn first_of_entry(
+    entries: &[Entry<'_>],
+    key: &str,
+    line: usize,
+    fault: YamlFault,
+) -> YamlFault
+    requires { 0 < line }
+    ensures memory { result.kind ≢ Kind.Memory → fault.kind ≢ Kind.Memory }
+    ensures line { result.line ≤ max fault.line line }
+    ensures long { fault.kind ≢ Kind.TooLong → result.kind ≢ Kind.TooLong }
+{
+    if fault.kind != Kind::Memory && has_key(entries, key) {
+        at(line, Kind::DuplicateKey)
+    } else {
+        fault
     }
 }

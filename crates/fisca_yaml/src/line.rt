@@ -1,7 +1,7 @@
 ghost use Rattle.std.specs.Prelude.{◌≡◌, ◌+◌, ◌*◌, ◌<◌, ◌≤◌, ◌^◌, length, Option, Some, None, option_map, IsTrue, IfOk, IfSome, is_some, false};
 ghost use Rattle.fisca_yaml.specs.Rows.{begins_item, rank, indented, following, row_of, after_dash, is_start, is_marker, begins};
 ghost use Rattle.fisca_yaml.specs.Scalars.{entry_of, key_split, trimmed, after_quoted, quoted};
-ghost use Rattle.fisca_yaml.specs.Grouping.{opens};
+ghost use Rattle.fisca_yaml.specs.Grouping.{opens, opens_item, begins_text};
 
 use crate::marks::{
     around, begins, begins_item, ends_mark, is_bare, is_blank, is_empty_line, is_quote, may_begin,
@@ -19,6 +19,7 @@ pub struct Line<'a> {
     pub indent: usize,
     pub content: &'a str,
     ghost near: { indent + length content.now < 2 ^ 32 },
+    ghost numbered: { 0 < number },
 }
 
 impl<'a> Line<'a> {
@@ -26,7 +27,8 @@ impl<'a> Line<'a> {
 
     /// What follows the leading spaces of a text, as a line at its column.
     fn indented(number: usize, text: &'a str) -> Option<Line<'a>>
-        requires { length text.now < 2 ^ 32 }
+        requires near { length text.now < 2 ^ 32 }
+        requires numbered { 0 < number }
         ensures value { option_map row result ≡ indented number 0 text.now }
         ensures number { IfSome result (λ l. l.number ≡ number) }
     {
@@ -47,7 +49,8 @@ impl<'a> Line<'a> {
 
     /// The line of a text, where it has content.
     pub(crate) fn of(number: usize, text: &'a str) -> Option<Line<'a>>
-        requires { length text.now < 2 ^ 32 }
+        requires near { length text.now < 2 ^ 32 }
+        requires numbered { 0 < number }
         ensures value { option_map row result ≡ row_of number text.now }
         ensures number { IfSome result (λ l. l.number ≡ number) }
     {
@@ -60,7 +63,8 @@ impl<'a> Line<'a> {
 
     /// What follows a dash or a colon, as a line at its own column, where anything but a comment does.
     pub(crate) fn following(number: usize, column: usize, text: &'a str) -> Option<Line<'a>>
-        requires { column + length text.now < 2 ^ 32 }
+        requires near { column + length text.now < 2 ^ 32 }
+        requires numbered { 0 < number }
         ensures value { option_map row result ≡ following number column text.now }
         ensures right { IfSome result (λ l. column ≤ l.indent) }
         ensures number { IfSome result (λ l. l.number ≡ number) }
@@ -128,6 +132,7 @@ impl<'a> Line<'a> {
         requires { IsTrue (begins_item self.content.now) }
         ensures value { option_map row result ≡ after_dash (row self.entry) }
         ensures right { IfSome result (λ l. self.entry.indent < l.indent) }
+        ensures number { IfSome result (λ l. l.number ≡ self.entry.number) }
     {
         Line::following(self.number, self.indent + 1, &self.content[1..])
     }
@@ -155,6 +160,24 @@ impl<'a> Line<'a> {
         }
         let entry = self.entry(alloc)?;
         Ok(entry.is_some())
+    }
+
+    /// Whether a block text begins here, beside a key or a dash.
+    pub(crate) fn begins_text(&self) -> bool
+        ensures { result ≡ begins_text (row self.now) }
+    {
+        let bytes = self.content.as_bytes();
+        begins(bytes, b'|') || begins(bytes, b'>')
+    }
+
+    /// Whether a list or a map begins here, behind a dash.
+    pub(crate) fn opens_item(self, alloc: Global) -> Result<bool, AllocError>
+        ensures { IfOk result (λ b. b ≡ opens_item (row self.entry)) }
+    {
+        if self.begins_text() {
+            return Ok(false);
+        }
+        self.opens(alloc)
     }
 }
 

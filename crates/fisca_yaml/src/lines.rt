@@ -10,7 +10,8 @@ use std::marker::Model;
 
 /// The next line with content, and the text after it.
 fn next_line<'a>(text: &'a str, number: usize) -> Option<(Line<'a>, &'a str)>
-    requires { number + length text.now < 2 ^ 32 }
+    requires near { number + length text.now < 2 ^ 32 }
+    requires numbered { 0 < number }
     ensures rows { MatchOption result (rows number (lines text.now) ≡ [])
         (λ p. rows number (lines text.now) ≡ row p.0 ∷ rows (p.0.number + 1) (lines p.1.now)) }
     ensures room { IfSome result (λ p. p.0.number + 1 + length p.1.now ≤ number + length text.now) }
@@ -46,7 +47,7 @@ impl<'a> Model for Lines<'a> {
 
     ghost view = { λ l. with_row (option_map row l.next) (rows l.number (lines l.text.now)) };
 
-    ghost invariant = { λ l. (l.number + length l.text.now < 2 ^ 32) × Nothing l.next (rows l.number (lines l.text.now)) };
+    ghost invariant = { λ l. (0 < l.number) × (l.number + length l.text.now < 2 ^ 32) × Nothing l.next (rows l.number (lines l.text.now)) };
 }
 
 impl<'a> Lines<'a> {

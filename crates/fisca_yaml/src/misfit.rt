@@ -1,4 +1,5 @@
-ghost use Rattle.std.specs.Prelude.{◌≡◌, ◌&&◌, ◌==◌, nat_lt, ◌/◌, ◌-◌};
+ghost use Rattle.std.specs.Prelude.{◌≡◌, ◌&&◌, ◌==◌, nat_lt, ◌/◌, ◌-◌, IfErr};
+ghost use Rattle.fisca_yaml.specs.Answers.{IsTold};
 
 use crate::fault::{Kind, YamlFault, at};
 use crate::line::Line;
@@ -14,7 +15,9 @@ pub(crate) fn is_open(rank: usize, indent: usize) -> bool
 }
 
 /// The fault of a line where no line may stand.
-pub(crate) fn misplaced(alloc: Global, line: Line<'_>, open: bool, depth: usize) -> YamlFault {
+pub(crate) fn misplaced(alloc: Global, line: Line<'_>, open: bool, depth: usize) -> YamlFault
+    ensures { IsTold line.entry.number result }
+{
     if !line.is_tabbed() && !open {
         return at(line.number, Kind::BadIndent);
     }
@@ -22,15 +25,17 @@ pub(crate) fn misplaced(alloc: Global, line: Line<'_>, open: bool, depth: usize)
 }
 
 /// The fault of a line at an open indentation that fits nothing there: what its own look shows, read as an item, an entry or a scalar.
-pub(crate) fn misfit(alloc: Global, line: Line<'_>, depth: usize) -> YamlFault {
+pub(crate) fn misfit(alloc: Global, line: Line<'_>, depth: usize) -> YamlFault
+    ensures { IsTold line.entry.number result }
+{
     if line.is_tabbed() {
         return at(line.number, Kind::Tab);
     }
     let mut inner = line;
     'items: while inner.is_item() {
         match inner.after_dash() {
-            Some(next) => inner = next,
-            None => return at(line.number, Kind::Unsupported),
+            Some(next) if !next.begins_text() => inner = next,
+            _ => return at(line.number, Kind::Unsupported),
         }
     }
     match look_over(alloc, inner, depth) {
@@ -40,7 +45,9 @@ pub(crate) fn misfit(alloc: Global, line: Line<'_>, depth: usize) -> YamlFault {
 }
 
 /// The fault of an entry or a scalar by itself.
-fn look_over(alloc: Global, line: Line<'_>, depth: usize) -> Result<(), YamlFault> {
+fn look_over(alloc: Global, line: Line<'_>, depth: usize) -> Result<(), YamlFault>
+    ensures { IfErr result (IsTold line.entry.number) }
+{
     let Some((key, rest)) = line.entry(alloc)? else {
         let _value = read_on_line(alloc, &line, depth)?;
         return Ok(());

@@ -1,14 +1,15 @@
-ghost use Rattle.std.specs.Prelude.{◌≡◌, ◌≢◌, ℕ, ◌^◌, length, ◌∷◌, ◌<◌, ◌-◌, Some, None, Ok, Err, IfOk, OnOk, IfErr, IsTrue, List, MatchResult, is_some};
-ghost use Rattle.fisca_yaml.specs.Rows.{rank, begins_item, following};
+ghost use Rattle.std.specs.Prelude.{◌≡◌, ◌≢◌, ℕ, ◌^◌, length, ◌∷◌, ◌<◌, ◌-◌, Some, None, Ok, Err, IfOk, OnOk, IfErr, IsTrue, List, MatchResult, is_some, ◌≤◌, OnErr, IsErrAnd, ◌↔◌};
+ghost use Rattle.fisca_yaml.specs.Rows.{rank, begins_item, following, last_number};
+ghost use Rattle.std.specs.Str.Lines.{lines};
 ghost use Rattle.fisca_yaml.specs.Grouping.{Group, front, after, groups, items_of, entries_of, item_value, entry_value, entry_rest, block, map_of, tree, IsTree, Within, document};
-ghost use Rattle.fisca_yaml.specs.Node.{Node};
+ghost use Rattle.fisca_yaml.specs.Node.{Node, AreNumbered, last_line};
 ghost use Rattle.fisca_yaml.specs.Lines.{row};
 ghost use Rattle.fisca_yaml.specs.Views.{node, items_view, entries_view, AddsEntry};
-ghost use Rattle.fisca_yaml.specs.Answers.{Gives};
+ghost use Rattle.fisca_yaml.specs.Answers.{Gives, IsTold};
 
 use crate::fault::{Kind, YamlFault, at};
 use crate::flow::make_map;
-use crate::keys::first_fault;
+use crate::keys::{first_fault, first_of_entry};
 use crate::line::Line;
 use crate::lines::Lines;
 use crate::misfit::{is_open, misfit, misplaced};
@@ -39,6 +40,12 @@ pub fn read(alloc: Global, text: &str) -> Result<Tree<'_>, YamlFault>
     // The same, by the function that gives the tree of a text within the limits.
     ensures found { IfOk result (λ t. document text.now ≡ Some (node t)) }
     ensures none { IfErr result (λ f. f.kind ≢ Kind.Memory → document text.now ≡ None) }
+    // `TooLong` is told of a text that is too long, at line 1, and of no other.
+    ensures too_long { 2 ^ 20 < length text.now → IsErrAnd result (λ f. (f.kind ≡ Kind.TooLong) × (f.line ≡ 1)) }
+    ensures long { IfErr result (λ f. f.kind ≡ Kind.TooLong → 2 ^ 20 < length text.now) }
+    // A fault is told of a line of the text, and want of memory alone of line 0.
+    ensures line { IfErr result (λ f. f.kind ≢ Kind.TooLong → f.line ≤ length (lines text.now)) }
+    ensures memory { IfErr result (λ f. (f.line ≡ 0) ↔ (f.kind ≡ Kind.Memory)) }
 {
     if text.len() > MAX_TEXT {
         return Err(at(1, Kind::TooLong));
@@ -50,7 +57,8 @@ pub fn read(alloc: Global, text: &str) -> Result<Tree<'_>, YamlFault>
 /// The tree of a text that is not too long.
 fn read_tree(alloc: Global, text: &str) -> Result<Tree<'_>, YamlFault>
     requires { length text.now < 2 ^ 31 }
-    ensures { Gives node result (tree MAX_DEPTH text.now) }
+    ensures value { Gives node result (tree MAX_DEPTH text.now) }
+    ensures told { IfErr result (IsTold (length (lines text.now))) }
 {
     let mut lines = Lines::new(text);
     lines.skip_start();
@@ -80,6 +88,7 @@ fn read_block<'a>(
 ) -> Result<Tree<'a>, YamlFault>
     requires { floor < rank (row head) }
     ensures value { Gives node result (block depth (row head.entry ∷ front floor rest.old)) }
+    ensures told { IfErr result (IsTold (last_number (row head.entry ∷ rest.old))) }
     ensures rest { OnOk result (rest.new ≡ after floor rest.old) }
 {
     if depth == 0 {
@@ -106,6 +115,7 @@ fn read_items<'a>(
     requires item { IsTrue (begins_item head.content.now) }
     ensures value { Gives (λ v. items_view v.items) result
         (items_of (item_value depth (block depth)) (rank (row head.entry)) (groups (rank (row head.entry)) (row head.entry ∷ front floor rest.old))) }
+    ensures told { IfErr result (IsTold (last_number (row head.entry ∷ rest.old))) }
     ensures rest { OnOk result (rest.new ≡ after floor rest.old) }
 {
     let rank = head.rank();
@@ -134,13 +144,14 @@ fn read_item<'a>(
 ) -> Result<Tree<'a>, YamlFault>
     requires { IsTrue (begins_item line.content.now) }
     ensures value { Gives node result (item_value depth (block depth) (record { head = row line.entry; inside = front (rank (row line.entry)) rest.old })) }
+    ensures told { IfErr result (IsTold (last_number (row line.entry ∷ rest.old))) }
     ensures rest { OnOk result (rest.new ≡ after (rank (row line.entry)) rest.old) }
 {
     let floor = line.rank();
     match line.after_dash() {
         None => read_below(alloc, rest, floor, depth),
         Some(inner) => {
-            if inner.opens(alloc)? {
+            if inner.opens_item(alloc)? {
                 read_block(alloc, inner, rest, floor, depth)
             } else {
                 read_beside(alloc, &inner, rest, line.indent, floor, depth)
@@ -158,6 +169,7 @@ fn read_below<'a>(
     depth: usize,
 ) -> Result<Tree<'a>, YamlFault>
     ensures value { Gives node result (block depth (front floor rest.old)) }
+    ensures told { IfErr result (IsTold (last_number rest.old)) }
     ensures rest { OnOk result (rest.new ≡ after floor rest.old) }
 {
     match rest.next_deeper(floor) {
@@ -184,6 +196,8 @@ fn read_entries<'a>(
     requires deeper { floor < rank (row head) }
     ensures value { Gives (λ v. entries_view v.items) result
         (entries_of (entry_value depth (block depth)) (rank (row head.entry)) (groups (rank (row head.entry)) (row head.entry ∷ front floor rest.old))) }
+    ensures told { IfErr result (IsTold (last_number (row head.entry ∷ rest.old))) }
+    ensures lines { IfOk result (λ v. AreNumbered (entries_view v.items) × (last_line (entries_view v.items) ≤ last_number (row head.entry ∷ rest.old))) }
     ensures rest { OnOk result (rest.new ≡ after floor rest.old) }
 {
     let rank = head.rank();
@@ -194,9 +208,11 @@ fn read_entries<'a>(
         if line.rank() != rank {
             let open = line.indent == indent || is_open(floor, line.indent);
             let fault = misplaced(alloc, line, open, depth);
-            return Err(first_fault(alloc, &entries, None, fault));
+            return Err(first_fault(alloc, &entries, fault));
         }
-        read_entry(alloc, &line, rest, depth, &mut entries)?;
+        if let Err(fault) = read_entry(alloc, &line, rest, depth, &mut entries) {
+            return Err(first_fault(alloc, &entries, fault));
+        }
         next = rest.next_deeper(floor);
     }
     Ok(entries)
@@ -216,25 +232,22 @@ fn read_entry<'a>(
         (λ _. (p : List ℕ × Node) × ((entry_value depth (block depth) (record { head = row line.now; inside = front (rank (row line.now)) rest.old }) ≡ Some p)
         × AddsEntry entries.old.items entries.new.items p.0 line.now.number p.1))
         (λ f. f.kind ≢ Kind.Memory → entry_value depth (block depth) (record { head = row line.now; inside = front (rank (row line.now)) rest.old }) ≡ None) }
+    ensures told { IfErr result (IsTold (last_number (row line.now ∷ rest.old))) }
+    ensures kept { OnErr result (entries.new.items ≡ entries.old.items) }
     ensures rest { OnOk result (rest.new ≡ after (rank (row line.now)) rest.old) }
 {
     let Some((key, tail)) = line.entry(alloc)? else {
-        let fault = misfit(alloc, *line, depth);
-        return Err(first_fault(alloc, entries, None, fault));
+        return Err(misfit(alloc, *line, depth));
     };
     if !is_key(key.as_str()) {
-        let fault = at(line.number, Kind::Unsupported);
-        return Err(first_fault(alloc, entries, None, fault));
+        return Err(at(line.number, Kind::Unsupported));
     }
     match read_value(alloc, line, tail, rest, depth) {
         Ok(value) => {
             push_entry(entries, key, line.number, value)?;
             Ok(())
         }
-        Err(fault) => {
-            let last = Some((key.as_str(), line.number));
-            Err(first_fault(alloc, entries, last, fault))
-        }
+        Err(fault) => Err(first_of_entry(entries, key.as_str(), line.number, fault)),
     }
 }
 
@@ -249,6 +262,7 @@ fn read_value<'a>(
 ) -> Result<Tree<'a>, YamlFault>
     requires { length tail.now < 2 ^ 32 }
     ensures value { Gives node result (entry_rest depth (block depth) line.now.indent (following line.now.number 0 tail.now) (front (rank (row line.now)) rest.old)) }
+    ensures told { IfErr result (IsTold (last_number (row line.now ∷ rest.old))) }
     ensures rest { OnOk result (rest.new ≡ after (rank (row line.now)) rest.old) }
 {
     let floor = line.rank();

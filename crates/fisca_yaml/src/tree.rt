@@ -1,4 +1,4 @@
-ghost use Rattle.std.specs.Prelude.{◌≡◌, string_bytes, option_map, Some, OnOk, IfErr, true};
+ghost use Rattle.std.specs.Prelude.{◌≡◌, string_bytes, option_map, Some, OnOk, IfErr, true, OnErr};
 ghost use Rattle.fisca_yaml.specs.Node.{scalar};
 ghost use Rattle.fisca_yaml.specs.Scalars.{leaf};
 ghost use Rattle.fisca_yaml.specs.Views.{node, entries_view, AddsItem, AddsEntry};
@@ -99,7 +99,7 @@ pub(crate) fn push_item<'a>(
     value: Tree<'a>,
 ) -> Result<(), YamlFault>
     ensures ok { OnOk result (AddsItem items.old.items items.new.items line (node value.entry)) }
-    ensures err { IfErr result (λ e. e.kind ≡ Kind.Memory) }
+    ensures err { IfErr result (λ f. (f.kind ≡ Kind.Memory) × (f.line ≡ 0)) }
 {
     items.push(Item { line, value })?;
     Ok(())
@@ -114,7 +114,8 @@ pub(crate) fn push_entry<'a>(
     value: Tree<'a>,
 ) -> Result<(), YamlFault>
     ensures ok { OnOk result (AddsEntry entries.old.items entries.new.items key.entry line (node value.entry)) }
-    ensures err { IfErr result (λ e. e.kind ≡ Kind.Memory) }
+    ensures err { IfErr result (λ f. (f.kind ≡ Kind.Memory) × (f.line ≡ 0)) }
+    ensures kept { OnErr result (entries.new.items ≡ entries.old.items) }
 {
     entries.push(Entry { key, line, value })?;
     Ok(())

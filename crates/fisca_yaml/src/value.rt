@@ -1,18 +1,18 @@
-ghost use Rattle.std.specs.Prelude.{◌≡◌, ◌≢◌, ℕ, ◌∷◌, Some, None, Ok, Err, OnOk, IfOk, true, false, ◌||◌};
+ghost use Rattle.std.specs.Prelude.{◌≡◌, ◌≢◌, ℕ, ◌∷◌, Some, None, Ok, Err, OnOk, IfOk, true, false, ◌||◌, IfErr};
 ghost use Rattle.std.specs.List.{list_all};
-ghost use Rattle.fisca_yaml.specs.Rows.{begins, tail};
+ghost use Rattle.fisca_yaml.specs.Rows.{begins, tail, last_number};
 ghost use Rattle.fisca_yaml.specs.Scalars.{is_quote, quoted, quoted_value, plain_value};
 ghost use Rattle.fisca_yaml.specs.Flow.{flow_value};
 ghost use Rattle.fisca_yaml.specs.Grouping.{front, after, alone, ended, on_line, is_sign, is_header, is_text_line, text_block, begins_text, beside};
 ghost use Rattle.fisca_yaml.specs.Lines.{row};
 ghost use Rattle.fisca_yaml.specs.Views.{node};
-ghost use Rattle.fisca_yaml.specs.Answers.{Gives};
+ghost use Rattle.fisca_yaml.specs.Answers.{Gives, IsTold};
 
 use crate::fault::{Kind, YamlFault, at};
 use crate::flow::{Flow, read_flow, refused_kind};
 use crate::line::Line;
 use crate::lines::Lines;
-use crate::marks::{around, begins, ends_line, is_bracket, is_quote, may_begin, trim_end};
+use crate::marks::{around, ends_line, is_bracket, is_quote, may_begin, trim_end};
 use crate::misfit::{is_open, misplaced};
 use crate::plain::value_text;
 use crate::quoted::read_quoted;
@@ -25,7 +25,8 @@ pub(crate) fn read_on_line<'a>(
     line: &Line<'a>,
     depth: usize,
 ) -> Result<Tree<'a>, YamlFault>
-    ensures { Gives node result (on_line depth (row line.now)) }
+    ensures value { Gives node result (on_line depth (row line.now)) }
+    ensures told { IfErr result (IsTold line.now.number) }
 {
     let bytes = line.content.as_bytes();
     if is_bracket(bytes) {
@@ -39,7 +40,8 @@ pub(crate) fn read_on_line<'a>(
 
 /// A collection in brackets, up to the line's end.
 fn read_bracketed<'a>(alloc: Global, line: &Line<'a>, depth: usize) -> Result<Tree<'a>, YamlFault>
-    ensures { Gives node result (ended (flow_value depth line.now.number line.now.content.now)) }
+    ensures value { Gives node result (ended (flow_value depth line.now.number line.now.content.now)) }
+    ensures told { IfErr result (IsTold line.now.number) }
 {
     let mut flow = Flow::new(line.content);
     let tree = read_flow(alloc, line.number, &mut flow, depth)?;
@@ -52,7 +54,8 @@ fn read_bracketed<'a>(alloc: Global, line: &Line<'a>, depth: usize) -> Result<Tr
 
 /// A quoted scalar, up to the line's end.
 fn read_quoted_value<'a>(alloc: Global, line: &Line<'a>) -> Result<Tree<'a>, YamlFault>
-    ensures { Gives node result (quoted_value line.now.number (quoted line.now.content.now)) }
+    ensures value { Gives node result (quoted_value line.now.number (quoted line.now.content.now)) }
+    ensures told { IfErr result (IsTold line.now.number) }
 {
     let Some((text, rest)) = read_quoted(alloc, line.content)? else {
         return Err(at(line.number, Kind::BadQuote));
@@ -66,7 +69,8 @@ fn read_quoted_value<'a>(alloc: Global, line: &Line<'a>) -> Result<Tree<'a>, Yam
 
 /// A plain scalar, up to the line's end or a comment.
 fn read_plain_value<'a>(line: &Line<'a>) -> Result<Tree<'a>, YamlFault>
-    ensures { Gives node result (plain_value line.now.number line.now.content.now) }
+    ensures value { Gives node result (plain_value line.now.number line.now.content.now) }
+    ensures told { IfErr result (IsTold line.now.number) }
 {
     let bytes = line.content.as_bytes();
     if !may_begin(bytes) {
@@ -87,6 +91,7 @@ pub(crate) fn read_alone<'a>(
     depth: usize,
 ) -> Result<Tree<'a>, YamlFault>
     ensures value { Gives node result (alone (front floor rest.old) (on_line depth (row line.now))) }
+    ensures told { IfErr result (IsTold (last_number (row line.now ∷ rest.old))) }
     ensures rest { OnOk result (rest.new ≡ after floor rest.old) }
 {
     let Some(deeper) = rest.next_deeper(floor) else {
@@ -107,10 +112,10 @@ pub(crate) fn read_beside<'a>(
     depth: usize,
 ) -> Result<Tree<'a>, YamlFault>
     ensures value { Gives node result (beside depth indent (row line.now) (front floor rest.old)) }
+    ensures told { IfErr result (IsTold (last_number (row line.now ∷ rest.old))) }
     ensures rest { OnOk result (rest.new ≡ after floor rest.old) }
 {
-    let bytes = line.content.as_bytes();
-    if begins(bytes, b'|') || begins(bytes, b'>') {
+    if line.begins_text() {
         return read_text(alloc, line, rest, indent, floor, depth);
     }
     read_alone(alloc, line, rest, floor, depth)
@@ -157,6 +162,7 @@ fn read_text<'a>(
 ) -> Result<Tree<'a>, YamlFault>
     requires { begins_text (row line.now) ≡ true }
     ensures value { Gives node result (text_block indent (row line.now) (front floor rest.old)) }
+    ensures told { IfErr result (IsTold (last_number (row line.now ∷ rest.old))) }
     ensures rest { OnOk result (rest.new ≡ after floor rest.old) }
 {
     if !is_header(tail(line.content)) {

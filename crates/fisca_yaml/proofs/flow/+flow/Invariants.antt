@@ -1,7 +1,7 @@
 use Rattle.std.proofs.Common.{◌≡◌, ℕ, ◌+◌, ◌*◌, ◌≤◌, length}
-use Rattle.fisca_yaml.specs.Node.{no_items, item, no_entries}
+use Rattle.fisca_yaml.specs.Node.{AreNumbered, last_line, no_items, item, no_entries}
 use Rattle.fisca_yaml.specs.Flow.{parse_map, series, flow_items, flow_entries, flow_entry, add_pair, flow_value}
-use Rattle.fisca_yaml.specs.Views.{items_before, entries_before}
+use Rattle.fisca_yaml.specs.Views.{entries_view, items_before, entries_before}
 use Rattle.fisca_yaml.proofs.flow.+flow.Given as goal
 
 abbrev pub decreases-read_flow : goal.decreases-read_flow
@@ -30,7 +30,7 @@ decreases-read_flow_items-loop-alloc l = length l.flow
 abbrev pub invariant-read_flow_entries-loop-alloc : goal.invariant-read_flow_entries-loop-alloc
 invariant-read_flow_entries-loop-alloc l =
     (n : ℕ) × (length l.flow ≤ n) × (flow_entries (flow_value l.depth l.number) l.number l.initial.flow ≡ parse_map (entries_before l.entries.items) (series 125 no_entries (add_pair l.number) (flow_entry (flow_value l.depth l.number)) n l.flow))
-    × (length l.flow ≤ length l.initial.flow)
+    × (length l.flow ≤ length l.initial.flow) × AreNumbered (entries_view l.entries.items) × (last_line (entries_view l.entries.items) ≤ l.number)
 
 abbrev pub decreases-read_flow_entries-loop-alloc : goal.decreases-read_flow_entries-loop-alloc
 decreases-read_flow_entries-loop-alloc l = length l.flow

@@ -8,11 +8,12 @@ use Rattle.std.proofs.lemmas.Map.Text.{btree_map_updates_str}
 use Rattle.fisca_yaml.specs.declared.tree.Entry.{Entry}
 use Rattle.fisca_yaml.specs.Node.{keys, repeats}
 use Rattle.fisca_yaml.specs.Views.{entries_view}
+use Rattle.fisca_yaml.proofs.Numbers.{line_of_entry}
 use Rattle.fisca_yaml.proofs.Twice.{found, not_yet, one_more_key, key, key-is, put, swap_eq, all_keys}
 use Rattle.fisca_yaml.proofs.keys.repeated_among_many.Goals as goal
 
-pub returns-then-is_some : goal.returns-then-is_some
-returns-then-is_some c =
+pub returns-then-is_some-clause-value : goal.returns-then-is_some-clause-value
+returns-then-is_some-clause-value c =
     let es = c.args.entries.now in
     let i = c.loop-entry.entry-index in
     let e = c.entry-item.result in
@@ -41,5 +42,10 @@ loop-entry-preserved c =
           ∙ ap₂ (λ a b. a || b) (c.loop-entry.invariant.1 q) (swap_eq (key (get_or es i e)) q) ∙ sym (one_more_key es i e within q),
     )
 
-pub returns : goal.returns
-returns c = sym c.loop-entry.invariant.0 ∙ ap repeats (all_keys c.args.entries.now c.loop-entry.entry-index (omega arith))
+pub returns-clause-value : goal.returns-clause-value
+returns-clause-value c = sym c.loop-entry.invariant.0 ∙ ap repeats (all_keys c.args.entries.now c.loop-entry.entry-index (omega arith))
+
+pub returns-then-is_some-clause-line : goal.returns-then-is_some-clause-line
+returns-then-is_some-clause-line c =
+    let within : c.loop-entry.entry-index < length c.args.entries.now = grind arith in
+    rw (← c.entry-item.is) at (line_of_entry c.args.entries.now c.loop-entry.entry-index c.entry-item.result within c.requires)

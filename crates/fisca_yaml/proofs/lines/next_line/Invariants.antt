@@ -6,7 +6,7 @@ use Rattle.fisca_yaml.specs.Rows.{rows}
 use Rattle.fisca_yaml.proofs.lines.next_line.Given as goal
 
 abbrev pub invariant-lines : goal.invariant-lines
-invariant-lines l = shadow (Utf8 l.rest) × (rows l.number (lines l.text) ≡ rows l.at (lines l.rest)) × (l.at + length l.rest ≤ l.number + length l.text)
+invariant-lines l = shadow (Utf8 l.rest) × (rows l.number (lines l.text) ≡ rows l.at (lines l.rest)) × (l.at + length l.rest ≤ l.number + length l.text) × (l.number ≤ l.at)
 
 abbrev pub decreases-lines : goal.decreases-lines
 decreases-lines l = length l.rest

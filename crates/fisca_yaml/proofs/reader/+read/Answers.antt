@@ -10,6 +10,7 @@ use Rattle.fisca_yaml.specs.Views.{node, entries_view, items_before, entries_bef
 use Rattle.fisca_yaml.specs.declared.tree.Tree.{Null, the_lemmas}
 use Rattle.fisca_yaml.proofs.Blocks.{block-nil, block-zero, block-closed, block-item, block-entry}
 use Rattle.fisca_yaml.proofs.Grown.{node-List, all_more, all_none, items_before-no_items, entries_before-no_entries}
+use Rattle.fisca_yaml.proofs.Numbers.{last_after, last_taken, more_numbered, more_last}
 use Rattle.fisca_yaml.proofs.Groups.{takes, Takes, Takes-after, Takes-settled, Takes-fewer, front_deeper, pending, waiting, waiting-map, front_after, after_after}
 use Rattle.fisca_yaml.proofs.reader.+read.Goals as goal
 
@@ -39,7 +40,7 @@ pub read_block-returns-in_ok-entries-clause-value : goal.read_block-returns-in_o
 read_block-returns-in_ok-entries-clause-value t c =
     let whole : block c.args.depth (row c.args.head ∷ front c.args.floor c.args.rest.now) ≡ map_of (Some (entries_view c.in_ok-entries.entries.items)) =
     block-entry c.args.depth (row c.args.head) (front c.args.floor c.args.rest.now) (omega arith) (grind arith) ∙ ap map_of c.in_ok-entries.ensures.value in
-    subst (Gives node c.make_map.result) (sym whole) c.make_map.ensures
+    subst (Gives node c.make_map.result) (sym whole) c.make_map.ensures.value
 
 pub read_items-loop-next-smaller : goal.read_items-loop-next-smaller
 read_items-loop-next-smaller t c =
@@ -64,11 +65,14 @@ read_items-loop-next-preserved t c =
     let took : Takes f c.read_item.new.rest next new = takes f c.read_item.new.rest row c.next_deeper-next.result new c.next_deeper-next.ensures.none c.next_deeper-next.ensures.some in
     let before : items_of value r (groups r (pending f (option_map row l.next) l.rest)) ≡ items_of value r (groups r (line ∷ front f l.rest)) = ap (λ o. items_of value r (groups r (pending f (option_map row o) l.rest))) c.in-Some.is in
     let more = all_more no_items item items_before value f r line l.rest below here l.items.items c.push_item.new.items.items (node c.in_ok-value.value) next new c.read_item.new.rest c.in_ok-value.ensures.value c.in_ok-push_item.ensures.ok left took in
+    let at = rw c.in-Some.is at l.invariant.bound in
+    let gone = rw left at (last_taken f c.read_item.new.rest next new took) in
     let shallow : front r c.read_item.new.rest ≡ [] = ap (front r) left ∙ ap (λ k. front r (after k l.rest)) here ∙ front_after r l.rest in
     record {
       turn = l.invariant.turn ∙ ap (option_map (items_before l.items.items)) before ∙ more;
       left = Takes-after f c.read_item.new.rest next new took ∙ ap (after f) left ∙ after_after f (rank line) l.rest (omega arith) ∙ l.invariant.left;
       next = Takes-settled f r c.read_item.new.rest next new shallow took;
+      bound = omega (arith, at, gone, last_after (rank line) l.rest);
     }
 
 pub read_items-returns-clause-value : goal.read_items-returns-clause-value
@@ -98,7 +102,7 @@ read_items-returns-in_err-value-clause-value t c =
 pub read_entries-loop-next-smaller : goal.read_entries-loop-next-smaller
 read_entries-loop-next-smaller t c =
     let l = c.loop-next in
-    let left = c.in_ok-read_entry.ensures.rest in
+    let left = c.in_default-read_entry.ensures.rest in
     let took : Takes c.args.floor c.read_entry.new.rest (option_map row c.next_deeper-next.result) c.next_deeper-next.new.self = takes c.args.floor c.read_entry.new.rest row c.next_deeper-next.result c.next_deeper-next.new.self c.next_deeper-next.ensures.none c.next_deeper-next.ensures.some in
     let fewer = Takes-fewer c.args.floor (rank (row c.in-Some.line)) l.rest (option_map row c.next_deeper-next.result) c.next_deeper-next.new.self (rw left at took) in
     omega (arith, fewer, waiting-map row c.next_deeper-next.result, ap waiting c.in-Some.is)
@@ -112,18 +116,23 @@ read_entries-loop-next-preserved t c =
     let value = entry_value c.args.depth (block c.args.depth) in
     let next = option_map row c.next_deeper-next.result in
     let new = c.next_deeper-next.new.self in
-    let left = c.in_ok-read_entry.ensures.rest in
+    let left = c.in_default-read_entry.ensures.rest in
     let below : f ≤ r = grind arith in
     let here : rank line ≡ r = grind arith in
     let took : Takes f c.read_entry.new.rest next new = takes f c.read_entry.new.rest row c.next_deeper-next.result new c.next_deeper-next.ensures.none c.next_deeper-next.ensures.some in
     let before : entries_of value r (groups r (pending f (option_map row l.next) l.rest)) ≡ entries_of value r (groups r (line ∷ front f l.rest)) = ap (λ o. entries_of value r (groups r (pending f (option_map row o) l.rest))) c.in-Some.is in
-    let put = c.in_ok-read_entry.ensures.value in
+    let put = c.in_default-read_entry.ensures.value in
     let more = all_more no_entries add_pair entries_before value f r line l.rest below here l.entries.items c.read_entry.new.entries.items put.0 next new c.read_entry.new.rest put.1.0 put.1.1 left took in
+    let at = rw c.in-Some.is at l.invariant.bound in
+    let gone = rw left at (last_taken f c.read_entry.new.rest next new took) in
     let shallow : front r c.read_entry.new.rest ≡ [] = ap (front r) left ∙ ap (λ k. front r (after k l.rest)) here ∙ front_after r l.rest in
     record {
       turn = l.invariant.turn ∙ ap (option_map (entries_before l.entries.items)) before ∙ more;
       left = Takes-after f c.read_entry.new.rest next new took ∙ ap (after f) left ∙ after_after f (rank line) l.rest (omega arith) ∙ l.invariant.left;
       next = Takes-settled f r c.read_entry.new.rest next new shallow took;
+      bound = omega (arith, at, gone, last_after (rank line) l.rest);
+      numbered = more_numbered l.entries.items c.read_entry.new.entries.items put.0.0 line.number put.0.1 put.1.1 (omega arith) l.invariant.numbered;
+      lines = omega (arith, at, l.invariant.lines, more_last l.entries.items c.read_entry.new.entries.items put.0.0 line.number put.0.1 put.1.1);
     }
 
 pub read_entries-returns-clause-value : goal.read_entries-returns-clause-value
@@ -135,8 +144,8 @@ read_entries-returns-clause-value t c =
     let done : entries_of value r (groups r (pending c.args.floor (option_map row l.next) l.rest)) ≡ Some no_entries = ap (λ o. entries_of value r (groups r (pending c.args.floor (option_map row o) l.rest))) c.in_default.is in
     ap (λ k. entries_of value k (groups k (row c.args.head ∷ front c.args.floor c.args.rest.now))) (sym same) ∙ l.invariant.turn ∙ ap (option_map (entries_before l.entries.items)) done ∙ ap Some (entries_before-no_entries l.entries.items)
 
-pub read_entries-returns-in_err-read_entry-clause-value : goal.read_entries-returns-in_err-read_entry-clause-value
-read_entries-returns-in_err-read_entry-clause-value t c =
+pub read_entries-returns-in-Err-clause-value : goal.read_entries-returns-in-Err-clause-value
+read_entries-returns-in-Err-clause-value t c k =
     let l = c.loop-next in
     let line = row c.in-Some.line in
     let f = c.args.floor in
@@ -146,9 +155,40 @@ read_entries-returns-in_err-read_entry-clause-value t c =
     let below : f ≤ r = grind arith in
     let here : rank line ≡ r = grind arith in
     let before : entries_of value r (groups r (pending f (option_map row l.next) l.rest)) ≡ entries_of value r (groups r (line ∷ front f l.rest)) = ap (λ o. entries_of value r (groups r (pending f (option_map row o) l.rest))) c.in-Some.is in
-    let p = err_from_is_err_and c.from_residual-in_err-read_entry.result c.from_residual-in_err-read_entry.ensures.1 in
-    rw (p.1, p.2) (λ k. ap (λ k. entries_of value k (groups k (row c.args.head ∷ front c.args.floor c.args.rest.now))) (sym same) ∙ l.invariant.turn
-    ∙ ap (option_map (entries_before l.entries.items)) (before ∙ all_none no_entries add_pair entries_before value f r line l.rest below here (c.in_err-read_entry.ensures.value k)))
+    ap (λ k. entries_of value k (groups k (row c.args.head ∷ front c.args.floor c.args.rest.now))) (sym same) ∙ l.invariant.turn
+    ∙ ap (option_map (entries_before l.entries.items)) (before ∙ all_none no_entries add_pair entries_before value f r line l.rest below here (c.in-Err.ensures.value (c.first_fault-in-Err.ensures.memory k)))
+
+pub read_items-returns-then-rank-clause-told : goal.read_items-returns-then-rank-clause-told
+read_items-returns-then-rank-clause-told t c =
+    let at = rw c.in-Some.is at c.loop-next.invariant.bound in
+    (omega (arith, at, c.misplaced.ensures.0), c.misplaced.ensures.1)
+
+pub read_items-returns-in_err-value-clause-told : goal.read_items-returns-in_err-value-clause-told
+read_items-returns-in_err-value-clause-told t c =
+    let at = rw c.in-Some.is at c.loop-next.invariant.bound in
+    let p = err_from_is_err_and c.from_residual.result c.from_residual.ensures.1 in
+    rw (p.1, p.2) (omega (arith, at, c.in_err-value.ensures.told.0), c.in_err-value.ensures.told.1)
+
+pub read_entries-first_fault-requires : goal.read_entries-first_fault-requires
+read_entries-first_fault-requires t c = rw c.deref.ensures.value c.loop-next.invariant.numbered
+
+pub read_entries-returns-then-rank-clause-told : goal.read_entries-returns-then-rank-clause-told
+read_entries-returns-then-rank-clause-told t c =
+    let at = rw c.in-Some.is at c.loop-next.invariant.bound in
+    let lines = rw c.deref.ensures.value at c.first_fault.ensures.line in
+    (omega (arith, at, lines, c.loop-next.invariant.lines, c.misplaced-fault.ensures.0), c.first_fault.ensures.long c.misplaced-fault.ensures.1)
+
+pub read_entries-first_fault-requires-in-Err : goal.read_entries-first_fault-requires-in-Err
+read_entries-first_fault-requires-in-Err t c = rw (c.deref-in-Err.ensures.value, c.in-Err.ensures.kept) c.loop-next.invariant.numbered
+
+pub read_entries-returns-in-Err-clause-told : goal.read_entries-returns-in-Err-clause-told
+read_entries-returns-in-Err-clause-told t c =
+    let at = rw c.in-Some.is at c.loop-next.invariant.bound in
+    let lines = rw (c.deref-in-Err.ensures.value, c.in-Err.ensures.kept) at c.first_fault-in-Err.ensures.line in
+    (omega (arith, at, lines, c.loop-next.invariant.lines, c.in-Err.ensures.told.0), c.first_fault-in-Err.ensures.long c.in-Err.ensures.told.1)
+
+pub read_entries-returns-clause-lines : goal.read_entries-returns-clause-lines
+read_entries-returns-clause-lines t c = (c.loop-next.invariant.numbered, c.loop-next.invariant.lines)
 
 pub read_below-returns-else-branch-clause-value : goal.read_below-returns-else-branch-clause-value
 read_below-returns-else-branch-clause-value t c k =

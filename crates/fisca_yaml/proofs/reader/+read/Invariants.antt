@@ -1,8 +1,10 @@
-use Rattle.std.proofs.Common.{◌≡◌, ◌+◌, ◌*◌, ◌∷◌, length, option_map}
+use Rattle.std.proofs.Common.{◌≡◌, ◌+◌, ◌*◌, ◌≤◌, ◌∷◌, length, option_map}
 use Rattle.fisca_yaml.specs.Grouping.{front, after, groups, items_of, entries_of, item_value, entry_value, block}
 use Rattle.fisca_yaml.specs.Lines.{row}
 use Rattle.fisca_yaml.proofs.Groups.{pending, waiting, Settled}
-use Rattle.fisca_yaml.specs.Views.{items_before, entries_before}
+use Rattle.fisca_yaml.specs.Rows.{last_number, with_row}
+use Rattle.fisca_yaml.specs.Node.{AreNumbered, last_line}
+use Rattle.fisca_yaml.specs.Views.{entries_view, items_before, entries_before}
 use Rattle.fisca_yaml.proofs.reader.+read.Given as goal
 
 abbrev pub decreases-read_below : goal.decreases-read_below
@@ -31,6 +33,9 @@ invariant-read_entries-loop-next l = record {
   turn : entries_of (entry_value l.depth (block l.depth)) l.rank (groups l.rank (row l.fn.head ∷ front l.floor l.initial.rest)) ≡ option_map (entries_before l.entries.items) (entries_of (entry_value l.depth (block l.depth)) l.rank (groups l.rank (pending l.floor (option_map row l.next) l.rest)));
   left : after l.floor l.rest ≡ after l.floor l.initial.rest;
   next : Settled l.floor l.rank (option_map row l.next) l.rest;
+  bound : last_number (with_row (option_map row l.next) l.rest) ≤ last_number (row l.fn.head ∷ l.initial.rest);
+  numbered : AreNumbered (entries_view l.entries.items);
+  lines : last_line (entries_view l.entries.items) ≤ last_number (row l.fn.head ∷ l.initial.rest);
 }
 
 abbrev pub decreases-read_entries-loop-next : goal.decreases-read_entries-loop-next
@@ -41,6 +46,7 @@ invariant-read_items-loop-next l = record {
   turn : items_of (item_value l.depth (block l.depth)) l.rank (groups l.rank (row l.fn.head ∷ front l.floor l.initial.rest)) ≡ option_map (items_before l.items.items) (items_of (item_value l.depth (block l.depth)) l.rank (groups l.rank (pending l.floor (option_map row l.next) l.rest)));
   left : after l.floor l.rest ≡ after l.floor l.initial.rest;
   next : Settled l.floor l.rank (option_map row l.next) l.rest;
+  bound : last_number (with_row (option_map row l.next) l.rest) ≤ last_number (row l.fn.head ∷ l.initial.rest);
 }
 
 abbrev pub decreases-read_items-loop-next : goal.decreases-read_items-loop-next

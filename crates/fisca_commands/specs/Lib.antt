@@ -3,4 +3,3 @@ pub mod AxesRun
 pub mod Check
 pub mod LastLine
 pub mod Ending
-pub mod Shown

@@ -34,6 +34,8 @@ fn measure(
 ) -> io::Result<Option<Measured>> {
     let texts = texts_of(alloc)?;
     let periods = periods_of(alloc, texts.as_slice())?;
+    let day_texts = day_texts_of(alloc)?;
+    let days = periods_of(alloc, day_texts.as_slice())?;
     let start = Instant::now(rt)?;
     let checksum = match operation {
         "read" => read(texts.as_slice(), rounds),
@@ -43,6 +45,12 @@ fn measure(
         "sub" => last_months(periods.as_slice(), rounds),
         "compare" => compared(periods.as_slice(), rounds),
         "hash" => hashed(periods.as_slice(), rounds),
+        "read_days" => read(day_texts.as_slice(), rounds),
+        "text_days" => written(alloc, days.as_slice(), rounds),
+        "move_by_days" => moved(days.as_slice(), Unit::Day, rounds),
+        "move_by_months" => moved(days.as_slice(), Unit::Month, rounds),
+        "day_of_year" => year_days(periods.as_slice(), rounds),
+        "overlaps" => overlapping(days.as_slice(), periods.as_slice(), rounds),
         _ => return Ok(None),
     };
     let nanoseconds = start.elapsed(rt)?.as_nanos();
@@ -82,6 +90,29 @@ fn texts_of(alloc: Global) -> Result<Vec<String>, AllocError> {
     Ok(texts)
 }
 
+/// Texts of days, the last ones of months among them.
+fn day_texts_of(alloc: Global) -> Result<Vec<String>, AllocError> {
+    let mut texts = Vec::with_capacity(alloc, TABLE as usize)?;
+    let mut state = 88_172_645_463_325_252u64;
+    for _ in 0..TABLE {
+        let a = next(state);
+        state = next(a);
+        let year = 1900 + a % 200;
+        let (month, day) = match state % 4 {
+            0 => (1 + state % 12, 1 + a % 28),
+            1 => (1, 31),
+            2 => (5, 31),
+            _ => (10, 31),
+        };
+        let size = 2 + state % 30;
+        texts.push(match a % 4 {
+            0 => format!(in alloc; "day:{year}-{month:02}-{day:02}:{size}")?,
+            _ => format!(in alloc; "{year}-{month:02}-{day:02}")?,
+        })?;
+    }
+    Ok(texts)
+}
+
 fn periods_of(alloc: Global, texts: &[String]) -> Result<Vec<Period>, AllocError> {
     let mut periods = Vec::with_capacity(alloc, TABLE as usize)?;
     for text in texts {
@@ -98,6 +129,17 @@ fn mixed(checksum: u64, period: Period) -> u64 {
         None => 0,
     };
     checksum.rotate_left(5).wrapping_add((start << 16) ^ months)
+}
+
+/// A checksum with the start of one more period.
+fn mixed_start(checksum: u64, period: Period) -> u64 {
+    let start = match period.start() {
+        Some(day) => {
+            (u64::from(day.year()) * 16 + u64::from(day.month())) * 32 + u64::from(day.day())
+        }
+        None => 0,
+    };
+    checksum.rotate_left(5).wrapping_add(start)
 }
 
 fn read(texts: &[String], rounds: u64) -> u64 {
@@ -197,4 +239,43 @@ fn hashed(periods: &[Period], rounds: u64) -> u64 {
         }
     }
     checksum
+}
+
+/// Moves of days by -8 to 7 of a unit.
+fn moved(days: &[Period], unit: Unit, rounds: u64) -> u64 {
+    let mut checksum = 0;
+    for round in 0..rounds {
+        let k = (round % 16) as i64 - 8;
+        for day in days {
+            if let Ok(moved) = day.offset_by(k, unit) {
+                checksum = mixed_start(checksum, moved);
+            }
+        }
+    }
+    checksum
+}
+
+/// A day of each period, another one in each round.
+fn year_days(periods: &[Period], rounds: u64) -> u64 {
+    let mut checksum = 0;
+    for round in 0..rounds {
+        for period in periods {
+            if let Ok(count) = period.sub_count(Unit::Day) {
+                let i = (round % 365) as u32;
+                checksum = mixed_start(checksum, period.sub(Unit::Day, i % count));
+            }
+        }
+    }
+    checksum
+}
+
+/// How many of the days share a day with the period at the same place.
+fn overlapping(days: &[Period], periods: &[Period], rounds: u64) -> u64 {
+    let mut shared: u64 = 0;
+    for _ in 0..rounds {
+        for (day, period) in days.iter().zip(periods) {
+            shared = shared.wrapping_add(u64::from(day.overlaps(period)));
+        }
+    }
+    shared
 }

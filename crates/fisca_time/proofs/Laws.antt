@@ -1,5 +1,5 @@
 -- Laws of periods.
-use Rattle.std.proofs.Common.{◌≡◌, ℕ, zero, suc, ◌+◌, ◌*◌, ◌<◌, ◌≤◌, true, false, ◌&&◌, List, length, map, Some, None, slice_get, arith, refl, ap, sym, ◌∙◌, ◌↔◌, inl, inr, ℤ, pos, negsuc, neg_ℤ, ◌+ℤ◌, ◌*ℤ◌, Ok, Err}
+use Rattle.std.proofs.Common.{◌≡◌, ℕ, zero, suc, ◌+◌, ◌<◌, ◌≤◌, true, false, length, map, Some, None, slice_get, arith, refl, ap, sym, ◌∙◌, ◌↔◌, inl, inr, ℤ, pos, negsuc, neg_ℤ, ◌+ℤ◌, Ok, Err}
 use Rattle.std.specs.List.{range_with_len}
 use Rattle.std.proofs.lemmas.Bool.{cases_lt, and_parts, cases_Bool}
 use Rattle.std.proofs.lemmas.List.FromFn.{length-map-range_with_len}

@@ -1,0 +1,83 @@
+-- The tree that an expression stands for.
+use Rattle.std.specs.Prelude.{◌≡◌, ℕ, List, [], ◌∷◌, Bool, if◌then◌else◌, map, ◌≢◌, Result, Ok, Err, length, Option, Some, None, slice_get, ◌-◌}
+use Rattle.fisca_tokens.specs.declared.fault.FormulaFault.{FormulaFault}
+use Rattle.fisca_tokens.specs.declared.fault.Kind.TheVariants.{Memory}
+use Rattle.fisca_expressions.specs.Reading.{Outcome, Reader, ◌>>=◌, reads, ends}
+use Rattle.fisca_expressions.specs.declared.sign.Sign.{Sign}
+use Rattle.fisca_tokens.specs.declared.token.Token.{Token}
+use Rattle.fisca_expressions.specs.Signs.{signs}
+use Rattle.fisca_expressions.specs.declared.tree.Mode.{Mode}
+use Rattle.fisca_expressions.specs.declared.tree.Expr.{Expr, fold-Expr}
+use Rattle.fisca_expressions.specs.declared.tree.Argument.TheOpen.{Expr-F, Arguments-F, Argument-F}
+use Rattle.fisca_expressions.specs.declared.tree.Arguments.{Arguments, fold-Arguments}
+use Rattle.fisca_expressions.specs.declared.tree.Argument.{Argument as Given, fold-Argument}
+use Rattle.fisca_expressions.specs.Tree.{Tree, Series, Argument, name, number, text, bracketed, attribute, applied, prefixed, binary, compare, nothing, last, next, positional, keyword, entry}
+
+-- these arguments, each with a comma behind it, and then more
+abbrev pub in_front : List Argument → Series → Series
+in_front [] more = more
+in_front (a ∷ xs) more = next a (in_front xs more)
+
+-- with a comma behind the last, or without
+abbrev pub series_of : Bool → List Argument → Series
+series_of comma [] = nothing
+series_of comma (a ∷ []) = if comma then next a nothing else last a
+series_of comma (a ∷ b ∷ xs) = next a (series_of comma (b ∷ xs))
+
+abbrev pub expr_step : Expr-F Argument Tree Series → Tree
+expr_step (Expr-F.Name t) = name t
+expr_step (Expr-F.Number t) = number t
+expr_step (Expr-F.Text t) = text t
+expr_step (Expr-F.Bracketed b xs) = bracketed b xs
+expr_step (Expr-F.Attribute e t) = attribute e.value t
+expr_step (Expr-F.Applied e s xs) = applied s e.value xs
+expr_step (Expr-F.Prefixed p e) = prefixed p e.value
+expr_step (Expr-F.Binary o a b) = binary o a.value b.value
+expr_step (Expr-F.Compare o a b) = compare o a.value b.value
+
+abbrev pub arguments_step : Arguments-F Argument Tree Series → Series
+arguments_step xs = series_of xs.comma xs.items.items
+
+abbrev pub argument_step : Argument-F Argument Tree Series → Argument
+argument_step (Argument-F.Positional e) = positional e
+argument_step (Argument-F.Keyword k e) = keyword k e
+argument_step (Argument-F.Entry k e) = entry k e
+
+abbrev pub tree : Expr → Tree
+tree = fold-Expr Argument Tree Series argument_step expr_step arguments_step
+
+abbrev pub series_view : Arguments → Series
+series_view = fold-Arguments Argument Tree Series argument_step expr_step arguments_step
+
+abbrev pub argument_view : Given → Argument
+argument_view = fold-Argument Argument Tree Series argument_step expr_step arguments_step
+
+-- arguments, each with a comma behind it, and then more
+abbrev pub before : List Given → Series → Series
+before xs more = in_front (map argument_view xs) more
+
+-- an expression and nothing else
+abbrev pub whole : Mode → ℕ → Reader Tree
+whole m limit = reads m limit 0 >>= ends
+
+-- this tree was found, unless memory ran out
+abbrev pub Finds : Tree → Result Expr FormulaFault → Type 0
+Finds e (Ok x) = tree x ≡ e
+Finds e (Err f) = ¬ (f.kind ≢ Memory)
+
+-- the line of this token, else this one
+abbrev pub line_or : ℕ → Option Token → ℕ
+line_or line None = line
+line_or line (Some t) = t.line
+
+-- of the token behind which so many are left, or of the last one
+abbrev pub line_in : List Token → ℕ → ℕ
+line_in tokens left = line_or (line_or 1 (slice_get tokens (length tokens - 1))) (slice_get tokens (length tokens - left))
+
+abbrev pub placed : List Token → Outcome Tree → Option FormulaFault
+placed tokens (Ok x) = None
+placed tokens (Err r) = Some (record { line = line_in tokens r.left; kind = r.kind })
+
+-- the first fault from the left, with its line
+abbrev pub told : Mode → ℕ → List ℕ → List Token → Option FormulaFault
+told m limit source tokens = placed tokens (whole m limit (signs source tokens))

@@ -1,0 +1,20 @@
+//! Expressions of modules: a list of tokens is read as the one tree that is spelled so.
+#![tactic(auto)]
+
+mod cursor;
+mod made;
+mod marks;
+mod measured;
+mod places;
+mod reader;
+mod refusal;
+mod sign;
+mod tree;
+mod words;
+
+pub use reader::read_expression;
+pub use sign::{Sign, Slice};
+pub use tree::{
+    Argument, Arguments, Bracket, Comparison, Expr, Mode, Operator, Place, Prefix, Suffix,
+};
+pub use words::is_name;

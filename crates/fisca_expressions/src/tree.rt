@@ -1,0 +1,136 @@
+use crate::sign::Slice;
+
+/// What stands between two operands.
+#[derive(Clone, Copy, Debug, PartialEq, Eq)]
+pub enum Operator {
+    /// `|`
+    Or,
+    /// `&`
+    And,
+    /// `+`
+    Add,
+    /// `-`
+    Subtract,
+    /// `*`
+    Multiply,
+    /// `/`
+    Divide,
+}
+
+/// How two operands are compared.
+#[derive(Clone, Copy, Debug, PartialEq, Eq)]
+pub enum Comparison {
+    /// `<`
+    Less,
+    /// `<=`
+    LessEqual,
+    /// `>`
+    Greater,
+    /// `>=`
+    GreaterEqual,
+    /// `==`
+    Equal,
+    /// `!=`
+    NotEqual,
+}
+
+/// What stands before an operand.
+#[derive(Clone, Copy, Debug, PartialEq, Eq)]
+pub enum Prefix {
+    /// `+`
+    Plus,
+    /// `-`
+    Minus,
+    /// `~`
+    Not,
+}
+
+/// A pair of brackets that begins an expression.
+#[derive(Clone, Copy, Debug, PartialEq, Eq)]
+pub enum Bracket {
+    /// `( )`: a value in parentheses, or a tuple.
+    Round,
+    /// `[ ]`: a list.
+    Square,
+    /// `{ }`: a map.
+    Curly,
+}
+
+/// A pair of brackets behind an expression.
+#[derive(Clone, Copy, Debug, PartialEq, Eq)]
+pub enum Suffix {
+    /// `( )`
+    Call,
+    /// `[ ]`
+    Subscript,
+}
+
+/// What an expression may have.
+#[derive(Clone, Copy, Debug, PartialEq, Eq)]
+pub enum Mode {
+    /// All forms: values of attributes and arguments of entities.
+    Value,
+    /// No tuples and no maps.
+    Formula,
+}
+
+/// An expression as it is written.
+#[cycle(tree)]
+#[derive(Drop)]
+pub enum Expr<'a> {
+    /// A name, or `True` or `False`.
+    Name(Slice<'a>),
+    /// A number.
+    Number(Slice<'a>),
+    /// Texts in quotes, side by side.
+    Text(Slice<'a>),
+    /// What stands in brackets.
+    Bracketed(Bracket, Arguments<'a>),
+    /// An expression, a point and a name.
+    Attribute(Box<Expr<'a>>, Slice<'a>),
+    /// An expression, and what stands in brackets behind it.
+    Applied(Box<Expr<'a>>, Suffix, Arguments<'a>),
+    /// A prefix and its operand.
+    Prefixed(Prefix, Box<Expr<'a>>),
+    /// Two operands.
+    Binary(Operator, Box<Expr<'a>>, Box<Expr<'a>>),
+    /// A comparison.
+    Compare(Comparison, Box<Expr<'a>>, Box<Expr<'a>>),
+}
+
+/// What stands between brackets: each of the first is followed by a comma.
+#[cycle(tree)]
+#[derive(Drop)]
+pub struct Arguments<'a> {
+    /// What the commas part.
+    pub items: Vec<Argument<'a>>,
+    /// Whether a comma follows the last.
+    pub comma: bool,
+}
+
+/// One of what stands between brackets.
+#[cycle(tree)]
+#[derive(Drop)]
+pub enum Argument<'a> {
+    /// An expression alone.
+    Positional(Expr<'a>),
+    /// `NAME=expression`
+    Keyword(Slice<'a>, Expr<'a>),
+    /// `expression: expression`, in a map.
+    Entry(Expr<'a>, Expr<'a>),
+}
+
+/// Which arguments may stand here.
+#[derive(Clone, Copy, Debug, PartialEq, Eq)]
+pub enum Place {
+    /// Just one expression.
+    Alone,
+    /// Expressions.
+    InList,
+    /// Expressions, and arguments by keyword.
+    InCall,
+    /// Arguments by keyword, of which one came before.
+    BehindKeyword,
+    /// Entries of a map.
+    InMap,
+}

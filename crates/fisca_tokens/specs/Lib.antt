@@ -1,0 +1,6 @@
+pub mod Faults
+pub mod Layout
+pub mod Marks
+pub mod Pieces
+pub mod Strings
+pub mod Tokens

@@ -1,0 +1,72 @@
+ghost use Rattle.std.specs.Prelude.{◌≡◌, ◌≤◌, ◌<◌, ◌^◌, length, OnOk, IfErr};
+ghost use Rattle.fisca_tokens.specs.Layout.{start};
+ghost use Rattle.fisca_tokens.specs.Tokens as spec;
+ghost use Rattle.fisca_tokens.specs.Tokens.{Lexes, Lexed};
+
+use crate::fault::{FormulaFault, Kind};
+use crate::front::front;
+use crate::layout::Layout;
+use crate::token::Token;
+use std::alloc::Global;
+
+/// The most bytes of a text.
+const LONGEST: usize = 1 << 20;
+
+/// Puts a token at the end, if there is one.
+#[tactic(auto, using(crate::proofs::Steps::put_more))]
+fn keep(found: &mut Vec<Token>, token: Option<Token>) -> Result<(), FormulaFault>
+    ensures value { OnOk result ((o : Lexed) → spec.behind found.new.items o ≡ spec.behind found.old.items (spec.put token o)) }
+    ensures err { IfErr result (λ f. f.kind ≡ Kind.Memory) }
+{
+    if let Some(token) = token {
+        found.push(token)?;
+    }
+    Ok(())
+}
+
+/// The tokens of a text, in order: words (ASCII letters, digits and `_`), decimal literals, texts in quotes (`'`, `"`, `'''`
+/// or `"""`, perhaps behind `u` or `r`) and marks. Each has its place in the text and its line, counted from 1, and the first
+/// of a line outside brackets has its indentation. (Python's tokens, a subset.)
+///
+/// The first fault in the text is told with its line, of a text in quotes that of its beginning: `Syntax` where no token of
+/// Python begins or a text in quotes is not closed; `Unsupported` for `%`, a backslash, a letter past ASCII, a text behind
+/// `f`, an exponent, and a number outside the limits; `Indent` where a line stands at an indentation that is not open, or
+/// behind a tab. `TooLong`, at line 1, comes before all others, where the text has more than 1 MiB. `Memory`, at line 0,
+/// comes only where a growth was refused.
+pub fn tokens(alloc: Global, text: &str) -> Result<Vec<Token>, FormulaFault>
+    ensures { Lexes result (spec.tokens text.now) }
+{
+    let bytes = text.as_bytes();
+    if bytes.len() > LONGEST {
+        return Err(FormulaFault {
+            line: 1,
+            kind: Kind::TooLong,
+        });
+    }
+    read(alloc, bytes)
+}
+
+/// The tokens of a text of any length that has a place for each byte.
+fn read(alloc: Global, bytes: &[u8]) -> Result<Vec<Token>, FormulaFault>
+    requires { length bytes.now < 2 ^ 62 }
+    ensures { Lexes result (spec.tokens_from (length bytes.now) 0 start bytes.now) }
+{
+    let mut found = Vec::new(alloc);
+    let mut layout = Layout::new(alloc);
+    let mut at = 0;
+    while at < bytes.len() {
+        let piece = match front(bytes.split_at(at).1) {
+            Ok(piece) => piece,
+            Err(kind) => {
+                return Err(FormulaFault {
+                    line: layout.line,
+                    kind,
+                });
+            }
+        };
+        let token = layout.take(at, piece)?;
+        keep(&mut found, token)?;
+        at += piece.length;
+    }
+    Ok(found)
+}

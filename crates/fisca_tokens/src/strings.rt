@@ -1,0 +1,144 @@
+ghost use Rattle.std.specs.Prelude.{◌≡◌, ◌≤◌, ◌<◌, length, false, IfSome};
+ghost use Rattle.fisca_tokens.specs.Strings as spec;
+
+/// Whether the text begins with this byte.
+pub(crate) fn begins(text: &[u8], byte: u8) -> bool
+    ensures { result ≡ spec.begins byte text.now }
+{
+    match text {
+        [b, ..] => *b == byte,
+        [] => false,
+    }
+}
+
+/// Whether the byte is a quote.
+pub(crate) fn is_quote(b: u8) -> bool
+    ensures { result ≡ spec.is_quote b }
+{
+    b == b'"' || b == b'\''
+}
+
+/// Whether the text begins with a quote.
+pub(crate) fn begins_quote(text: &[u8]) -> bool
+    ensures { result ≡ spec.begins_quote text.now }
+{
+    match text {
+        [b, ..] => is_quote(*b),
+        [] => false,
+    }
+}
+
+/// Whether a backslash takes the next byte along: this byte is one, or a carriage return that is taken along and stands
+/// before a line feed.
+fn takes_next(taken: bool, byte: u8, rest: &[u8]) -> bool
+    ensures { result ≡ spec.takes_next taken byte rest.now }
+{
+    if taken {
+        byte == b'\r' && begins(rest, b'\n')
+    } else {
+        byte == b'\\'
+    }
+}
+
+/// The length of the rest of a text in quotes on one line, its closing quote included.
+fn quoted_len(text: &[u8], quote: u8) -> Option<usize>
+    ensures value { result ≡ spec.quoted quote false text.now }
+    ensures within { IfSome result (λ n. n ≤ length text.now) }
+{
+    let mut n = 0;
+    let mut taken = false;
+    while n < text.len() {
+        let b = text[n];
+        if !taken && b == b'\n' {
+            return None;
+        }
+        if !taken && b == quote {
+            return Some(n + 1);
+        }
+        taken = takes_next(taken, b, text.split_at(n + 1).1);
+        n += 1;
+    }
+    None
+}
+
+/// How many quotes stand in a row, up to this byte.
+fn quotes_up_to(quote: u8, quotes: u8, taken: bool, byte: u8) -> u8
+    requires { quotes < 3 }
+    ensures { result ≡ spec.quotes_up_to quote quotes taken byte }
+{
+    if !taken && byte == quote {
+        quotes + 1
+    } else {
+        0
+    }
+}
+
+/// The length of the rest of a text in three quotes, its closing quotes included.
+fn tripled_len(text: &[u8], quote: u8) -> Option<usize>
+    ensures value { result ≡ spec.tripled quote 0 false text.now }
+    ensures within { IfSome result (λ n. n ≤ length text.now) }
+{
+    let mut n = 0;
+    let mut quotes = 0;
+    let mut taken = false;
+    while n < text.len() {
+        let b = text[n];
+        quotes = quotes_up_to(quote, quotes, taken, b);
+        if quotes == 3 {
+            return Some(n + 1);
+        }
+        taken = takes_next(taken, b, text.split_at(n + 1).1);
+        n += 1;
+    }
+    None
+}
+
+/// The length of the text in quotes in front, where it is closed.
+pub(crate) fn string_len(text: &[u8]) -> Option<usize>
+    ensures value { result ≡ spec.string_len text.now }
+    ensures within { IfSome result (λ n. n ≤ length text.now) }
+    ensures some { IfSome result (λ n. 0 < n) }
+{
+    let [quote, rest @ ..] = text else {
+        return None;
+    };
+    match rest {
+        [second, third, inner @ ..] if second == quote && third == quote => {
+            Some(3 + tripled_len(inner, *quote)?)
+        }
+        _ => Some(1 + quoted_len(rest, *quote)?),
+    }
+}
+
+/// Whether the word is a prefix of a text in quotes that changes nothing.
+pub(crate) fn is_prefix(word: &[u8]) -> bool
+    ensures { result ≡ spec.is_prefix word.now }
+{
+    match word {
+        [b] => *b == b'u' || *b == b'U' || *b == b'r' || *b == b'R',
+        _ => false,
+    }
+}
+
+fn is_f(b: u8) -> bool
+    ensures { result ≡ spec.is_f b }
+{
+    b == b'f' || b == b'F'
+}
+
+fn is_r(b: u8) -> bool
+    ensures { result ≡ spec.is_r b }
+{
+    b == b'r' || b == b'R'
+}
+
+/// Whether the word is the prefix of a text with places to fill in.
+pub(crate) fn is_format(word: &[u8]) -> bool
+    ensures { result ≡ spec.is_format word.now }
+{
+    match word {
+        [b] => is_f(*b),
+        [b, c] => (is_f(*b) && is_r(*c)) || (is_r(*b) && is_f(*c)),
+        _ => false,
+    }
+}

@@ -1,8 +1,10 @@
 //! The rule files of a folder, found and read.
 
-ghost use Rattle.std.specs.Prelude.{◌≡◌, ◌≤◌, ◌^◌, length, take, map, string_bytes, All, IsSorted, IfOk, OnOk};
-ghost use Rattle.fisca.specs.Folder.{AreRuleFiles, path_of, status_of};
+ghost use Rattle.std.specs.Prelude.{◌≡◌, ◌≤◌, ◌^◌, ◌++◌, length, take, map, string_bytes, All, IsSorted, IfOk, OnOk};
+ghost use Rattle.fisca_commands.specs.Shown.{shown};
+ghost use Rattle.fisca.specs.Folder.{AreRuleFiles, path_of, status_of, line_of};
 
+use fisca_commands::write_shown;
 use fisca_params::SourceFile;
 use std::alloc::{AllocError, AllocFailed, Global};
 use std::fs;
@@ -22,23 +24,56 @@ pub enum FolderFault {
     /// A file is longer than 1 MiB.
     #[error("{path}:1: TooLong")]
     TooLong { path: String },
+    /// The folders hold more than 100,000 files and folders.
+    #[error("TooManyFiles")]
+    TooManyFiles,
     /// Memory was refused.
     #[error("Memory")]
     Memory,
 }
 
 impl FolderFault {
-    /// The exit status of the program: 3 where a file is too long, 5 where a folder or a file cannot be read, 6 for want of
-    /// memory.
+    /// The exit status of the program: 3 where a file is too long or there are too many, 5 where a folder or a file cannot be
+    /// read, 6 for want of memory.
     pub fn status(&self) -> u8
         ensures { result ≡ status_of self.now }
     {
         match self {
-            FolderFault::TooLong { .. } => 3,
+            FolderFault::TooLong { .. } | FolderFault::TooManyFiles => 3,
             FolderFault::CannotList | FolderFault::CannotRead { .. } => 5,
             FolderFault::Memory => 6,
         }
     }
+
+    /// The line on standard error, without its line feed, for the folder `rules`. Memory is its only error.
+    pub fn line(&self, alloc: Global, rules: &str) -> Result<String, AllocError>
+        ensures { IfOk result (λ line. string_bytes line ≡ line_of rules.now self.now) }
+    {
+        match self {
+            FolderFault::CannotList => around(alloc, "fisca: cannot list ", rules, ""),
+            FolderFault::CannotRead { path } => {
+                around(alloc, "fisca: ", path.as_str(), ": cannot read")
+            }
+            FolderFault::TooLong { path } => around(alloc, "fisca: ", path.as_str(), ":1: TooLong"),
+            FolderFault::TooManyFiles => String::from_str(alloc, "fisca: TooManyFiles"),
+            FolderFault::Memory => String::from_str(alloc, "fisca: out of memory"),
+        }
+    }
+}
+
+/// A path with these texts before and behind it.
+fn around(
+    alloc: Global,
+    before: &str,
+    path: &str,
+    behind: &str,
+) -> Result<String, AllocError>
+    ensures { IfOk result (λ line. string_bytes line ≡ before.now ++ (shown path.now ++ behind.now)) }
+{
+    let mut line = String::from_str(alloc, before)?;
+    write_shown(path, &mut line)?;
+    line.push_str(behind)?;
+    Ok(line)
 }
 
 impl From<AllocError> for FolderFault {
@@ -62,9 +97,30 @@ const LONGEST: u64 = 1 << 20;
 /// Of so many files the texts are kept. A rule set with more is refused whatever their texts are.
 const KEPT: usize = 1_001;
 
+/// So many files and folders are looked at in all, so that links that lead back keep no one waiting.
+const MOST_LISTED: u32 = 100_000;
+
+/// What is left to look at of the files and folders of a rule set.
+struct Listed {
+    left: u32,
+}
+
+impl Listed {
+    /// Counts one more. `TooManyFiles` where it is one too many.
+    fn count(&mut self) -> Result<(), FolderFault> {
+        match self.left.checked_sub(1) {
+            Some(left) => {
+                self.left = left;
+                Ok(())
+            }
+            None => Err(FolderFault::TooManyFiles),
+        }
+    }
+}
+
 /// Reads the parameter files of a folder, in order of the bytes of their paths, which are relative to it.
-/// A fault is the first in that order; folders are listed before any file is read. Of more than 1,001 files the first
-/// 1,001 are answered.
+/// A fault is the first in that order; folders are listed before any file is read, of more than 100,000 files and folders
+/// `TooManyFiles` is told. Of more than 1,001 files the first 1,001 are answered.
 pub fn read_rules<R: Files + AllocGlobal + Clone + Drop>(
     rt: &R,
     rules: &str,
@@ -100,12 +156,20 @@ fn list_rules<R: Files + AllocGlobal + Clone + Drop>(
     rt: &R,
     rules: &str,
 ) -> Result<Vec<String>, FolderFault> {
+    let mut listed = Listed { left: MOST_LISTED };
     let mut paths = Vec::new(rt.alloc());
-    let mut folders = top_folders(rt, rules)?;
+    let mut folders = top_folders(rt, rules, &mut listed)?;
     for _ in 0..DEEPEST {
         let mut deeper = Vec::new(rt.alloc());
         for folder in folders.as_slice() {
-            list_folder(rt, rules, folder.as_str(), &mut deeper, &mut paths)?;
+            list_folder(
+                rt,
+                rules,
+                folder.as_str(),
+                &mut listed,
+                &mut deeper,
+                &mut paths,
+            )?;
         }
         folders = deeper;
     }
@@ -116,10 +180,12 @@ fn list_rules<R: Files + AllocGlobal + Clone + Drop>(
 fn top_folders<R: Files + AllocGlobal + Clone + Drop>(
     rt: &R,
     rules: &str,
+    listed: &mut Listed,
 ) -> Result<Vec<String>, FolderFault> {
     let mut folders = Vec::new(rt.alloc());
     for entry in fs::read_dir(rt, rules).map_err(|e| list_fault(e.kind()))? {
         let entry = entry.map_err(|e| list_fault(e.kind()))?;
+        listed.count()?;
         if entry.file_name() == "parameters" {
             folders.push(String::from_str(rt.alloc(), "parameters")?)?;
         }
@@ -132,12 +198,14 @@ fn list_folder<R: Files + AllocGlobal + Clone + Drop>(
     rt: &R,
     rules: &str,
     folder: &str,
+    listed: &mut Listed,
     folders: &mut Vec<String>,
     paths: &mut Vec<String>,
 ) -> Result<(), FolderFault> {
     let whole = join(rt.alloc(), rules, folder)?;
     for entry in fs::read_dir(rt, whole.as_str()).map_err(|e| list_fault(e.kind()))? {
         let entry = entry.map_err(|e| list_fault(e.kind()))?;
+        listed.count()?;
         let name = entry.file_name();
         if is_folder(rt, entry.path().as_str()) {
             folders.push(join(rt.alloc(), folder, name)?)?;
@@ -216,3 +284,6 @@ fn read_bytes<R: Files + AllocGlobal>(rt: &R, path: &str) -> Result<Option<Vec<u
         Err(_) => Ok(None),
     }
 }
+
+#[cfg(test)]
+mod tests;

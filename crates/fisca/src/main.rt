@@ -98,13 +98,10 @@ fn finish<W: Write + Drop>(rt: &HostRuntime, mut sink: StreamSink<W>, ending: &E
 
 /// Tells why the rule files could not be read, and answers the status.
 fn tell_folder(rt: &HostRuntime, rules: &str, fault: FolderFault) -> u8 {
-    let _ = match &fault {
-        FolderFault::CannotList => eprintln!(rt; "fisca: cannot list {rules}"),
-        FolderFault::CannotRead { path } => eprintln!(rt; "fisca: {path}: cannot read"),
-        FolderFault::TooLong { path } => eprintln!(rt; "fisca: {path}:1: TooLong"),
-        FolderFault::Memory => eprintln!(rt; "{OUT_OF_MEMORY}"),
-    };
-    fault.status()
+    match fault.line(rt.alloc(), rules) {
+        Ok(line) => tell(rt, line.as_str(), fault.status()),
+        Err(_) => tell(rt, OUT_OF_MEMORY, NO_MEMORY),
+    }
 }
 
 /// Writes a line on standard error, and answers the status. That standard error can't be written changes no status.

@@ -1,3 +1,4 @@
+pub mod Shown
 pub mod Refusal
 pub mod AxesRun
 pub mod Check

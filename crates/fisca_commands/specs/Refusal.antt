@@ -5,6 +5,7 @@ use Rattle.fisca_grid.specs.AxesFault.{name_of}
 use Rattle.fisca_params.specs.Names.{name_of as name_of_params}
 use Rattle.fisca_grid.specs.declared.axes.AxesFault.TheVariants as axes
 use Rattle.fisca_grid.specs.declared.fault.RunFault.TheVariants as run
+use Rattle.fisca_commands.specs.Shown.{shown}
 use Rattle.fisca_commands.specs.declared.refusal.Refusal.{Refusal}
 use Rattle.fisca_commands.specs.declared.refusal.Refusal.TheVariants.{Params, Axes, BadWord, BadCondition, Run, Write, Memory, TooManyFiles}
 
@@ -51,7 +52,7 @@ reason_of TooManyFiles = codes "TooManyFiles"
 
 -- where the fault of a rule file stands
 abbrev pub place_of : Refusal → List ℕ
-place_of (Params path line fault) = string_bytes path ++ (58 ∷ (decimal line ++ codes ": "))
+place_of (Params path line fault) = shown (string_bytes path) ++ (58 ∷ (decimal line ++ codes ": "))
 place_of (Axes fault) = []
 place_of BadWord = []
 place_of BadCondition = []

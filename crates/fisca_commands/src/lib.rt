@@ -6,6 +6,7 @@ mod check;
 mod ending;
 mod last_line;
 mod refusal;
+mod shown;
 mod task;
 
 pub use axes::axes_words;
@@ -13,4 +14,5 @@ pub use check::check_rules;
 pub use ending::Ending;
 pub use last_line::write_end;
 pub use refusal::Refusal;
+pub use shown::write_shown;
 pub use task::{Task, run_task};

@@ -2,8 +2,10 @@
 
 ghost use Rattle.std.specs.Prelude.{◌≡◌, ◌∷◌, ◌++◌, codes, IfOk, OnOk, string_bytes};
 ghost use Rattle.std.specs.Fmt.{decimal};
+ghost use Rattle.fisca_commands.specs.Shown.{shown};
 ghost use Rattle.fisca_commands.specs.Refusal.{number_of, status_of, reason_of, place_of, line_of};
 
+use super::shown::write_shown;
 use fisca_grid::{AxesFault, RunFault};
 use fisca_params::ParamFault;
 use std::alloc::{AllocError, Global};
@@ -49,9 +51,10 @@ impl From<AllocError> for Refusal {
 
 /// Appends a path and a line of its file.
 fn write_path(path: &str, number: usize, line: &mut String) -> Result<(), AllocError>
-    ensures { OnOk result (string_bytes line.new ≡ string_bytes line.old ++ (path.now ++ (58 ∷ (decimal number ++ codes ": ")))) }
+    ensures { OnOk result (string_bytes line.new ≡ string_bytes line.old ++ (shown path.now ++ (58 ∷ (decimal number ++ codes ": ")))) }
 {
-    match write!(line, "{path}:{number}: ") {
+    write_shown(path, line)?;
+    match write!(line, ":{number}: ") {
         Ok(()) => Ok(()),
         Err(_) => Err(AllocError),
     }

@@ -1,12 +1,12 @@
 -- Periods: eternity, a size counted in a unit of months from the first of a month on, or a size counted in days from a day on.
-use Rattle.std.specs.Prelude.{ℕ, ◌+◌, ◌-◌, ◌*◌, ◌<◌, ◌≤◌, ℤ, pos, negsuc, ◌+ℤ◌, ◌-ℤ◌, ◌*ℤ◌, Bool, true, false, ◌&&◌, ◌||◌, nat_le, if◌then◌else◌, List, [], map, Option, Some, None, Result, Ok, Err}
+use Rattle.std.specs.Prelude.{◌≡◌, ◌⊎◌, ⊤, ℕ, ◌+◌, ◌-◌, ◌*◌, ◌<◌, ◌≤◌, ℤ, pos, negsuc, ◌+ℤ◌, ◌-ℤ◌, ◌*ℤ◌, Bool, true, false, ◌&&◌, ◌||◌, nat_le, if◌then◌else◌, List, [], map, Option, Some, None, Result, Ok, Err}
 use Rattle.std.specs.Bool.{OnFalse}
 use Rattle.std.specs.List.{range_with_len}
 use Rattle.std.specs.Ordering.{nat_cmp, on, then_cmp}
 use Rattle.std.specs.declared.cmp.Ordering.{Ordering}
 use Rattle.fisca_time.specs.Calendar.{year_of, month_number, first_of_month, day_in_month, day_number, first_day, end_day, date_of}
 use Rattle.fisca_time.specs.Instant.{CivilDate, is_between}
-use Rattle.fisca_time.specs.Unit.{months_in, is_month, is_year, unit_cmp}
+use Rattle.fisca_time.specs.Unit.{months_in, is_day, is_month, is_year, unit_cmp}
 use Rattle.fisca_time.specs.declared.fault.TimeFault.{TimeFault}
 use Rattle.fisca_time.specs.declared.fault.TimeFault.TheVariants.{OutOfRange}
 use Rattle.fisca_time.specs.declared.unit.Unit.{Unit}
@@ -154,6 +154,12 @@ abbrev pub moved_by : ℤ → Unit → Span → Result Span TimeFault
 moved_by k unit eternity = Err OutOfRange
 moved_by k unit (months own first size) = months_moved k unit own first size
 moved_by k unit (days first size) = days_moved k unit first size
+
+-- a move from p to q met no month that was too short: days that were moved by months or years keep their place in the month
+abbrev pub KeepsDay : Unit → Span → Span → Type 0
+KeepsDay unit eternity q = ⊤
+KeepsDay unit (months _ _ _) q = ⊤
+KeepsDay unit (days first _) q = (is_day unit ≡ true) ⊎ ((date_of first).day ≡ (date_of (first_of q)).day)
 
 -- a move of every period but eternity
 abbrev pub unless_eternal : Span → Result Span TimeFault → Result Span TimeFault

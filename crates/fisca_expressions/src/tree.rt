@@ -104,7 +104,7 @@ pub enum Expr<'a> {
 pub struct Arguments<'a> {
     /// What the commas part.
     pub items: Vec<Argument<'a>>,
-    /// Whether a comma follows the last.
+    /// Whether a comma follows the last, if there is one.
     pub comma: bool,
 }
 

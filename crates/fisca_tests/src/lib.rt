@@ -11,6 +11,8 @@ mod num;
 #[cfg(test)]
 mod params;
 #[cfg(test)]
+mod syntax;
+#[cfg(test)]
 mod time;
 #[cfg(test)]
 mod yaml;

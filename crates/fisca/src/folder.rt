@@ -62,12 +62,7 @@ impl FolderFault {
 }
 
 /// A path with these texts before and behind it.
-fn around(
-    alloc: Global,
-    before: &str,
-    path: &str,
-    behind: &str,
-) -> Result<String, AllocError>
+fn around(alloc: Global, before: &str, path: &str, behind: &str) -> Result<String, AllocError>
     ensures { IfOk result (λ line. string_bytes line ≡ before.now ++ (shown path.now ++ behind.now)) }
 {
     let mut line = String::from_str(alloc, before)?;
@@ -101,6 +96,7 @@ const KEPT: usize = 1_001;
 const MOST_LISTED: u32 = 100_000;
 
 /// What is left to look at of the files and folders of a rule set.
+#[derive(Drop)]
 struct Listed {
     left: u32,
 }

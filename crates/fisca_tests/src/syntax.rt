@@ -1,7 +1,7 @@
 //! Tokens and expressions of modules: which there are, and the kinds and lines of their faults.
 
 use fisca_expressions::{Argument, Arguments, Bracket, Expr, Mode, Slice, Suffix, read_expression};
-use fisca_tokens::{FormulaFault, Kind, tokens};
+use fisca_tokens::{FormulaFault, Kind, join_texts, tokens};
 use std::alloc::{AllocError, Global};
 use std::test::Fail;
 
@@ -105,7 +105,8 @@ fn show_tokens(alloc: Global, source: &str) -> Result<String, FormulaFault> {
 
 /// The expression that a text is, as `show` writes it.
 fn show_expression(alloc: Global, source: &str, mode: Mode) -> Result<String, FormulaFault> {
-    let found = tokens(alloc, source)?;
+    let pieces = tokens(alloc, source)?;
+    let found = join_texts(alloc, &pieces)?;
     let expr = read_expression(alloc, source, &found, mode, 120)?;
     Ok(show(alloc, &expr)?)
 }
@@ -216,7 +217,8 @@ fn expressions_bind_by_their_levels(rt: HostRuntime) -> Result<(), Fail> {
 }
 
 /// Values of attributes and arguments, and how they are read.
-const VALUES: [(&str, &str); 6] = [
+const VALUES: [(&str, &str); 7] = [
+    ("('a' \"b\"\n 'c', 'd')", "r<'a' \"b\"\n 'c' 'd'>"),
     ("()", "r<>"),
     ("(a,)", "r<a,>"),
     ("('a', 'b')", "r<'a' 'b'>"),

@@ -1,3 +1,4 @@
 pub mod Ascii
+pub mod Beside
 pub mod Steps
 pub mod Worked

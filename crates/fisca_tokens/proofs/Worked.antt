@@ -11,6 +11,7 @@ use Rattle.fisca_tokens.specs.declared.token.Form.TheVariants as form
 use Rattle.fisca_tokens.specs.declared.token.Token.{Token}
 use Rattle.fisca_tokens.specs.Layout.{go_to, at_line}
 use Rattle.fisca_tokens.specs.Pieces.{front, piece, number_len, begins_number, begins_exponent}
+use Rattle.fisca_tokens.specs.Texts.{joined}
 use Rattle.fisca_tokens.specs.Tokens.{tokens, tokens_from}
 
 -- a token within a line, and the first of a line
@@ -140,3 +141,13 @@ decorator = refl
 
 semicolon : front (codes "; a") ≡ Err kind.Syntax
 semicolon = refl
+
+-- Texts side by side are one, whatever stands between them, and one that begins a line is another.
+abbrev quoted : ℕ → ℕ → Token
+quoted start end = within start end 1 class.Quoted
+
+side_by_side : joined (quoted 0 2 ∷ quoted 3 5 ∷ quoted 6 8 ∷ within 8 9 1 (class.Mark mark.Comma) ∷ quoted 10 12 ∷ []) ≡ quoted 0 8 ∷ within 8 9 1 (class.Mark mark.Comma) ∷ quoted 10 12 ∷ []
+side_by_side = refl
+
+on_two_lines : joined (quoted 0 2 ∷ first 3 5 2 class.Quoted 0 ∷ []) ≡ quoted 0 2 ∷ first 3 5 2 class.Quoted 0 ∷ []
+on_two_lines = refl

@@ -3,4 +3,5 @@ pub mod Layout
 pub mod Marks
 pub mod Pieces
 pub mod Strings
+pub mod Texts
 pub mod Tokens

@@ -10,8 +10,10 @@ mod lexer;
 mod marks;
 mod numbers;
 mod strings;
+mod texts;
 mod token;
 
 pub use fault::{FormulaFault, Kind};
 pub use lexer::tokens;
+pub use texts::join_texts;
 pub use token::{Class, Mark, Token};

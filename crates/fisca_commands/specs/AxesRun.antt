@@ -15,7 +15,7 @@ use Rattle.fisca_grid.specs.declared.axes.AxesFault.TheVariants.{NoAxes}
 use Rattle.fisca_grid.specs.declared.fault.RunEnd.{RunEnd}
 use Rattle.fisca_grid.specs.declared.condition.Condition.{Condition}
 use Rattle.fisca_commands.specs.declared.refusal.Refusal.{Refusal}
-use Rattle.fisca_commands.specs.declared.refusal.Refusal.TheVariants.{Axes, BadWord, BadCondition, Run, Memory}
+use Rattle.fisca_commands.specs.declared.refusal.Refusal.TheVariants.{Params, Axes, BadWord, BadCondition, Run, Write, Memory, TooManyFiles}
 use Rattle.fisca_grid.specs.Condition.{condition_of, is_kept}
 use Rattle.fisca_grid.specs.Words.{axis_of}
 
@@ -83,7 +83,13 @@ IsRefused refusal old new answer = ((answer ≡ Err refusal) ⊎ (answer ≡ Err
 abbrev pub is_write : Result RunEnd Refusal → Bool
 is_write (Ok end) = false
 is_write (Err (Run fault)) = run_is_write {X = RunEnd} (Err fault)
-is_write (Err other) = false
+is_write (Err (Axes fault)) = false
+is_write (Err BadWord) = false
+is_write (Err BadCondition) = false
+is_write (Err Memory) = false
+is_write (Err Write) = false
+is_write (Err TooManyFiles) = false
+is_write (Err (Params path line fault)) = false
 
 -- what `axes` answers for these words and this condition, where a sink held `old` and then holds `new`
 abbrev pub IsAxesAnswer : List (List ℕ) → Option (List ℕ) → ℕ → Option ℕ → Option (List ℕ) → Option (List ℕ) → Result RunEnd Refusal → Type 0

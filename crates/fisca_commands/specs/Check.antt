@@ -73,7 +73,25 @@ IsToldOf files fault BadWord = ⊥
 IsToldOf files fault BadCondition = ⊥
 IsToldOf files fault (Run other) = ⊥
 
+-- the same of a path and a line that are known
+abbrev pub IsToldAt : List ℕ → ℕ → ParamFault → Refusal → Type 0
+IsToldAt path line fault (Params told_path told_line told) = (told ≡ fault) × (string_bytes told_path ≡ path) × (told_line ≡ line)
+IsToldAt path line fault Memory = ⊤
+IsToldAt path line fault TooManyFiles = ⊥
+IsToldAt path line fault Write = ⊥
+IsToldAt path line fault (Axes other) = ⊥
+IsToldAt path line fault BadWord = ⊥
+IsToldAt path line fault BadCondition = ⊥
+IsToldAt path line fault (Run other) = ⊥
+
 -- the answer is that the sink failed
 abbrev pub is_check_write : Result Unit Refusal → Bool
+is_check_write (Ok done) = false
 is_check_write (Err Write) = true
-is_check_write other = false
+is_check_write (Err Memory) = false
+is_check_write (Err TooManyFiles) = false
+is_check_write (Err (Params path line fault)) = false
+is_check_write (Err (Axes fault)) = false
+is_check_write (Err BadWord) = false
+is_check_write (Err BadCondition) = false
+is_check_write (Err (Run fault)) = false

@@ -2,8 +2,9 @@
 
 ghost use Rattle.std.specs.Prelude.{◌≡◌, ℕ, ◌<◌, cond, IfOk, IfSome, OnOk, IsTrue, ◌↔◌, string_bytes, length};
 ghost use Rattle.fisca_grid.specs.Sink.{one_more};
-ghost use Rattle.fisca_params.specs.Answers.{file_of};
-ghost use Rattle.fisca_commands.specs.Check.{count_of_files, text_of_count, IsCheck, IsToldOf, is_check_write};
+ghost use Rattle.fisca_params.specs.Answers.{file_of, Refuses};
+ghost use Rattle.fisca_params.specs.Files.{tree_of};
+ghost use Rattle.fisca_commands.specs.Check.{count_of_files, text_of_count, IsCheck, IsToldOf, IsToldAt, is_check_write};
 
 use super::refusal::Refusal;
 use fisca_grid::{RowSink, hand_over};
@@ -29,16 +30,27 @@ fn text_of_count(alloc: Global, parameters: usize) -> Result<String, AllocError>
 
 /// The refusal of parameter files for a fault, with the path of the file that it names.
 fn refuse(alloc: Global, files: &[SourceFile], fault: ParamFault) -> Refusal
-    requires { IfSome (file_of fault) (λ file. file < length files.now) }
+    requires file { IfSome (file_of fault) (λ file. file < length files.now) }
+    requires told { Refuses fault (tree_of files.now) }
     ensures { IsToldOf files.now fault result }
 {
-    let (place, line) = match fault {
-        ParamFault::Yaml { file, fault } => (file, fault.line),
-        ParamFault::BadParameter { file, line } => (file, line),
-        ParamFault::DuplicateName { file, line } => (file, line),
-        _ => return Refusal::Memory,
-    };
-    match String::from_str(alloc, files[place].path()) {
+    match fault {
+        ParamFault::Yaml { file, fault: yaml } => {
+            tell(alloc, files[file].path(), yaml.line, fault)
+        }
+        ParamFault::BadParameter { file, line } | ParamFault::DuplicateName { file, line } => {
+            tell(alloc, files[file].path(), line, fault)
+        }
+        ParamFault::Memory => Refusal::Memory,
+        ParamFault::BadScale | ParamFault::Undefined | ParamFault::Number(_) => unreachable!(),
+    }
+}
+
+/// The refusal of the file at this path for a fault at this line.
+fn tell(alloc: Global, path: &str, line: usize, fault: ParamFault) -> Refusal
+    ensures { IsToldAt path.now line fault result }
+{
+    match String::from_str(alloc, path) {
         Ok(path) => Refusal::Params { path, line, fault },
         Err(_) => Refusal::Memory,
     }
@@ -69,7 +81,6 @@ pub fn check_rules<S: RowSink>(
     }
     let tree = match ParamTree::read(alloc, files) {
         Ok(tree) => tree,
-        Err(ParamFault::Memory) => return Err(Refusal::Memory),
         Err(fault) => return Err(refuse(alloc, files, fault)),
     };
     let text = text_of_count(alloc, tree.count())?;

@@ -302,7 +302,13 @@ fn subperiods_stand_in_order_of_time(rt: HostRuntime) -> Result<(), Fail> {
         ("year:2015-03", Unit::Day, 366, "2015-03-01", "2016-02-29"),
         ("day:2016-02-28:3", Unit::Day, 3, "2016-02-28", "2016-03-01"),
         ("9999-12", Unit::Day, 31, "9999-12-01", "9999-12-31"),
-        ("year:8800:1200", Unit::Day, 438_291, "8800-01-01", "9999-12-31"),
+        (
+            "year:8800:1200",
+            Unit::Day,
+            438_291,
+            "8800-01-01",
+            "9999-12-31",
+        ),
     ];
     for (text, unit, count, first, last) in table {
         let period = Period::read(text)?;

@@ -92,7 +92,8 @@ impl Instant {
         ensures { result ≡ instant_if_real (Some (record { year = year; month = month; day = day })) }
     {
         let is_month = year >= 1 && year <= 9999 && month >= 1 && month <= 12;
-        if !is_month || day < 1 || day > days_in_month(year as i16, month) {
+        // no month is too short for the 28th
+        if !is_month || day < 1 || day > 28 && day > days_in_month(year as i16, month) {
             return Err(TimeFault::OutOfRange);
         }
         Ok(Instant { year, month, day })

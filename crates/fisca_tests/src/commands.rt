@@ -1,6 +1,0 @@
-//! The commands over texts.
-
-mod axes;
-mod check;
-mod refusal;
-mod task;

@@ -1,7 +1,9 @@
-//! Tests of the libraries below the commands, through their public calls: worked rows, printed texts, kinds and lines of
-//! faults, sinks that fail. A crate with tests of its own is proved twice, so they stand above all.
+//! Tests of the libraries, through their public calls: worked rows, printed texts, kinds and lines of faults, sinks
+//! that fail. A crate with tests of its own is proved twice, so they stand above all.
 #![tactic(auto)]
 
+#[cfg(test)]
+mod commands;
 #[cfg(test)]
 mod grid;
 #[cfg(test)]

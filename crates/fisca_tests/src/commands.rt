@@ -1,0 +1,6 @@
+//! The commands over texts.
+
+mod axes;
+mod check;
+mod refusal;
+mod task;

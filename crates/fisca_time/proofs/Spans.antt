@@ -1,8 +1,12 @@
 -- What holds of the spans that are periods.
-use Rattle.std.proofs.Common.{◌≡◌, ℕ, Bool, suc, zero, ◌+◌, ◌*◌, ◌/◌, ◌<◌, ◌≤◌, true, false, ◌&&◌, ◌||◌, length, map, Some, slice_get, arith, refl, ap, ◌∙◌, sym, IsTrue, ◌↔◌, inl, inr, ℤ, Ok, Err, Option, None, cond}
+use Rattle.std.proofs.Common.{◌≡◌, ℕ, Bool, suc, zero, ◌+◌, ◌*◌, ◌^◌, ◌/◌, ◌<◌, ◌≤◌, true, false, ◌&&◌, ◌||◌, length, map, Some, slice_get, arith, refl, ap, ◌∙◌, sym, IsTrue, ◌↔◌, inl, inr, ℤ, Ok, Err, Option, None, cond}
 use Rattle.std.specs.List.{range_with_len}
-use Rattle.std.specs.Ordering.{nat_cmp, ordering_then}
+use Rattle.std.specs.Cmp.{nat_cmp_is, ranks}
+use Rattle.std.specs.Ordering.{nat_cmp, ordering_then, MatchOrdering}
 use Rattle.std.specs.declared.cmp.Ordering.{Ordering}
+use Rattle.std.specs.declared.cmp.Ordering.TheVariants.{Less, Equal, Greater}
+use Rattle.std.proofs.Math.Nat.{mul-le-mul_right}
+use Rattle.fisca_time.specs.Key.{key_of}
 use Rattle.std.proofs.lemmas.Bool.{and_parts, cases_Bool, cases_lt, leb-true, eqb-true}
 use Rattle.std.proofs.Math.Dec.{eqb, leb}
 use Rattle.std.proofs.lemmas.List.FromFn.{length-map-range_with_len}
@@ -10,7 +14,7 @@ use Rattle.fisca_time.specs.Calendar.{first_day, end_day, date_of}
 use Rattle.fisca_time.specs.Instant.{is_between}
 use Rattle.fisca_time.specs.Kept.{span_of, is_kept}
 use Rattle.fisca_time.specs.Period.{Span, eternity, months, days, is_period, is_eternal, is_of_months, unit_of, first_of, size_of, is_within, months_of, month_start, start_day, stop_day, days_of, month_of, month_at, year_at, day_at, subs, span_cmp, this_year_of, moved_by, unless_eternal, Overlaps}
-use Rattle.fisca_time.specs.Unit.{months_in, is_month, is_year, unit_cmp}
+use Rattle.fisca_time.specs.Unit.{months_in, is_month, is_year, rank}
 use Rattle.fisca_time.specs.declared.fault.TimeFault.TheVariants.{OutOfRange}
 use Rattle.fisca_time.specs.declared.unit.Unit.{Unit}
 use Rattle.fisca_time.specs.declared.unit.Unit.TheVariants.{Day, Month, Year, Eternity}
@@ -106,10 +110,48 @@ pub kept_is : (unit : Unit) (first size : ℕ) (p : Span) → is_kept unit first
 kept_is unit first size p h is =
     rw (← is) (record { period = kept_period unit first size h; unit = kept_unit unit first size; first = kept_first unit first size h; size = kept_size unit first size h })
 
--- the order of two periods is that of what is kept of them
-pub span_cmp_is : (own other : Unit) (first start size count : ℕ) (p q : Span) (a b c : Ordering) → IsKept own first size p → IsKept other start count q
-    → a ≡ unit_cmp own other → b ≡ nat_cmp first start → c ≡ nat_cmp size count → ordering_then a (ordering_then b c) ≡ span_cmp p q
-span_cmp_is own other first start size count p q a b c k l x y z = rw (k.unit, l.unit, k.first, l.first, k.size, l.size, x, y, z) refl
+-- ---- order
+
+above-lt : (a b x y m : ℕ) → a < b → x < m → a * m + x < b * m + y
+above-lt a b x y m h k = let le : (a + 1) * m ≤ b * m = mul-le-mul_right m (omega arith) in grind arith
+
+-- numbers above others below m are ordered by the two
+above_others : (a b x y m : ℕ) (r s : Ordering) → x < m → y < m → MatchOrdering r (a < b) (a ≡ b) (b < a) → MatchOrdering s (x < y) (x ≡ y) (y < x)
+    → MatchOrdering (ordering_then r s) (a * m + x < b * m + y) (a * m + x ≡ b * m + y) (b * m + y < a * m + x)
+above_others a b x y m Less s h k above below = above-lt a b x y m above h
+above_others a b x y m Greater s h k above below = above-lt b a y x m above k
+above_others a b x y m Equal Less h k above below = rw above (omega arith)
+above_others a b x y m Equal Equal h k above below = rw (above, below) refl
+above_others a b x y m Equal Greater h k above below = rw above (omega arith)
+
+by_both : (a b x y m : ℕ) → x < m → y < m → nat_cmp (a * m + x) (b * m + y) ≡ ordering_then (nat_cmp a b) (nat_cmp x y)
+by_both a b x y m h k = sym (nat_cmp_is (a * m + x) (b * m + y) (ordering_then (nat_cmp a b) (nat_cmp x y)) (above_others a b x y m (nat_cmp a b) (nat_cmp x y) h k (ranks a b) (ranks x y)))
+
+-- what the parts of a period leave room for in its key
+record IsShort (p : Span) : Type 0 where
+  first : first_of p < 2 ^ 32
+  size : size_of p < 2 ^ 16
+
+short : (p : Span) → is_period p ≡ true → IsShort p
+short eternity h = record { first = omega arith; size = omega arith }
+short (months unit first size) h = let k : IsMonths unit first size = months_parts unit first size h in record { first = omega (arith, k.to); size = omega (arith, k.most) }
+short (days first size) h = let k : IsDays first size = days_parts first size h in record { first = omega (arith, k.to); size = omega (arith, k.most) }
+
+then_assoc : (a b c : Ordering) → ordering_then (ordering_then a b) c ≡ ordering_then a (ordering_then b c)
+then_assoc Less b c = refl
+then_assoc Equal b c = refl
+then_assoc Greater b c = refl
+
+-- the order of two periods is that of their keys
+pub key_order : (p q : Span) → is_period p ≡ true → is_period q ≡ true → nat_cmp (key_of p) (key_of q) ≡ span_cmp p q
+key_order p q h k =
+    let s : IsShort p = short p h in
+    let t : IsShort q = short q k in
+    let a = rank (unit_of p) in
+    let b = rank (unit_of q) in
+    by_both (a * 2 ^ 32 + first_of p) (b * 2 ^ 32 + first_of q) (size_of p) (size_of q) (2 ^ 16) s.size t.size
+    ∙ ap (λ o. ordering_then o (nat_cmp (size_of p) (size_of q))) (by_both a b (first_of p) (first_of q) (2 ^ 32) s.first t.first)
+    ∙ then_assoc (nat_cmp a b) (nat_cmp (first_of p) (first_of q)) (nat_cmp (size_of p) (size_of q))
 
 -- ---- days
 

@@ -1,5 +1,6 @@
 pub mod Calendar
 pub mod Instant
+pub mod Key
 pub mod Kept
 pub mod Period
 pub mod PeriodText

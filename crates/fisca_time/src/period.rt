@@ -2,6 +2,7 @@ ghost use Rattle.std.specs.Prelude.{◌≡◌, ◌≢◌, ◌<◌, ◌≤◌, �
 ghost use Rattle.fisca_time.specs.Calendar.{first_day, end_day};
 ghost use Rattle.fisca_time.specs.Unit.{is_month, is_year};
 ghost use Rattle.fisca_time.specs.Period.{eternity, is_period, is_eternal, is_of_months, unit_of, first_of, size_of, months_of, days_of, month_start, month_of, start_day, stop_day, start_of, months_from, days_from, days_from_month, months_moved, days_moved, moved_by, later_month, day_at, month_at, year_at, this_year_of, first_month_of, first_day_of, last_month_of, last_year_of, n_2_of, last_3_months_of, subs, Overlaps};
+ghost use Rattle.fisca_time.specs.Key.{key_of};
 ghost use Rattle.fisca_time.specs.PeriodText.{period_of_form, period_of_text, text_of, IsShortest};
 
 use crate::form::{Form, written_period};
@@ -70,10 +71,7 @@ impl Ord for Period {
     ghost matches_eq = { Prim.search (comparing, rules) };
 
     fn cmp(&self, other: &Period) -> Ordering {
-        let unit = self.unit.cmp(&other.unit);
-        let first = self.first.cmp(&other.first);
-        let size = self.size.cmp(&other.size);
-        unit.then(first.then(size))
+        self.key().cmp(&other.key())
     }
 }
 
@@ -100,6 +98,14 @@ impl Period {
         size: 0,
         unit: Unit::Eternity,
     };
+
+    /// The unit, the start and the size as one number, in order of periods.
+    fn key(self) -> u64
+        ensures value { result ≡ key_of self }
+        ensures period { IsTrue (is_period self) }
+    {
+        (u64::from(self.unit as u8) * (1 << 32) + u64::from(self.first)) * (1 << 16) + u64::from(self.size)
+    }
 
     /// The period that a text names, in the forms of the OpenFisca documentation: `2010` is a year,
     /// `2010-04` a month, `2010-04-05` a day, `year:2010-04` the year from April 2010, `year:2010:3`

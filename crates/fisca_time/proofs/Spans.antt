@@ -1,20 +1,19 @@
 -- What holds of the spans that are periods.
-use Rattle.std.proofs.Common.{◌≡◌, ℕ, Bool, suc, zero, ◌+◌, ◌*◌, ◌^◌, ◌/◌, ◌<◌, ◌≤◌, true, false, ◌&&◌, ◌||◌, length, map, Some, slice_get, arith, refl, ap, ◌∙◌, sym, IsTrue, ◌↔◌, inl, inr, ℤ, Ok, Err, Option, None, cond}
+use Rattle.std.proofs.Common.{◌≡◌, ℕ, Bool, suc, zero, ◌+◌, ◌*◌, ◌/◌, ◌%◌, ◌<◌, ◌≤◌, true, false, ◌&&◌, ◌||◌, length, map, Some, slice_get, arith, refl, ap, ◌∙◌, sym, IsTrue, ◌↔◌, inl, inr, ℤ, Ok, Err, Option, None, cond}
 use Rattle.std.specs.List.{range_with_len}
 use Rattle.std.specs.Cmp.{nat_cmp_is, ranks}
 use Rattle.std.specs.Ordering.{nat_cmp, ordering_then, MatchOrdering}
 use Rattle.std.specs.declared.cmp.Ordering.{Ordering}
 use Rattle.std.specs.declared.cmp.Ordering.TheVariants.{Less, Equal, Greater}
 use Rattle.std.proofs.Math.Nat.{mul-le-mul_right}
-use Rattle.fisca_time.specs.Key.{key_of}
+use Rattle.fisca_time.specs.Kept.{span_of, is_kept, is_key, span_of_key}
 use Rattle.std.proofs.lemmas.Bool.{and_parts, cases_Bool, cases_lt, leb-true, eqb-true}
 use Rattle.std.proofs.Math.Dec.{eqb, leb}
 use Rattle.std.proofs.lemmas.List.FromFn.{length-map-range_with_len}
 use Rattle.fisca_time.specs.Calendar.{first_day, end_day, date_of}
 use Rattle.fisca_time.specs.Instant.{is_between}
-use Rattle.fisca_time.specs.Kept.{span_of, is_kept}
 use Rattle.fisca_time.specs.Period.{Span, eternity, months, days, is_period, is_eternal, is_of_months, unit_of, first_of, size_of, is_within, months_of, month_start, start_day, stop_day, days_of, month_of, month_at, year_at, day_at, subs, span_cmp, this_year_of, moved_by, unless_eternal, Overlaps}
-use Rattle.fisca_time.specs.Unit.{months_in, is_month, is_year, rank}
+use Rattle.fisca_time.specs.Unit.{months_in, is_month, is_year, rank, unit_ranked}
 use Rattle.fisca_time.specs.declared.fault.TimeFault.TheVariants.{OutOfRange}
 use Rattle.fisca_time.specs.declared.unit.Unit.{Unit}
 use Rattle.fisca_time.specs.declared.unit.Unit.TheVariants.{Day, Month, Year, Eternity}
@@ -127,31 +126,53 @@ above_others a b x y m Equal Greater h k above below = rw above (omega arith)
 by_both : (a b x y m : ℕ) → x < m → y < m → nat_cmp (a * m + x) (b * m + y) ≡ ordering_then (nat_cmp a b) (nat_cmp x y)
 by_both a b x y m h k = sym (nat_cmp_is (a * m + x) (b * m + y) (ordering_then (nat_cmp a b) (nat_cmp x y)) (above_others a b x y m (nat_cmp a b) (nat_cmp x y) h k (ranks a b) (ranks x y)))
 
--- what the parts of a period leave room for in its key
-record IsShort (p : Span) : Type 0 where
-  first : first_of p < 2 ^ 32
-  size : size_of p < 2 ^ 16
-
-short : (p : Span) → is_period p ≡ true → IsShort p
-short eternity h = record { first = omega arith; size = omega arith }
-short (months unit first size) h = let k : IsMonths unit first size = months_parts unit first size h in record { first = omega (arith, k.to); size = omega (arith, k.most) }
-short (days first size) h = let k : IsDays first size = days_parts first size h in record { first = omega (arith, k.to); size = omega (arith, k.most) }
-
 then_assoc : (a b c : Ordering) → ordering_then (ordering_then a b) c ≡ ordering_then a (ordering_then b c)
 then_assoc Less b c = refl
 then_assoc Equal b c = refl
 then_assoc Greater b c = refl
 
+-- the parts of a key as one number give it back
+key_made : (key : ℕ) → (key / 281_474_976_710_656 * 4_294_967_296 + key / 65_536 % 4_294_967_296) * 65_536 + key % 65_536 ≡ key
+key_made key = omega arith
+
+rank_within : (n : ℕ) → n ≤ 3 → rank (unit_ranked n) ≡ n
+rank_within zero h = refl
+rank_within (suc zero) h = refl
+rank_within (suc (suc zero)) h = refl
+rank_within (suc (suc (suc n))) h = omega arith
+
+-- what the parts of the key of a period are
+record IsKey (key : ℕ) (p : Span) : Type 0 where
+  unit : rank (unit_of p) ≡ key / 281_474_976_710_656
+  first : first_of p ≡ key / 65_536 % 4_294_967_296
+  size : size_of p ≡ key % 65_536
+
+key_is : (key : ℕ) (p : Span) → is_key key ≡ true → span_of_key key ≡ p → IsKey key p
+key_is key p h is =
+    let own = unit_ranked (key / 281_474_976_710_656) in
+    let first = key / 65_536 % 4_294_967_296 in
+    let size = key % 65_536 in
+    let both = and_parts (leb (key / 281_474_976_710_656) 3) (is_kept own first size) h in
+    let k : IsKept own first size p = kept_is own first size p both.1 is in
+    record { unit = ap rank k.unit ∙ rank_within (key / 281_474_976_710_656) (leb-true (key / 281_474_976_710_656) 3 both.0); first = k.first; size = k.size }
+
 -- the order of two periods is that of their keys
-pub key_order : (p q : Span) → is_period p ≡ true → is_period q ≡ true → nat_cmp (key_of p) (key_of q) ≡ span_cmp p q
-key_order p q h k =
-    let s : IsShort p = short p h in
-    let t : IsShort q = short q k in
-    let a = rank (unit_of p) in
-    let b = rank (unit_of q) in
-    by_both (a * 2 ^ 32 + first_of p) (b * 2 ^ 32 + first_of q) (size_of p) (size_of q) (2 ^ 16) s.size t.size
-    ∙ ap (λ o. ordering_then o (nat_cmp (size_of p) (size_of q))) (by_both a b (first_of p) (first_of q) (2 ^ 32) s.first t.first)
-    ∙ then_assoc (nat_cmp a b) (nat_cmp (first_of p) (first_of q)) (nat_cmp (size_of p) (size_of q))
+pub kept_order : (a b : ℕ) (p q : Span) → is_key a ≡ true → span_of_key a ≡ p → is_key b ≡ true → span_of_key b ≡ q → nat_cmp a b ≡ span_cmp p q
+kept_order a b p q h is k same =
+    let s : IsKey a p = key_is a p h is in
+    let t : IsKey b q = key_is b q k same in
+    let i = key_made a in
+    let j = key_made b in
+    let x = a / 281_474_976_710_656 in
+    let y = b / 281_474_976_710_656 in
+    let m = a / 65_536 % 4_294_967_296 in
+    let n = b / 65_536 % 4_294_967_296 in
+    let made : nat_cmp ((x * 4_294_967_296 + m) * 65_536 + a % 65_536) ((y * 4_294_967_296 + n) * 65_536 + b % 65_536) ≡ nat_cmp a b = ap (λ k. nat_cmp k ((y * 4_294_967_296 + n) * 65_536 + b % 65_536)) i ∙ ap (nat_cmp a) j in
+    rw (s.unit, s.first, s.size, t.unit, t.first, t.size)
+    (sym made
+    ∙ by_both (x * 4_294_967_296 + m) (y * 4_294_967_296 + n) (a % 65_536) (b % 65_536) 65_536 (omega arith) (omega arith)
+    ∙ ap (λ o. ordering_then o (nat_cmp (a % 65_536) (b % 65_536))) (by_both x y m n 4_294_967_296 (omega arith) (omega arith))
+    ∙ then_assoc (nat_cmp x y) (nat_cmp m n) (nat_cmp (a % 65_536) (b % 65_536)))
 
 -- ---- days
 

@@ -1,6 +1,5 @@
 pub mod Calendar
 pub mod Instant
-pub mod Key
 pub mod Kept
 pub mod Period
 pub mod PeriodText

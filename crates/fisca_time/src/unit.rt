@@ -1,5 +1,5 @@
-ghost use Rattle.std.specs.Prelude.{◌≡◌};
-ghost use Rattle.fisca_time.specs.Unit.{months_in};
+ghost use Rattle.std.specs.Prelude.{◌≡◌, ◌≤◌};
+ghost use Rattle.fisca_time.specs.Unit.{months_in, unit_ranked};
 
 use std::cmp::Ordering;
 
@@ -48,6 +48,22 @@ impl PartialOrd for Unit {
 
     fn partial_cmp(&self, other: &Unit) -> Option<Ordering> {
         Some(self.cmp(other))
+    }
+}
+
+impl Unit {
+    /// The unit at that place among all, from 0 for the smallest.
+    pub(crate) fn ranked(rank: u8) -> Unit
+        requires { rank ≤ 3 }
+        ensures { result ≡ unit_ranked rank }
+    {
+        match rank {
+            0 => Unit::Day,
+            1 => Unit::Month,
+            2 => Unit::Year,
+            3 => Unit::Eternity,
+            _ => unreachable!(),
+        }
     }
 }
 

@@ -71,10 +71,6 @@ impl Unit {
 pub(crate) fn months_in(unit: Unit) -> u8
     ensures { result ≡ months_in unit }
 {
-    match unit {
-        Unit::Day => 0,
-        Unit::Month => 1,
-        Unit::Year => 12,
-        Unit::Eternity => 0,
-    }
+    const MONTHS: [u8; 4] = [0, 1, 12, 0];
+    MONTHS[unit as usize]
 }

@@ -1,4 +1,4 @@
-use Rattle.std.proofs.Common.{arith, refl}
+use Rattle.std.proofs.Common.{arith}
 use Rattle.std.proofs.lemmas.Grind.{common_steps}
 use Rattle.fisca_time.proofs.Forms.{one_piece, start_of_text-month, start_of_text-day}
 use Rattle.fisca_time.proofs.form.written_start.Goals as goal

@@ -2,6 +2,7 @@
 #![tactic(auto)]
 
 mod cursor;
+mod law;
 mod made;
 mod marks;
 mod measured;
@@ -12,6 +13,7 @@ mod sign;
 mod tree;
 mod words;
 
+pub use law::each_list_of_tokens_has_one_tree;
 pub use reader::read_expression;
 pub use sign::{Sign, Slice};
 pub use tree::{

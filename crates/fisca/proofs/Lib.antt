@@ -1,3 +1,4 @@
+mod Commands
 mod FirstFiles
 mod Matches
 mod Parses

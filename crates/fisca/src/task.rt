@@ -220,8 +220,9 @@ pub fn read_task<'a>(alloc: Global, words: &'a [String]) -> Result<Task<'a>, Err
 {
     let matches = command(alloc)?.try_get_matches_from(words)?;
     match matches.subcommand() {
+        Some(("check", inner)) => Ok(check_task(inner)),
         Some(("axes", inner)) => Ok(axes_task(alloc, inner)?),
-        Some((_, inner)) => Ok(check_task(inner)),
+        Some(_) => unreachable!(),
         None => unreachable!(),
     }
 }

@@ -12,7 +12,9 @@ mod sign;
 mod tree;
 mod words;
 
-pub use reader::read_expression;
+pub use cursor::Cursor;
+pub use reader::{read_all, read_expression};
+pub use refusal::Refusal;
 pub use sign::{Sign, Slice};
 pub use tree::{
     Argument, Arguments, Bracket, Comparison, Expr, Mode, Operator, Place, Prefix, Suffix,

@@ -16,6 +16,11 @@ pub record Answer : Type 0 where
   pub line : ℕ
   pub value : Tree
 
+-- a line in the body of a formula
+pub data Step : Type 0 where
+  local : Assigned → Step
+  result : Answer → Step
+
 pub record Formula : Type 0 where
   pub line : ℕ
   pub start : CivilDate

@@ -20,8 +20,8 @@ use Rattle.fisca_syntax.specs.declared.shape.Shape.TheVariants as shape
 use Rattle.fisca_syntax.specs.Headings.{alone, assignment, returned, labelled, class_heading, definition_heading}
 use Rattle.fisca_syntax.specs.Forms.{declared, is_week_attribute}
 use Rattle.fisca_syntax.specs.Lines.{Line, lines, number, fault, on_line, last_line}
-use Rattle.fisca_syntax.specs.Modules.{Assigned, Answer, Formula, Item, attribute, formula, Statement, choices, variable}
-use Rattle.fisca_syntax.specs.Shapes.{shape_of}
+use Rattle.fisca_syntax.specs.Modules.{Assigned, Answer, Formula, Item, attribute, formula, Step, local, result, Statement, choices, variable}
+use Rattle.fisca_syntax.specs.Shapes.{shape_of, is_text}
 
 abbrev pub Outcome : Type 0 → Type 0
 Outcome A = Result (A × List Line) FormulaFault
@@ -75,42 +75,54 @@ abbrev pub put : {A : Type 0} → Option A → List A → List A
 put None xs = xs
 put (Some x) xs = x ∷ xs
 
-abbrev pub block_from : {A : Type 0} → (Line → Reader (Option A)) → Reader (List A) → Option Line → Reader (List A)
-block_from one others None = pure []
-block_from one others (Some l) = one l >>= λ x. others >>= λ xs. pure (put x xs)
+-- what the next line of a block has, and perhaps lines below it, if there is a next line
+abbrev pub turn_by : {A : Type 0} → (Line → Reader (Option A)) → Option Line → Reader (Option (Option A))
+turn_by one None = pure None
+turn_by one (Some l) = one l >>= λ x. pure (Some x)
+
+abbrev pub turn : {A : Type 0} → ℕ → (Line → Reader (Option A)) → Reader (Option (Option A))
+turn i one = next_at i >>= turn_by one
+
+abbrev pub after_turn : {A : Type 0} → Reader (List A) → Option (Option A) → Reader (List A)
+after_turn others None = pure []
+after_turn others (Some x) = others >>= λ xs. pure (put x xs)
 
 -- What the lines of a block at this indentation have. The number bounds the turns, each of which takes a line.
 unfoldable pub block : {A : Type 0} → ℕ → (Line → Reader (Option A)) → ℕ → Reader (List A)
 block i one zero = pure []
-block i one (suc n) = next_at i >>= block_from one (block i one n)
+block i one (suc n) = turn i one >>= after_turn (block i one n)
 
 -- the block below a line at this indentation
 abbrev pub below : {A : Type 0} → ℕ → ℕ → (Line → Reader (Option A)) → Reader (List A)
 below end i one = deeper end i >>= λ j ls. block j one (length ls) ls
 
--- The lines of each block, in a text of this source that ends on this line.
-module _ (source : List ℕ) (end : ℕ) where
+-- nothing is declared
+abbrev pub skipped : {A : Type 0} → Reader (Option A)
+skipped = pure None
+
+abbrev pub assigned_in : Line → List ℕ × Tree → Assigned
+assigned_in l p = record { line = number l; name = p.0; value = p.1 }
+
+-- a body ends here
+abbrev pub ended_by : {A : Type 0} → A → Option Line → Reader A
+ended_by a None = pure a
+ended_by a (Some l) = refuse Unsupported l
+
+-- Lines of a text of this source.
+module _ (source : List ℕ) where
   abbrev pub shape_at : Line → Shape
   shape_at l = shape_of (signs source l.tokens)
-
-  -- nothing is declared
-  abbrev pub skipped : {A : Type 0} → Reader (Option A)
-  skipped = pure None
 
   -- `pass`
   abbrev pub passed : {A : Type 0} → Line → Reader (Option A)
   passed l = given (on_line source alone l) >>= λ _. skipped
 
-  -- Enums
-
-  abbrev pub member : Line → Reader (Option Member)
-  member l = given (on_line source labelled l) >>= λ p. pure (Some (record { line = number l; name = p.0; text = p.1 }))
-
+  -- in an Enum
   abbrev pub enum_line_by : Shape → Line → Reader (Option Member)
   enum_line_by shape.Import l = refuse Unsupported l
   enum_line_by shape.Text l = skipped
   enum_line_by shape.Pass l = passed l
-  enum_line_by shape.Assignment l = member l
+  enum_line_by shape.Assignment l = given (on_line source labelled l) >>= λ p. pure (Some (record { line = number l; name = p.0; text = p.1 }))
   enum_line_by shape.Class l = refuse Unsupported l
   enum_line_by shape.Definition l = refuse Unsupported l
   enum_line_by shape.Return l = refuse Unsupported l
@@ -119,67 +131,62 @@ module _ (source : List ℕ) (end : ℕ) where
   unfoldable pub enum_line : Line → Reader (Option Member)
   enum_line l = enum_line_by (shape_at l) l
 
-  -- Formulas
+  -- in a formula at this indentation, which ends behind `return`
+  abbrev pub body_line_by : ℕ → Shape → Line → Reader Step
+  body_line_by i shape.Import l = refuse Unsupported l
+  body_line_by i shape.Text l = refuse Unsupported l
+  body_line_by i shape.Pass l = refuse Unsupported l
+  body_line_by i shape.Assignment l = given (on_line source (assignment mode.Formula) l) >>= λ p. pure (local (assigned_in l p))
+  body_line_by i shape.Class l = refuse Unsupported l
+  body_line_by i shape.Definition l = refuse Unsupported l
+  body_line_by i shape.Return l = given (on_line source (returned mode.Formula) l) >>= λ e. next_at i >>= ended_by (result (record { line = number l; value = e }))
+  body_line_by i (shape.Other k) l = refuse k l
 
-  abbrev pub assigned_in : Line → List ℕ × Tree → Assigned
-  assigned_in l p = record { line = number l; name = p.0; value = p.1 }
+  unfoldable pub body_line : ℕ → Line → Reader Step
+  body_line i l = body_line_by i (shape_at l) l
 
-  abbrev pub ended_by : {A : Type 0} → A → Option Line → Reader A
-  ended_by a None = pure a
-  ended_by a (Some l) = refuse Unsupported l
+  -- A text in quotes may come first.
+  unfoldable pub documented : List Line → List Line
+  documented [] = []
+  documented (l ∷ ls) = if is_text (shape_at l) then ls else l ∷ ls
 
-  -- Behind a `return` the body ends.
-  abbrev pub result : ℕ → Line → Reader (List Assigned × Answer)
-  result i l = given (on_line source (returned mode.Formula) l) >>= λ e. next_at i >>= ended_by ([], record { line = number l; value = e })
+abbrev pub after_step : Reader (List Assigned × Answer) → Step → Reader (List Assigned × Answer)
+after_step others (local a) = others >>= λ b. pure (a ∷ b.0, b.1)
+after_step others (result r) = pure ([], r)
 
-  abbrev pub local : Line → Reader (List Assigned × Answer) → Reader (List Assigned × Answer)
-  local l others = given (on_line source (assignment mode.Formula) l) >>= λ p. others >>= λ b. pure (assigned_in l p ∷ b.0, b.1)
+-- Blocks of a text of this source that ends on this line.
+module _ (source : List ℕ) (end : ℕ) where
+  abbrev pub step_by : ℕ → Option Line → Reader Step
+  step_by i None = missing end
+  step_by i (Some l) = body_line source i l
 
-  abbrev pub body_by : ℕ → Reader (List Assigned × Answer) → Shape → Line → Reader (List Assigned × Answer)
-  body_by i others shape.Import l = refuse Unsupported l
-  body_by i others shape.Text l = refuse Unsupported l
-  body_by i others shape.Pass l = refuse Unsupported l
-  body_by i others shape.Assignment l = local l others
-  body_by i others shape.Class l = refuse Unsupported l
-  body_by i others shape.Definition l = refuse Unsupported l
-  body_by i others shape.Return l = result i l
-  body_by i others (shape.Other k) l = refuse k l
-
-  abbrev pub body_from : ℕ → Reader (List Assigned × Answer) → Option Line → Reader (List Assigned × Answer)
-  body_from i others None = missing end
-  body_from i others (Some l) = body_by i others (shape_at l) l
+  -- the next line of a formula's body, which has to be there
+  abbrev pub step_at : ℕ → Reader Step
+  step_at i = next_at i >>= step_by i
 
   -- The locals of a formula, up to its one `return`. The number bounds the turns, each of which takes a line.
   unfoldable pub body : ℕ → ℕ → Reader (List Assigned × Answer)
   body i zero = missing end
-  body i (suc n) = next_at i >>= body_from i (body i n)
+  body i (suc n) = step_at i >>= after_step (body i n)
 
-  abbrev pub past_text : Shape → Line → List Line → List Line
-  past_text shape.Text l ls = ls
-  past_text s l ls = l ∷ ls
-
-  -- A text in quotes may come first.
-  abbrev pub documented : Reader (Unit {0})
-  documented [] = Ok (tt, [])
-  documented (l ∷ ls) = Ok (tt, past_text (shape_at l) l ls)
+  abbrev pub documented_body : ℕ → List Line → Outcome (List Assigned × Answer)
+  documented_body i ls = body i (length ls) ls
 
   unfoldable pub formula_at : Line → Reader Formula
   formula_at l =
       given (on_line source definition_heading l) >>= λ h.
-      deeper end l.indent >>= λ i.
-      documented >>= λ _ ls.
-      (body i (length ls) >>= λ b. pure (record { line = number l; start = h.0; signature = h.1; locals = b.0; returned = b.1 })) ls
-
-  -- Variables
+      deeper end l.indent >>= λ i ls.
+      and_then (documented_body i (documented source ls)) (λ b. pure (record { line = number l; start = h.0; signature = h.1; locals = b.0; returned = b.1 }))
 
   -- weeks are left out
   abbrev pub with_unit : Line → Assigned → Reader (Option Item)
   with_unit l a = if is_week_attribute a then refuse Unsupported l else pure (Some (attribute a))
 
+  -- in a variable
   abbrev pub variable_line_by : Shape → Line → Reader (Option Item)
   variable_line_by shape.Import l = refuse Unsupported l
   variable_line_by shape.Text l = skipped
-  variable_line_by shape.Pass l = passed l
+  variable_line_by shape.Pass l = passed source l
   variable_line_by shape.Assignment l = given (on_line source (assignment mode.Value) l) >>= λ p. with_unit l (assigned_in l p)
   variable_line_by shape.Class l = refuse Unsupported l
   variable_line_by shape.Definition l = formula_at l >>= λ f. pure (Some (formula f))
@@ -187,21 +194,20 @@ module _ (source : List ℕ) (end : ℕ) where
   variable_line_by (shape.Other k) l = refuse k l
 
   unfoldable pub variable_line : Line → Reader (Option Item)
-  variable_line l = variable_line_by (shape_at l) l
-
-  -- Modules
+  variable_line l = variable_line_by (shape_at source l) l
 
   abbrev pub with_form : Line → Option Statement → Reader (Option Statement)
   with_form l None = refuse Unsupported l
   with_form l (Some s) = pure (Some s)
 
   abbrev pub class_of : Line → List ℕ → Base → Reader Statement
-  class_of l n base.Enum = below end l.indent enum_line >>= λ ms. pure (choices (number l) n ms)
+  class_of l n base.Enum = below end l.indent (enum_line source) >>= λ ms. pure (choices (number l) n ms)
   class_of l n base.Variable = below end l.indent variable_line >>= λ xs. pure (variable (number l) n xs)
 
   unfoldable pub class_at : Line → Reader Statement
   class_at l = given (on_line source class_heading l) >>= λ h. class_of l h.0 h.1
 
+  -- in a module
   abbrev pub module_line_by : Shape → Line → Reader (Option Statement)
   module_line_by shape.Import l = skipped
   module_line_by shape.Text l = skipped
@@ -213,7 +219,7 @@ module _ (source : List ℕ) (end : ℕ) where
   module_line_by (shape.Other k) l = refuse k l
 
   unfoldable pub module_line : Line → Reader (Option Statement)
-  module_line l = module_line_by (shape_at l) l
+  module_line l = module_line_by (shape_at source l) l
 
 abbrev pub Read : Type 0
 Read = Result (List Statement) FormulaFault

@@ -61,3 +61,13 @@ shape_at (sign.Mark m) ts = shape.Other (marked m)
 unfoldable pub shape_of : List Sign → Shape
 shape_of [] = shape.Other Syntax
 shape_of (s ∷ ts) = shape_at s ts
+
+abbrev pub is_text : Shape → Bool
+is_text shape.Import = false
+is_text shape.Text = true
+is_text shape.Pass = false
+is_text shape.Assignment = false
+is_text shape.Class = false
+is_text shape.Definition = false
+is_text shape.Return = false
+is_text (shape.Other k) = false

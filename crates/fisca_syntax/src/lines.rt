@@ -7,6 +7,7 @@ ghost use Rattle.fisca_syntax.specs.Reading as spec;
 ghost use Rattle.fisca_syntax.specs.Reading.{Takes};
 
 use crate::line::Line;
+use crate::shape::{is_text, shape_of};
 use fisca_tokens::{FormulaFault, Kind};
 use std::marker::Model;
 
@@ -78,6 +79,19 @@ impl<'l, 't> Lines<'l, 't> {
         match self.rest {
             [line, ..] if line.indent() > indent => Ok(line.indent()),
             _ => Err(self.missing(end)),
+        }
+    }
+
+    /// Goes past a text in quotes that stands alone, if one comes next.
+    #[tactic(auto, unfolding(crate::specs::Reading::documented))]
+    pub fn pass_text(&mut self, text: &str)
+        ensures { self.new ≡ spec.documented text.now self.old }
+    {
+        let [line, rest @ ..] = self.rest else {
+            return;
+        };
+        if is_text(shape_of(text, line.tokens())) {
+            self.rest = rest;
         }
     }
 }

@@ -28,6 +28,13 @@ pub(crate) enum Shape {
     Other(Kind),
 }
 
+/// Whether a text in quotes alone.
+pub(crate) fn is_text(shape: Shape) -> bool
+    ensures { result ≡ spec.is_text shape }
+{
+    matches!(shape, Shape::Text)
+}
+
 fn is_import(word: &[u8]) -> bool
     ensures { result ≡ spec.is_import word.now }
 {

@@ -13,8 +13,10 @@ mod sign;
 mod tree;
 mod words;
 
+pub use cursor::Cursor;
 pub use law::each_list_of_tokens_has_one_tree;
-pub use reader::read_expression;
+pub use reader::{read_all, read_expression};
+pub use refusal::Refusal;
 pub use sign::{Sign, Slice};
 pub use tree::{
     Argument, Arguments, Bracket, Comparison, Expr, Mode, Operator, Place, Prefix, Suffix,

@@ -1,0 +1,3 @@
+pub mod Split
+pub mod ListedNames
+pub mod Turns

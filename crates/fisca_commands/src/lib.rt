@@ -5,6 +5,7 @@ mod axes;
 mod check;
 mod ending;
 mod last_line;
+mod modules;
 mod refusal;
 mod shown;
 mod task;

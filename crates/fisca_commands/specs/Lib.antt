@@ -4,3 +4,5 @@ pub mod AxesRun
 pub mod Check
 pub mod LastLine
 pub mod Ending
+pub mod Folder
+pub mod FolderSteps

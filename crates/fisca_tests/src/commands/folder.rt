@@ -6,6 +6,7 @@ use std::test::Fail;
 
 /// A folder that a test makes up: the entries of each folder, those that are folders with a slash behind, and the bytes of
 /// each file.
+#[derive(Drop)]
 struct Made {
     alloc: Global,
     folders: &'static [(&'static str, &'static [&'static str])],
@@ -149,6 +150,7 @@ fn the_first_fault_is_told(rt: HostRuntime) -> Result<(), Fail> {
 }
 
 /// A folder in which each folder has as many folders as this, and one file.
+#[derive(Drop)]
 struct Endless {
     alloc: Global,
     folders: usize,

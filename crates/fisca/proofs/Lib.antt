@@ -1,4 +1,3 @@
 mod Commands
-mod FirstFiles
 mod Matches
 mod Parses

@@ -1,3 +1,5 @@
 mod ManyWords
 mod Parts
 mod Endings
+mod Looks
+mod FirstFiles

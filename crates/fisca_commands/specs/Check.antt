@@ -2,7 +2,7 @@
 use Rattle.std.specs.Prelude.{◌≡◌, ℕ, ◌<◌, ◌≤◌, ◌++◌, ◌||◌, Bool, true, false, List, [], count_by, codes, slice_get, string_bytes, Option, Some, None, Result, Ok, Err, is_some, ⊤}
 use Rattle.std.specs.Fmt.{decimal}
 use Rattle.std.specs.Io.KnownBytes.{Appends, Keeps}
-use Rattle.fisca_grid.specs.Run.{IsProperPrefix}
+use Rattle.fisca_grid.specs.Run.{AppendsPart}
 use Rattle.fisca_params.specs.Answers.{Refuses}
 use Rattle.fisca_params.specs.Source.{Source}
 use Rattle.fisca_params.specs.Paths.{names_of}
@@ -62,7 +62,7 @@ IsCheck files old new (Err (Params path line fault)) =
     (count_of_files files ≤ 1000) × Refuses fault (tree_of files) × StandsAt files (place_of fault) (string_bytes path) line × Keeps old new
 IsCheck files old new (Err (Formula path line kind)) =
     ((tree : List TreeNode) × HasTree files tree) × (IsModuleCheck (first_fault (in_path_order files)) (Err (Formula path line kind)) × Keeps old new)
-IsCheck files old new (Err Write) = (tree : List TreeNode) × IsAccepted files tree × ((part : List ℕ) × IsProperPrefix part (text_of tree) × Appends old new part)
+IsCheck files old new (Err Write) = (tree : List TreeNode) × IsAccepted files tree × AppendsPart (text_of tree) old new
 IsCheck files old new (Err Memory) = Keeps old new
 IsCheck files old new (Err (Axes fault)) = ⊥
 IsCheck files old new (Err BadWord) = ⊥

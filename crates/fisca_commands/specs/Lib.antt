@@ -5,3 +5,5 @@ pub mod Modules
 pub mod Check
 pub mod LastLine
 pub mod Ending
+pub mod Folder
+pub mod FolderSteps

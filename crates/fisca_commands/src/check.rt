@@ -1,7 +1,7 @@
 //! `fisca check`: whether the files of a rule set are accepted, and what they hold.
 
 ghost use Rattle.std.specs.Prelude.{◌≡◌, ℕ, ◌<◌, cond, IfOk, IfSome, OnOk, IsTrue, ◌↔◌, string_bytes, length};
-ghost use Rattle.fisca_grid.specs.Sink.{one_more};
+ghost use Rattle.fisca_grid.specs.Sink.{CountsFailure};
 ghost use Rattle.fisca_params.specs.Answers.{file_of, Refuses};
 ghost use Rattle.fisca_params.specs.Files.{tree_of};
 ghost use Rattle.fisca_commands.specs.Check.{count_of_files, text_of_count, IsCheck, IsToldOf, IsToldAt, is_check_write};
@@ -80,7 +80,7 @@ pub fn check_rules<S: RowSink>(
     sink: &mut S,
 ) -> Result<(), Refusal>
     ensures answer { IsCheck files.now (S.taken sink.old) (S.taken sink.new) result }
-    ensures failures { S.failures sink.new ≡ cond (is_check_write result) (one_more (S.failures sink.old)) (S.failures sink.old) }
+    ensures failures { CountsFailure (is_check_write result) (S.failures sink.old) (S.failures sink.new) }
 {
     if count_files(files) > MOST_FILES {
         return Err(Refusal::TooManyFiles);

@@ -1,12 +1,16 @@
 -- The first of the files of a folder.
-use Rattle.std.proofs.Common.{◌≡◌, ◌+◌, ◌<◌, ◌≤◌, ◌^◌, ℕ, List, [], ◌∷◌, ◌++◌, String, length, take, map, min, string_bytes, All, sym, ◌∙◌, ap, append_assoc, arith, take_all, get_or, get_or-take, IsSorted, string_cmp, Result, Ok, Err, IfOk}
-use Rattle.std.proofs.lemmas.List.{length-append, length-map, length-take, take-append-le, map_push, get_or-map}
+use Rattle.std.proofs.Common.{◌≡◌, ◌+◌, ◌<◌, ◌≤◌, ◌^◌, ℕ, List, [], ◌∷◌, ◌++◌, String, length, take, map, min, string_bytes, All, sym, ◌∙◌, ap, append_assoc, arith, take_all, get_or, get_or-take, IsSorted, string_cmp, Result, Ok, Err, IfOk, Option, Some, None, option_map, subst, MatchResult}
+use Rattle.std.specs.Str.{IsUtf8}
+use Rattle.std.proofs.lemmas.List.{map-append, length-append, length-map, length-take, take-append-le, map_push, get_or-map}
 use Rattle.std.proofs.lemmas.List.Elements.{All-append, All-cons, All-nil}
 use Rattle.std.specs.Cmp.Lexicographic.{slice_cmp}
 use Rattle.std.specs.Ordering.{nat_cmp}
 use Rattle.std.specs.declared.alloc.Global.{Global}
 use Rattle.fisca_params.specs.Source.{Source}
-use Rattle.fisca.specs.Folder.{AreRuleFiles, path_of}
+use Rattle.fisca_commands.specs.declared.folder.FolderFault.{FolderFault}
+use Rattle.fisca_commands.specs.declared.folder.FolderFault.TheVariants.{CannotList, CannotRead, TooLong, TooManyFiles, Memory}
+use Rattle.fisca_commands.specs.FolderSteps.{IsUnread}
+use Rattle.fisca_commands.specs.Folder.{AreRead, AreRuleFiles, Folder, IsFileFault, IsFirstFault, IsReadable, IsTooLong, IsUnreadable, path_of}
 
 short : (n : ℕ) (xs : List (List ℕ)) (y : List ℕ) → length (take n xs) < n → take n (xs ++ y ∷ []) ≡ take n xs ++ y ∷ []
 short n xs y h =
@@ -78,3 +82,67 @@ are_rule_files paths files h e short =
 pub if_ok_both : {X E : Type 0} {P Q R : X → Type 0} (r : Result X E) → ((x : X) → P x → Q x → R x) → IfOk r P → IfOk r Q → IfOk r R
 if_ok_both (Ok x) f p q = f x p q
 if_ok_both (Err e) f p q = tt
+
+abbrev IsText : Folder → Source → Type 0
+IsText folder file = folder.bytes file.path ≡ Some file.text
+
+abbrev CanBeRead : Folder → List ℕ → Type 0
+CanBeRead folder path = IsReadable (folder.bytes path)
+
+-- one more file that can be read
+pub one_more_readable : (folder : Folder) (gone : Paths) (path : String Global) → All (λ p. IsReadable (folder.bytes p)) (names gone) → IsReadable (folder.bytes (string_bytes path))
+    → All (λ p. IsReadable (folder.bytes p)) (names (gone ++ path ∷ []))
+one_more_readable folder gone path h k =
+    rw (map_push (λ p. string_bytes p) gone path) (All-append (CanBeRead folder) (names gone) (string_bytes path ∷ []) h (All-cons (CanBeRead folder) (string_bytes path) [] k (All-nil (CanBeRead folder))))
+
+pub one_more_text : (folder : Folder) (files : List Source) (file : Source) → All (λ f. folder.bytes f.path ≡ Some f.text) files → folder.bytes file.path ≡ Some file.text
+    → All (λ f. folder.bytes f.path ≡ Some f.text) (files ++ file ∷ [])
+one_more_text folder files file h k = All-append (IsText folder) files (file ∷ []) h (All-cons (IsText folder) file [] k (All-nil (IsText folder)))
+
+-- the first file that is refused
+pub first_fault : (folder : Folder) (all gone old new : Paths) (path : String Global) (one : List ℕ) (fault : FolderFault) → all ≡ gone ++ old → old ≡ path ∷ new → one ≡ string_bytes path
+    → All (λ p. IsReadable (folder.bytes p)) (names gone) → IsFileFault one (folder.bytes one) fault → IsFirstFault folder (names all) fault
+first_fault folder all gone old new path one fault e step is readable faulty = (
+  names gone,
+  one,
+  names new,
+  ap names (e ∙ ap (λ rest. gone ++ rest) step) ∙ map-append (λ p. string_bytes p) gone (path ∷ new) ∙ ap (λ p. names gone ++ (p ∷ names new)) (sym is),
+  readable,
+  faulty,
+)
+
+-- the first bytes of a file, and one more
+pub short_enough : (bytes : List ℕ) (all : Option (List ℕ)) → Some bytes ≡ option_map (take 1048577) all → length bytes ≤ 1048576 → all ≡ Some bytes
+short_enough bytes None is few = cc
+short_enough bytes (Some all) is few =
+    let e : bytes ≡ take 1048577 all = cc in
+    let cut : length (take 1048577 all) ≡ min 1048577 (length all) = length-take 1048577 all in
+    let same : length bytes ≡ length (take 1048577 all) = ap length e in
+    ap Some (sym (e ∙ take_all 1048577 all (omega (arith, cut, same, few))))
+
+pub too_long : (bytes : List ℕ) (all : Option (List ℕ)) → Some bytes ≡ option_map (take 1048577) all → 1048576 < length bytes → IsTooLong all
+too_long bytes None is many = cc
+too_long bytes (Some all) is many =
+    let e : bytes ≡ take 1048577 all = cc in
+    let cut : length (take 1048577 all) ≡ min 1048577 (length all) = length-take 1048577 all in
+    let same : length bytes ≡ length (take 1048577 all) = ap length e in
+    omega (arith, cut, same, many)
+
+pub no_bytes : (all : Option (List ℕ)) → None ≡ option_map (take 1048577) all → IsUnreadable all
+no_bytes None is = tt
+no_bytes (Some all) is = cc
+
+-- what is told of a file that cannot be read
+pub unread : (path : List ℕ) (bytes : Option (List ℕ)) (fault : FolderFault) → IsUnreadable bytes → IsUnread path fault → IsFileFault path bytes fault
+unread path bytes CannotList h is = is
+unread path bytes (CannotRead told) h is = (h, is)
+unread path bytes (TooLong told) h is = absurd is
+unread path bytes TooManyFiles h is = is
+unread path bytes Memory h is = tt
+
+-- what is told of bytes that are or are no text
+pub told_of_bytes : (path bytes : List ℕ) (all : Option (List ℕ)) (r : Result (String Global) FolderFault) → all ≡ Some bytes → length bytes ≤ 1048576
+    → MatchResult r (λ text. (string_bytes text ≡ bytes) × IsUtf8 bytes) (λ fault. ¬ (IsUtf8 bytes) × IsUnread path fault)
+    → MatchResult r (λ text. (all ≡ Some (string_bytes text)) × IsReadable all) (IsFileFault path all)
+told_of_bytes path bytes all (Ok text) is few told = (is ∙ ap Some (sym told.0), subst IsReadable (sym is) (few, told.1))
+told_of_bytes path bytes all (Err fault) is few told = unread path all fault (subst IsUnreadable (sym is) (few, told.0)) told.1

@@ -1,5 +1,5 @@
 -- The status that is told of an answer is 5 exactly where the sink failed.
-use Rattle.std.proofs.Common.{◌≡◌, ◌≢◌, ◌⊎◌, inl, inr, ℕ, ◌==◌, ◌&&◌, cond, is_ok, Bool, true, false, List, [], ◌∷◌, Option, Some, None, Result, Ok, Err, MatchResult, refl, sym, ap, ◌∙◌}
+use Rattle.std.proofs.Common.{◌≡◌, inl, inr, ℕ, ◌==◌, ◌&&◌, cond, is_ok, Bool, false, List, [], ◌∷◌, Option, Some, None, Result, Ok, Err, MatchResult, refl, sym, ap, ◌∙◌}
 use Rattle.std.proofs.lemmas.Bool.{ne_eqb, true≢false}
 use Rattle.fisca_grid.specs.Axes.{axes_fault}
 use Rattle.fisca_grid.specs.Sink.{one_more}

@@ -10,7 +10,7 @@ use Rattle.fisca_params.specs.Source.{Source}
 use Rattle.fisca_commands.specs.declared.folder.FolderFault.{FolderFault}
 use Rattle.fisca_commands.specs.declared.folder.FolderFault.TheVariants.{CannotList, CannotRead, TooLong, TooManyFiles, Memory}
 use Rattle.fisca_commands.specs.FolderSteps.{IsUnread}
-use Rattle.fisca_commands.specs.Folder.{AreRead, AreRuleFiles, Folder, IsFileFault, IsFirstFault, IsReadable, IsTooLong, IsUnreadable, path_of}
+use Rattle.fisca_commands.specs.Folder.{AreRuleFiles, Folder, IsFileFault, IsFirstFault, IsReadable, IsTooLong, IsUnreadable, path_of}
 
 short : (n : ℕ) (xs : List (List ℕ)) (y : List ℕ) → length (take n xs) < n → take n (xs ++ y ∷ []) ≡ take n xs ++ y ∷ []
 short n xs y h =

@@ -1,5 +1,5 @@
 -- What is found in a folder, step by step.
-use Rattle.std.proofs.Common.{◌≡◌, ◌<◌, ◌≤◌, ◌+◌, ◌||◌, ℕ, zero, suc, Bool, true, false, cond, not, List, [], ◌∷◌, ◌++◌, length, map, take, min, Option, Some, None, option_map, unwrap_or, is_some, fold, refl, sym, ◌∙◌, ap, subst, arith, rules, append_assoc, take_all, append-nil, ap₂, String, string_bytes, get_or, drop, drop-cons, ◌-◌, IsSorted, string_cmp}
+use Rattle.std.proofs.Common.{◌≡◌, ◌<◌, ◌≤◌, ◌+◌, ◌||◌, ℕ, zero, suc, Bool, true, false, cond, not, List, [], ◌∷◌, ◌++◌, length, map, take, min, Option, Some, None, option_map, unwrap_or, is_some, fold, refl, sym, ◌∙◌, ap, subst, arith, append_assoc, take_all, append-nil, ap₂, String, string_bytes, get_or, drop, drop-cons, ◌-◌, IsSorted, string_cmp}
 use Rattle.std.specs.List.{filter}
 use Rattle.std.proofs.lemmas.List.{length-map, length-take, get_or-map, map-append, take-append-drop}
 use Rattle.std.proofs.lemmas.List.Sorted.{IsPermutation-map}
@@ -8,9 +8,9 @@ use Rattle.std.specs.Cmp.Lexicographic.{slice_cmp}
 use Rattle.std.specs.Ordering.{nat_cmp}
 use Rattle.std.specs.declared.alloc.Global.{Global}
 use Rattle.std.proofs.lemmas.List.Sums.{fold-append}
-use Rattle.fisca_params.specs.Paths.{names_of}
-use Rattle.fisca_commands.specs.Folder.{Entry, Folder, Found, AreRulePaths, IsListFault, entries_of, files_in, folders_in, found_deeper, found_in, found_on_top, path_in, with_folder}
-use Rattle.fisca_commands.specs.FolderSteps.{looked_at, with_entry}
+use Rattle.fisca_commands.specs.Modules.{is_rule_path}
+use Rattle.fisca_commands.specs.Folder.{Entry, Folder, Found, AreRulePaths, IsListFault, files_in, folders_in, found_deeper, found_in, found_on_top, path_in, with_folder}
+use Rattle.fisca_commands.specs.FolderSteps.{with_entry}
 use Rattle.fisca_commands.specs.declared.folder.FolderFault.{FolderFault}
 use Rattle.fisca_commands.specs.declared.folder.FolderFault.TheVariants.{CannotList, CannotRead, TooLong, TooManyFiles, Memory}
 
@@ -49,13 +49,13 @@ entries_added path (entry ∷ entries) found = go (λ f. entries_added path entr
 
     go : ((f : Found) → fold (with_entry path) f entries ≡ record f { deeper = f.deeper ++ folders_in path entries; files = f.files ++ files_in path entries })
         → (folder : Bool)
-        → fold (with_entry path) (cond folder (record found { deeper = found.deeper ++ path_in path entry ∷ [] }) (cond (is_some (names_of (path_in path entry))) (record found { files = found.files ++ path_in path entry ∷ [] }) found)) entries
+        → fold (with_entry path) (cond folder (record found { deeper = found.deeper ++ path_in path entry ∷ [] }) (cond (is_rule_path (path_in path entry)) (record found { files = found.files ++ path_in path entry ∷ [] }) found)) entries
         ≡ record found {
           deeper = found.deeper ++ map (path_in path) (cond folder (entry ∷ filter (λ e. e.is_folder) entries) (filter (λ e. e.is_folder) entries));
-          files = found.files ++ filter (λ file. is_some (names_of file)) (map (path_in path) (cond (not folder) (entry ∷ filter (λ e. not e.is_folder) entries) (filter (λ e. not e.is_folder) entries)));
+          files = found.files ++ filter is_rule_path (map (path_in path) (cond (not folder) (entry ∷ filter (λ e. not e.is_folder) entries) (filter (λ e. not e.is_folder) entries)));
         }
     go later true = later _ ∙ ap (λ deeper. record found { deeper = deeper; files = found.files ++ files_in path entries }) (append_assoc found.deeper (path_in path entry ∷ []) (folders_in path entries))
-    go later false = named later (is_some (names_of (path_in path entry)))
+    go later false = named later (is_rule_path (path_in path entry))
 
 or_false : (b : Bool) → b || false ≡ b
 or_false true = refl

@@ -1,23 +1,22 @@
 -- What `fisca check` answers and writes.
-use Rattle.std.specs.Prelude.{◌≡◌, ℕ, ◌<◌, ◌≤◌, ◌++◌, ◌||◌, Bool, true, false, List, [], count_by, codes, slice_get, string_bytes, Option, Some, None, Result, Ok, Err, is_some, ⊤}
+use Rattle.std.specs.Prelude.{◌≡◌, ℕ, ◌<◌, ◌≤◌, ◌++◌, Bool, true, false, List, [], count_by, codes, slice_get, string_bytes, Option, Some, None, Result, Ok, Err, ⊤}
 use Rattle.std.specs.Fmt.{decimal}
 use Rattle.std.specs.Io.KnownBytes.{Appends, Keeps}
 use Rattle.fisca_grid.specs.Run.{AppendsPart}
 use Rattle.fisca_params.specs.Answers.{Refuses}
 use Rattle.fisca_params.specs.Source.{Source}
-use Rattle.fisca_params.specs.Paths.{names_of}
 use Rattle.fisca_params.specs.Files.{tree_of, in_path_order}
 use Rattle.fisca_params.specs.Tree.{TreeNode}
 use Rattle.fisca_params.specs.Lookup.{is_counted}
 use Rattle.fisca_params.specs.declared.fault.ParamFault.{ParamFault}
 use Rattle.fisca_params.specs.declared.fault.ParamFault.TheVariants as params
-use Rattle.fisca_commands.specs.Modules.{is_module, first_fault, IsModuleCheck}
+use Rattle.fisca_commands.specs.Modules.{is_rule_path, first_fault, IsModuleCheck}
 use Rattle.fisca_commands.specs.declared.refusal.Refusal.{Refusal}
 use Rattle.fisca_commands.specs.declared.refusal.Refusal.TheVariants.{Params, Formula, Axes, BadWord, BadCondition, Run, Write, Memory, TooManyFiles}
 
 -- how many files are not ignored
 abbrev pub count_of_files : List Source → ℕ
-count_of_files = count_by (λ file. is_some (names_of file.path) || is_module file.path)
+count_of_files = count_by (λ file. is_rule_path file.path)
 
 -- the line of so many dated parameters and scales
 abbrev pub text_of_count : ℕ → List ℕ

@@ -1,10 +1,10 @@
 -- Which files of a folder are the rule set's, in which order, how deep and how many, and what is refused.
-use Rattle.std.specs.Prelude.{◌≡◌, ℕ, zero, suc, ◌+◌, ◌<◌, ◌≤◌, ◌^◌, ◌++◌, ◌∷◌, [], List, length, map, take, All, IsSorted, IsPermutation, Bool, true, false, not, ◌||◌, if◌then◌else◌, codes, Option, Some, None, is_some, unwrap_or, Result, Ok, Err, ⊤, string_bytes}
+use Rattle.std.specs.Prelude.{◌≡◌, ℕ, zero, suc, ◌+◌, ◌<◌, ◌≤◌, ◌^◌, ◌++◌, ◌∷◌, [], List, length, map, take, All, IsSorted, IsPermutation, Bool, true, false, not, ◌||◌, if◌then◌else◌, codes, Option, Some, None, is_some, unwrap_or, ⊤, string_bytes}
 use Rattle.std.specs.List.{filter, fold, list_any}
 use Rattle.std.specs.Str.{IsUtf8, bytes_eq}
 use Rattle.std.specs.Cmp.Lexicographic.{slice_cmp}
 use Rattle.std.specs.Ordering.{nat_cmp}
-use Rattle.fisca_params.specs.Paths.{names_of}
+use Rattle.fisca_commands.specs.Modules.{is_rule_path}
 use Rattle.fisca_params.specs.Source.{Source}
 use Rattle.fisca_commands.specs.Shown.{shown}
 use Rattle.fisca_commands.specs.declared.folder.FolderFault.{FolderFault}
@@ -32,15 +32,23 @@ path_in path entry = path ++ (47 ∷ entry.name)
 abbrev pub folders_in : List ℕ → List Entry → List (List ℕ)
 folders_in path entries = map (path_in path) (filter (λ entry. entry.is_folder) entries)
 
--- the parameter files in a folder
+-- the rule set's files in a folder
 abbrev pub files_in : List ℕ → List Entry → List (List ℕ)
-files_in path entries = filter (λ file. is_some (names_of file)) (map (path_in path) (filter (λ entry. not entry.is_folder) entries))
+files_in path entries = filter is_rule_path (map (path_in path) (filter (λ entry. not entry.is_folder) entries))
 
--- the folder `parameters`, where there is one
+-- this name, where an entry has it
+abbrev pub named : List ℕ → List Entry → List (List ℕ)
+named name entries = if list_any (λ entry. bytes_eq entry.name name) entries then name ∷ [] else []
+
+-- the folders `parameters` and `variables`, where they are there
 abbrev pub top_of : List Entry → List (List ℕ)
-top_of entries = if list_any (λ entry. bytes_eq entry.name (codes "parameters")) entries then codes "parameters" ∷ [] else []
+top_of entries = named (codes "parameters") entries ++ named (codes "variables") entries
 
--- what is found in some levels of folders: the folders one level deeper, the parameter files, how many files and folders were
+-- the file `entities.py`, where it is there
+abbrev pub top_files_of : List Entry → List (List ℕ)
+top_files_of entries = named (codes "entities.py") entries
+
+-- what is found in some levels of folders: the folders one level deeper, the rule set's files, how many files and folders were
 -- looked at, and whether a folder cannot be listed
 pub record Found : Type 0 where
   pub deeper : List (List ℕ)
@@ -63,7 +71,7 @@ with_folder folder found path =
 abbrev pub found_on_top : Folder → Found
 found_on_top folder =
     let entries = entries_of folder [] in
-    record { deeper = top_of entries; files = []; seen = length entries; is_short = not (is_some (folder.entries [])) }
+    record { deeper = top_of entries; files = top_files_of entries; seen = length entries; is_short = not (is_some (folder.entries [])) }
 
 -- in one level more
 abbrev pub found_deeper : Folder → Found → Found

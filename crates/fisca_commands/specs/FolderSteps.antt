@@ -1,6 +1,6 @@
 -- Steps on the way to what a folder holds, which only private functions name.
-use Rattle.std.specs.Prelude.{◌≡◌, ⊤, string_bytes, ℕ, ◌+◌, ◌++◌, ◌∷◌, [], List, length, not, is_some, if◌then◌else◌, true, false}
-use Rattle.fisca_params.specs.Paths.{names_of}
+use Rattle.std.specs.Prelude.{◌≡◌, ⊤, string_bytes, ℕ, ◌+◌, ◌++◌, ◌∷◌, [], List, length, not, is_some, if◌then◌else◌}
+use Rattle.fisca_commands.specs.Modules.{is_rule_path}
 use Rattle.fisca_commands.specs.declared.folder.FolderFault.{FolderFault}
 use Rattle.fisca_commands.specs.declared.folder.FolderFault.TheVariants.{CannotList, CannotRead, TooLong, TooManyFiles, Memory}
 use Rattle.fisca_commands.specs.Folder.{Entry, Folder, Found, entries_of, path_in}
@@ -10,7 +10,7 @@ abbrev pub with_entry : List ℕ → Found → Entry → Found
 with_entry path found entry =
     let place = path_in path entry in
     if entry.is_folder then record found { deeper = found.deeper ++ place ∷ [] }
-    else (if is_some (names_of place) then record found { files = found.files ++ place ∷ [] } else found)
+    else (if is_rule_path place then record found { files = found.files ++ place ∷ [] } else found)
 
 -- the files and folders that are looked at in one folder, after so many
 abbrev pub looked_at : Folder → List ℕ → ℕ → Found

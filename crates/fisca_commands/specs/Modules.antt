@@ -1,18 +1,21 @@
 -- The modules of a rule set, and the first of them that is refused.
-use Rattle.std.specs.Prelude.{◌≡◌, ◌≢◌, ℕ, nat_eq, Bool, ◌&&◌, ◌||◌, List, [], ◌∷◌, codes, string_bytes, Option, Some, None, Result, Ok, Err, if◌then◌else◌, ⊤}
-use Rattle.std.specs.List.{starts_with, ends_with}
+use Rattle.std.specs.Prelude.{◌≡◌, is_some, ℕ, Bool, ◌||◌, List, [], ◌∷◌, codes, string_bytes, Option, Some, None, option_and_then, Result, Ok, Err, if◌then◌else◌, ⊤}
 use Rattle.std.specs.Str.{bytes_eq}
 use Rattle.fisca_syntax.specs.Reading.{module_of}
 use Rattle.fisca_tokens.specs.declared.fault.FormulaFault.{FormulaFault}
-use Rattle.fisca_tokens.specs.declared.fault.Kind.TheVariants as kind
 use Rattle.fisca_params.specs.Files.{Placed}
+use Rattle.fisca_params.specs.Paths.{names_of, after_start, without_ending}
 use Rattle.fisca_params.specs.Source.{Source}
 use Rattle.fisca_commands.specs.declared.refusal.Refusal.{Refusal}
 use Rattle.fisca_commands.specs.declared.refusal.Refusal.TheVariants.{Params, Formula, Axes, BadWord, BadCondition, Run, Write, Memory, TooManyFiles}
 
 -- the path of a module
 abbrev pub is_module : List ℕ → Bool
-is_module path = bytes_eq path (codes "entities.py") || (starts_with nat_eq path (codes "variables/") && ends_with nat_eq path (codes ".py"))
+is_module path = bytes_eq path (codes "entities.py") || is_some (option_and_then (without_ending (codes ".py")) (after_start (codes "variables/") path))
+
+-- the path of a file that belongs to a rule set; others are ignored
+abbrev pub is_rule_path : List ℕ → Bool
+is_rule_path path = is_some (names_of path) || is_module path
 
 -- a fault of a file, which is told with its path
 abbrev pub FileFault : Type 0
@@ -47,8 +50,6 @@ IsFaultOf fault BadWord = ⊥
 IsFaultOf fault BadCondition = ⊥
 IsFaultOf fault (Run other) = ⊥
 
-abbrev pub IsToldOfModule : List ℕ → FormulaFault → Refusal → Type 0
-IsToldOfModule path fault refusal = IsFaultOf (path, fault) refusal
 
 -- what the reading of modules answers, where this is their first fault or they have none
 abbrev pub IsModuleCheck : Option FileFault → Result Unit Refusal → Type 0

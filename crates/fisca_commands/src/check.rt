@@ -6,7 +6,7 @@ ghost use Rattle.fisca_params.specs.Answers.{file_of, Refuses};
 ghost use Rattle.fisca_params.specs.Files.{tree_of};
 ghost use Rattle.fisca_commands.specs.Check.{count_of_files, text_of_count, IsCheck, IsToldOf, IsToldAt, is_check_write};
 
-use super::modules::{is_module, read_modules};
+use super::modules::{is_rule_path, read_modules};
 use super::refusal::Refusal;
 use fisca_grid::{RowSink, hand_over};
 use fisca_params::{ParamFault, ParamTree, SourceFile};
@@ -21,7 +21,7 @@ fn count_files(files: &[SourceFile]) -> usize
 {
     files
         .iter()
-        .filter(|file| file.is_parameter_file() || is_module(file.path()))
+        .filter(|file| is_rule_path(file.path()))
         .count()
 }
 

@@ -1,24 +1,24 @@
 //! Which files of a folder are the rule set's.
 
-ghost use Rattle.std.specs.Prelude.{◌≡◌, Some, codes, ◌+◌, ◌≤◌, ℕ, length, map, string_bytes, IfOk, OnOk, MatchResult, IsSorted};
+ghost use Rattle.std.specs.Prelude.{◌≡◌, Some, ◌+◌, ◌++◌, ◌≤◌, ℕ, length, map, string_bytes, IfOk, OnOk, MatchResult, IsSorted};
 ghost use Rattle.std.specs.String.{string_cmp};
 ghost use Rattle.std.specs.List.{list_any};
 ghost use Rattle.std.specs.Str.{bytes_eq};
-ghost use Rattle.fisca_commands.specs.Folder.{Folder, AreRulePaths, IsListFault, found_on_top, found_deeper, found_in, top_of, with_folder};
+ghost use Rattle.fisca_commands.specs.Folder.{Folder, AreRulePaths, IsListFault, found_on_top, found_deeper, found_in, named, top_of, top_files_of, with_folder};
 ghost use Rattle.fisca_commands.specs.FolderSteps.{looked_at, with_entry};
 
 use super::folder::{FolderEntry, FolderFault, RuleFolder};
-use fisca_params::is_parameter_path;
+use super::modules::is_rule_path;
 use std::alloc::{AllocError, Global};
 use std::marker::Model;
 
-/// So many levels of folders are looked into: `parameters` and those below it.
+/// So many levels of folders are looked into: `parameters`, `variables` and those below them.
 const DEEPEST: usize = 8;
 
 /// So many files and folders are looked at in all, so that links that lead back keep no one waiting.
 const MOST_SEEN: usize = 100_000;
 
-/// What is found in some levels of folders: the folders one level deeper, the parameter files, and how many files and folders
+/// What is found in some levels of folders: the folders one level deeper, the rule set's files, and how many files and folders
 /// were looked at.
 #[derive(Drop)]
 struct Found {
@@ -58,35 +58,58 @@ pub(crate) fn list_rules<F: RuleFolder>(
     Ok(paths)
 }
 
-/// The folder `parameters`, where there is one.
+/// The folders `parameters` and `variables` and the file `entities.py`, where they are there.
 fn find_top<F: RuleFolder>(alloc: Global, folder: &F) -> Result<Found, FolderFault>
     ensures found { (known : Folder) → F.says folder.now known → MatchResult result (λ found. found ≡ found_on_top known) (IsListFault (found_on_top known)) }
     ensures few { IfOk result (λ found. found.seen ≤ MOST_SEEN) }
 {
     let entries = list(folder, "", 0)?;
     Ok(Found {
-        deeper: parameters_among(alloc, entries.as_slice())?,
-        files: Vec::new(alloc),
+        deeper: folders_on_top(alloc, entries.as_slice())?,
+        files: files_on_top(alloc, entries.as_slice())?,
         seen: entries.len(),
     })
 }
 
-/// The path of the folder `parameters`, where it is among these entries.
-fn parameters_among(alloc: Global, entries: &[FolderEntry]) -> Result<Vec<String>, AllocError>
+/// The folders `parameters` and `variables`, where they are among these entries.
+fn folders_on_top(alloc: Global, entries: &[FolderEntry]) -> Result<Vec<String>, AllocError>
     ensures { IfOk result (λ top. map (λ path. string_bytes path) top.items ≡ top_of entries.now) }
 {
     let mut top = Vec::new(alloc);
-    if has_parameters(entries) {
-        top.push(String::from_str(alloc, "parameters")?)?;
-    }
+    add_named(alloc, entries, "parameters", &mut top)?;
+    add_named(alloc, entries, "variables", &mut top)?;
     Ok(top)
 }
 
-/// Whether the folder `parameters` is among these entries.
-fn has_parameters(entries: &[FolderEntry]) -> bool
-    ensures { result ≡ list_any (λ entry. bytes_eq entry.name (codes "parameters")) entries.now }
+/// The file `entities.py`, where it is among these entries.
+fn files_on_top(alloc: Global, entries: &[FolderEntry]) -> Result<Vec<String>, AllocError>
+    ensures { IfOk result (λ top. map (λ path. string_bytes path) top.items ≡ top_files_of entries.now) }
 {
-    entries.iter().any(|entry| entry.name() == "parameters")
+    let mut top = Vec::new(alloc);
+    add_named(alloc, entries, "entities.py", &mut top)?;
+    Ok(top)
+}
+
+/// Adds this name, where an entry has it.
+fn add_named(
+    alloc: Global,
+    entries: &[FolderEntry],
+    name: &str,
+    paths: &mut Vec<String>,
+) -> Result<(), AllocError>
+    ensures { OnOk result (map (λ path. string_bytes path) paths.new.items ≡ map (λ path. string_bytes path) paths.old.items ++ named name.now entries.now) }
+{
+    if has(entries, name) {
+        paths.push(String::from_str(alloc, name)?)?;
+    }
+    Ok(())
+}
+
+/// Whether an entry has this name.
+fn has(entries: &[FolderEntry], name: &str) -> bool
+    ensures { result ≡ list_any (λ entry. bytes_eq entry.name name.now) entries.now }
+{
+    entries.iter().any(|entry| entry.name() == name)
 }
 
 /// What is found in one level more.
@@ -111,7 +134,7 @@ fn find_deeper<F: RuleFolder>(alloc: Global, folder: &F, found: Found) -> Result
     Ok(found)
 }
 
-/// Adds the folders and the parameter files of a folder.
+/// Adds the folders and the rule set's files of a folder.
 fn look_into<F: RuleFolder>(
     alloc: Global,
     folder: &F,
@@ -130,7 +153,7 @@ fn look_into<F: RuleFolder>(
     Ok(())
 }
 
-/// Adds an entry of a folder, if it is a folder or a parameter file.
+/// Adds an entry of a folder, if it is a folder or a file of the rule set.
 fn add_entry(
     alloc: Global,
     path: &str,
@@ -142,7 +165,7 @@ fn add_entry(
     let path = format!(in alloc; "{path}/{}", entry.name())?;
     if entry.is_folder() {
         found.deeper.push(path)?;
-    } else if is_parameter_path(path.as_str()) {
+    } else if is_rule_path(path.as_str()) {
         found.files.push(path)?;
     }
     Ok(())

@@ -1,4 +1,4 @@
-use Rattle.std.proofs.Common.{◌≡◌, ◌+◌, ◌∙◌, length, take, ap, arith, rules}
+use Rattle.std.proofs.Common.{◌≡◌, ◌+◌, length, take, ap, arith, rules}
 use Rattle.fisca_commands.specs.Folder.{Found}
 use Rattle.fisca_commands.proofs.Looks.{looked, seen_kept}
 use Rattle.fisca_commands.proofs.listing.look_into.Goals as goal

@@ -1,4 +1,4 @@
-use Rattle.std.proofs.Common.{◌≡◌, ◌≤◌, ◌<◌, ◌^◌, Some, None, take, ap, sym, ◌∙◌, rules, length, option_map, arith}
+use Rattle.std.proofs.Common.{◌≡◌, Some, None, take, ap, sym, ◌∙◌, rules, length, option_map, arith}
 use Rattle.fisca_commands.proofs.FirstFiles.{no_bytes, short_enough, told_of_bytes, too_long, unread}
 use Rattle.fisca_commands.proofs.reading.read_text.Goals as goal
 

@@ -1,4 +1,5 @@
 pub mod Forms
+pub mod Grammar
 pub mod Headings
 pub mod Lines
 pub mod Modules

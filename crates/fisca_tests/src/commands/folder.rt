@@ -71,12 +71,16 @@ fn told<F: RuleFolder>(alloc: Global, folder: &F) -> Result<String, AllocError> 
 }
 
 #[test]
-fn parameter_files_are_read_in_order_of_their_paths(rt: HostRuntime) -> Result<(), Fail> {
+fn rule_files_are_read_in_order_of_their_paths(rt: HostRuntime) -> Result<(), Fail> {
     let folder = Made {
         alloc: rt.alloc(),
         folders: &[
-            ("", &["variables/", "b.yaml", "parameters/"]),
-            ("variables", &["d.yaml"]),
+            (
+                "",
+                &["variables/", "b.yaml", "parameters/", "c.py", "entities.py"],
+            ),
+            ("variables", &["d.yaml", "b.py", "a/", "b.PY"]),
+            ("variables/a", &["z.py"]),
             (
                 "parameters",
                 &["c.yml", "b/", "b.yaml", "a.txt", "d.yaml/", "b!.yaml"],
@@ -90,11 +94,14 @@ fn parameter_files_are_read_in_order_of_their_paths(rt: HostRuntime) -> Result<(
             ("parameters/c.yml", b"3"),
             ("parameters/b/a.yml", b"4"),
             ("parameters/b/z.yaml", b"5"),
+            ("entities.py", b"6"),
+            ("variables/b.py", b"7"),
+            ("variables/a/z.py", b"8"),
         ],
     };
     assert_eq!(rt;
         told(rt.alloc(), &folder)?.as_str(),
-        "parameters/b!.yaml=2 parameters/b.yaml=1 parameters/b/a.yml=4 parameters/b/z.yaml=5 parameters/c.yml=3 "
+        "entities.py=6 parameters/b!.yaml=2 parameters/b.yaml=1 parameters/b/a.yml=4 parameters/b/z.yaml=5 parameters/c.yml=3 variables/a/z.py=8 variables/b.py=7 "
     );
     Ok(())
 }

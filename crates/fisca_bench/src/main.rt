@@ -37,6 +37,7 @@ fn main(rt: HostRuntime) -> io::Result<()> {
 fn list(rt: &impl Print) -> io::Result<()> {
     println!(rt; "fisca_bench SUBJECT WORD.. COUNT")?;
     println!(rt; "modules NAME COUNT")?;
+    println!(rt; "modules FILE")?;
     println!(rt; "numbers add|mul|cmp|text|decimal whole|hundredths|unlike COUNT")?;
     println!(rt; "params read|value_at|calc [whole|hundredths] COUNT")?;
     println!(rt; "periods read|text|offset|named|sub|compare|hash COUNT")?;

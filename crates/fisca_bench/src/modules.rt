@@ -1,13 +1,14 @@
-//! Reading of modules, which `bench/texts_modules` writes.
+//! Reading of modules, which `bench/texts_modules` and `bench/hostile` write.
 use crate::{Measured, list, show};
 use fisca_expressions::{Argument, Arguments, Expr, Slice};
 use fisca_syntax::{Assignment, Formula, Item, Member, Statement, read_module};
-use std::alloc::Global;
+use std::alloc::{AllocError, Global};
 use std::rt::{Clock, Files};
 use std::time::Instant;
 use std::{fs, io};
 
-/// `modules NAME COUNT`.
+/// `modules NAME COUNT`, or `modules FILE`, which writes a line for each of the texts in a file, between which the byte 30
+/// stands: the checksum of its module, or `!` with the line and the word of its fault.
 pub fn run(
     rt: &(impl Print + Clock + Files + Alloc),
     alloc: Global,
@@ -20,7 +21,30 @@ pub fn run(
             let count: u64 = count.as_str().parse().unwrap_or(0);
             show(rt, measure(rt, alloc, text.as_str(), count)?)
         }
+        [path] => {
+            let texts = fs::read_to_string(rt, path.as_str())?;
+            for text in texts.split('\u{1e}') {
+                let line = line_of(alloc, text)?;
+                println!(rt; "{line}")?;
+            }
+            Ok(())
+        }
         _ => list(rt),
+    }
+}
+
+/// The line of a text.
+fn line_of(alloc: Global, text: &str) -> Result<String, AllocError> {
+    match read_module(alloc, text) {
+        Ok(module) => {
+            let checksum = statements(&module.statements);
+            format!(in alloc; "{checksum}")
+        }
+        Err(fault) => {
+            let name = fault.kind.name();
+            let line = fault.line;
+            format!(in alloc; "! {line} {name}")
+        }
     }
 }
 
@@ -93,7 +117,9 @@ fn item(found: &Item<'_>) -> u64 {
 }
 
 fn formula(one: &Formula<'_>) -> u64 {
-    let start = u64::from(one.start.year()) + u64::from(one.start.month()) + u64::from(one.start.day());
+    let start = u64::from(one.start.year())
+        + u64::from(one.start.month())
+        + u64::from(one.start.day());
     let mut sum = placed(one.line, &one.signature.entity)
         .wrapping_add(start)
         .wrapping_add(length(&one.signature.period));
@@ -112,13 +138,19 @@ fn expression(expr: &Expr<'_>) -> u64 {
     match expr {
         Expr::Name(slice) | Expr::Number(slice) | Expr::Text(slice) => length(slice),
         Expr::Bracketed(_, inside) => arguments(inside).wrapping_add(1),
-        Expr::Attribute(inside, name) => expression(inside).wrapping_add(1).wrapping_add(length(name)),
+        Expr::Attribute(inside, name) => expression(inside)
+            .wrapping_add(1)
+            .wrapping_add(length(name)),
         Expr::Applied(inside, _, behind) => {
-            expression(inside).wrapping_add(1).wrapping_add(arguments(behind))
+            expression(inside)
+                .wrapping_add(1)
+                .wrapping_add(arguments(behind))
         }
         Expr::Prefixed(_, inside) => expression(inside).wrapping_add(1),
         Expr::Binary(_, left, right) | Expr::Compare(_, left, right) => {
-            expression(left).wrapping_add(1).wrapping_add(expression(right))
+            expression(left)
+                .wrapping_add(1)
+                .wrapping_add(expression(right))
         }
     }
 }

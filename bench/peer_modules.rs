@@ -205,6 +205,7 @@ fn tokens(text: &[u8]) -> Result<Vec<Token>, Fault> {
                 tab = false;
                 continue;
             }
+            b'0' if matches!(text.get(at + 1), Some(b'0'..=b'9' | b'_')) => return Err(Fault { line, kind: Kind::Syntax }),
             b'0'..=b'9' => (Class::Number, number(&text[at..])),
             b'.' if text.get(at + 1).is_some_and(u8::is_ascii_digit) => (Class::Number, number(&text[at..])),
             b'"' | b'\'' => (Class::Quoted, quoted(&text[at..]).ok_or(Fault { line, kind: Kind::Syntax })?),

@@ -15,7 +15,7 @@ use Rattle.fisca_grid.specs.declared.axes.AxesFault.TheVariants.{NoAxes}
 use Rattle.fisca_grid.specs.declared.fault.RunEnd.{RunEnd}
 use Rattle.fisca_grid.specs.declared.condition.Condition.{Condition}
 use Rattle.fisca_commands.specs.declared.refusal.Refusal.{Refusal}
-use Rattle.fisca_commands.specs.declared.refusal.Refusal.TheVariants.{Params, Axes, BadWord, BadCondition, Run, Write, Memory, TooManyFiles}
+use Rattle.fisca_commands.specs.declared.refusal.Refusal.TheVariants.{Params, Formula, Axes, BadWord, BadCondition, Run, Write, Memory, TooManyFiles}
 use Rattle.fisca_grid.specs.Condition.{condition_of, is_kept}
 use Rattle.fisca_grid.specs.Words.{axis_of}
 
@@ -90,6 +90,7 @@ is_write (Err Memory) = false
 is_write (Err Write) = false
 is_write (Err TooManyFiles) = false
 is_write (Err (Params path line fault)) = false
+is_write (Err (Formula path line kind)) = false
 
 -- what `axes` answers for these words and this condition, where a sink held `old` and then holds `new`
 abbrev pub IsAxesAnswer : List (List ℕ) → Option (List ℕ) → ℕ → Option ℕ → Option (List ℕ) → Option (List ℕ) → Result RunEnd Refusal → Type 0

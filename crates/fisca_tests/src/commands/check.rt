@@ -22,7 +22,8 @@ fn parameters_and_scales_are_counted(rt: HostRuntime) -> Result<(), Fail> {
         "1962-07-01: 18\n",
     )?)?;
     files.push(file(rt.alloc(), "parameters/index.yaml", "description: all\n")?)?;
-    files.push(file(rt.alloc(), "variables/a.py", "no YAML: at: all\n")?)?;
+    files.push(file(rt.alloc(), "variables/a.txt", "no YAML: at: all\n")?)?;
+    files.push(file(rt.alloc(), "variables/a.py", "# no YAML: at: all\n")?)?;
     let mut sink = MemorySink::new(rt.alloc());
     assert_eq!(rt;
         check_rules(rt.alloc(), files.as_slice(), &mut sink),
@@ -47,6 +48,10 @@ fn told(alloc: Global, files: &[(&str, &str)]) -> Result<String, AllocError> {
         },
         Err(Refusal::Params { path, line, fault }) => {
             let name = fault.name();
+            format!(in alloc; "{path}:{line}: {name}")
+        }
+        Err(Refusal::Formula { path, line, kind }) => {
+            let name = kind.name();
             format!(in alloc; "{path}:{line}: {name}")
         }
         Err(other) => String::from_str(alloc, other.reason()),
@@ -121,6 +126,49 @@ fn the_first_fault_in_order_of_paths_is_told(rt: HostRuntime) -> Result<(), Fail
     );
     assert_eq!(rt;
         told(alloc, &[last, other])?.as_str(),
+        "parameters/z.yaml:1: BadFlow"
+    );
+    Ok(())
+}
+
+#[test]
+fn the_first_module_that_is_refused_is_told(rt: HostRuntime) -> Result<(), Fail> {
+    let alloc = rt.alloc();
+    let people = ("entities.py", "Person = build_entity(key='person')\n");
+    let late = ("variables/b/c.py", "import x\nx = 1\n");
+    let early = (
+        "variables/a.py",
+        "class a(Variable):\n    def formula(person, period):\n        return 1 < 2 < 3\n",
+    );
+    let other = ("variables/c.txt", "x = 1\n");
+    let above = ("variable.py", "x = 1\n");
+    assert_eq!(rt;
+        told(alloc, &[people, other, above])?.as_str(),
+        "entities 0, variables 0, parameters 0\n"
+    );
+    assert_eq!(rt;
+        told(alloc, &[late, people, early])?.as_str(),
+        "variables/a.py:3: Unsupported"
+    );
+    assert_eq!(rt;
+        told(alloc, &[late, people])?.as_str(),
+        "variables/b/c.py:2: Unsupported"
+    );
+    let entities = ("entities.py", "entities = [\nPerson\n\t");
+    assert_eq!(rt;
+        told(alloc, &[early, entities])?.as_str(),
+        "entities.py:2: Syntax"
+    );
+    Ok(())
+}
+
+#[test]
+fn parameter_files_are_told_before_modules(rt: HostRuntime) -> Result<(), Fail> {
+    let alloc = rt.alloc();
+    let module = ("entities.py", "(\n");
+    let parameter = ("parameters/z.yaml", "[");
+    assert_eq!(rt;
+        told(alloc, &[module, parameter])?.as_str(),
         "parameters/z.yaml:1: BadFlow"
     );
     Ok(())

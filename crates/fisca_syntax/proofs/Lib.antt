@@ -6,3 +6,6 @@ pub mod Found
 pub mod Statements
 pub mod Declared
 pub mod Laws
+pub mod Spelled
+pub mod Complete
+pub mod Whole

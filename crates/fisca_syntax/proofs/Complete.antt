@@ -1,11 +1,11 @@
 -- What lines declare is read.
-use Rattle.std.proofs.Common.{◌≡◌, ◌≢◌, ◌<◌, ◌≤◌, ◌+◌, ℕ, zero, suc, List, [], ◌∷◌, ◌++◌, length, Bool, true, false, ◌⊎◌, inl, inr, Option, Some, None, refl, sym, ap, subst, ◌∙◌, rules, arith, append_assoc, length-append}
-use Rattle.std.specs.Prelude.{Ok, Err, if◌then◌else◌, nat_lt, Result}
+use Rattle.std.proofs.Common.{◌≡◌, ◌<◌, ◌≤◌, ℕ, zero, suc, List, [], ◌∷◌, ◌++◌, length, Bool, true, false, Option, Some, None, refl, sym, ap, subst, ◌∙◌, arith, append_assoc, length-append}
+use Rattle.std.specs.Prelude.{Ok, nat_lt}
 use Rattle.std.proofs.lemmas.Bool.{ltb-false, ltb-true}
 use Rattle.fisca_syntax.specs.Lines.{Line}
-use Rattle.fisca_syntax.specs.Reading.{Outcome, Reader, and_then, pure, next_at, deeper, put, turn, turn_by, after_turn, block, below}
+use Rattle.fisca_syntax.specs.Reading.{Reader, next_at, deeper, block, below}
 use Rattle.fisca_syntax.specs.Grammar.{IsBlock, over, more, IsBelow}
-use Rattle.fisca_syntax.proofs.Found.{Ends, sound}
+use Rattle.fisca_syntax.proofs.Found.{Ends}
 
 pub below_test : (a b : ℕ) → a < b → nat_lt a b ≡ true
 below_test a b e = by (nat_lt a b) refl where

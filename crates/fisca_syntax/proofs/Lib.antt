@@ -9,3 +9,4 @@ pub mod Laws
 pub mod Spelled
 pub mod Complete
 pub mod Whole
+pub mod Worked

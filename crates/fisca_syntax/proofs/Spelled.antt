@@ -1,6 +1,6 @@
 -- What is spelled on a line is read.
-use Rattle.std.proofs.Common.{◌≡◌, ◌≢◌, ◌<◌, ◌≤◌, ℕ, List, [], ◌∷◌, ◌++◌, length, Bool, true, false, Option, Some, None, refl, sym, ap, subst, ◌∙◌, rules, arith}
-use Rattle.std.specs.Prelude.{◌&&◌, ◌||◌, Ok, Err, if◌then◌else◌, codes}
+use Rattle.std.proofs.Common.{◌≡◌, ℕ, List, [], ◌∷◌, ◌++◌, Bool, true, false, Option, Some, None, refl, ap, subst, ◌∙◌}
+use Rattle.std.specs.Prelude.{Ok, codes}
 use Rattle.std.specs.Str.{bytes_eq}
 use Rattle.std.proofs.lemmas.Slice.Eq.{bytes_eq-Decides}
 use Rattle.fisca_tokens.specs.declared.token.Mark.TheVariants as mark
@@ -12,19 +12,16 @@ use Rattle.fisca_expressions.specs.declared.tree.Mode.TheVariants as mode
 use Rattle.fisca_expressions.specs.Marks.{same_mark}
 use Rattle.fisca_expressions.specs.Tree.{Tree}
 use Rattle.fisca_expressions.specs.Words.{is_name, is_keyword}
-use Rattle.fisca_expressions.specs.Reading.{Outcome, tail}
-use Rattle.fisca_expressions.proofs.Steps.{fine}
 use Rattle.fisca_expressions.proofs.Laws.{expression_only}
 use Rattle.fisca_syntax.specs.declared.heading.Base.{Base}
 use Rattle.fisca_syntax.specs.declared.heading.Base.TheVariants as base
 use Rattle.fisca_syntax.specs.declared.module.Signature.{Signature}
-use Rattle.fisca_syntax.specs.declared.shape.Shape.{Shape}
 use Rattle.fisca_syntax.specs.declared.shape.Shape.TheVariants as shape
-use Rattle.fisca_syntax.specs.Shapes.{is_import, shape_of}
+use Rattle.fisca_syntax.specs.Shapes.{shape_of}
 use Rattle.fisca_syntax.specs.Starts.{start_of}
 use Rattle.fisca_syntax.specs.Headings.{limit, alone, assignment, returned, labelled, base_of, class_heading, start, other_name, third_name, third, signature, definition_heading}
 use Rattle.fisca_syntax.specs.Modules.{Formula}
-use Rattle.fisca_syntax.specs.Grammar.{IsText, IsPass, IsImport, IsValue, IsAssignment, IsReturn, IsLabelled, IsClass, IsSignature, IsThird, IsDefinition, base_word, spelled_third, spelled_comma}
+use Rattle.fisca_syntax.specs.Grammar.{IsText, IsPass, IsImport, IsAssignment, IsReturn, IsLabelled, IsClass, IsSignature, IsThird, IsDefinition, base_word, spelled_third, spelled_comma}
 
 -- headings
 

@@ -1,6 +1,6 @@
 -- What statements declare is read, and so a text has one module at most.
-use Rattle.std.proofs.Common.{◌≡◌, ◌≢◌, ◌<◌, ◌≤◌, ◌+◌, ℕ, zero, suc, List, [], ◌∷◌, ◌++◌, length, Bool, true, false, ◌⊎◌, inl, inr, Option, Some, None, refl, sym, ap, subst, ◌∙◌, rules, arith, append-nil, length-append}
-use Rattle.std.specs.Prelude.{◌&&◌, Ok, Err, if◌then◌else◌, codes, Result}
+use Rattle.std.proofs.Common.{◌≡◌, ◌<◌, ◌≤◌, ℕ, zero, suc, List, [], ◌∷◌, ◌++◌, length, true, false, inl, inr, Option, Some, None, refl, sym, ap, subst, ◌∙◌, arith, append-nil, length-append}
+use Rattle.std.specs.Prelude.{Ok, codes}
 use Rattle.std.specs.Str.{bytes_eq}
 use Rattle.fisca_expressions.specs.declared.sign.Sign.{Sign}
 use Rattle.fisca_expressions.specs.declared.tree.Mode.{Mode}
@@ -11,15 +11,14 @@ use Rattle.fisca_expressions.specs.Tree.{Tree, name, number as numeral, text, br
 use Rattle.fisca_syntax.specs.declared.heading.Base.{Base}
 use Rattle.fisca_syntax.specs.declared.heading.Base.TheVariants as base
 use Rattle.fisca_syntax.specs.declared.module.Member.{Member}
-use Rattle.fisca_syntax.specs.declared.shape.Shape.{Shape}
 use Rattle.fisca_syntax.specs.declared.shape.Shape.TheVariants as shape
-use Rattle.fisca_syntax.specs.Forms.{is_entity, is_list_of_names, declared, is_week_attribute}
+use Rattle.fisca_syntax.specs.Forms.{is_entity, is_list_of_names, declared}
 use Rattle.fisca_syntax.specs.Headings.{alone, assignment, returned, labelled, class_heading, definition_heading}
 use Rattle.fisca_syntax.specs.Lines.{Line, number, told, on_line, lines, last_line}
-use Rattle.fisca_syntax.specs.Modules.{Assigned, Answer, Step, local, result, Formula, Item, attribute, formula, Statement, entity, entities, choices, variable}
-use Rattle.fisca_syntax.specs.Reading.{Outcome, Reader, and_then, pure, next_at, deeper, shape_at, assigned_in, enum_line, body_line, documented, documented_body, body, step_at, after_step, formula_at, variable_line, class_at, block, module_line, module_of}
+use Rattle.fisca_syntax.specs.Modules.{Assigned, Answer, local, result, Formula, Item, attribute, formula, Statement, entity, entities, choices, variable}
+use Rattle.fisca_syntax.specs.Reading.{Reader, deeper, shape_at, assigned_in, enum_line, body_line, documented, documented_body, body, formula_at, variable_line, class_at, block, module_line, module_of}
 use Rattle.fisca_syntax.specs.Shapes.{shape_of, is_text}
-use Rattle.fisca_syntax.specs.Grammar.{IsText, IsPass, IsAssigned, IsAssignment, IsReturn, IsLabelled, IsClass, IsDefinition, IsEnumLine, IsLocals, IsBody, IsFormula, IsVariableLine, IsModuleLine, IsModule, IsBelow}
+use Rattle.fisca_syntax.specs.Grammar.{IsPass, IsAssigned, IsAssignment, IsReturn, IsLabelled, IsClass, IsDefinition, IsEnumLine, IsLocals, IsBody, IsFormula, IsVariableLine, IsModuleLine, IsModule, IsBelow}
 use Rattle.fisca_syntax.proofs.Spelled.{assignment-read, returned-read, labelled-read, alone-read, class-read, definition-read, assigned-shape, text-shape, pass-shape, import-shape, class-shape, definition-shape, return-shape}
 use Rattle.fisca_syntax.proofs.Found.{Ends}
 use Rattle.fisca_syntax.proofs.Complete.{below_test, next-ends, next-at, Stops, Complete, ends_deeper, block-read, below-read}

@@ -1,31 +1,27 @@
 -- What is read of a text is its module.
-use Rattle.std.proofs.Common.{◌≡◌, ◌≢◌, ◌<◌, ◌≤◌, ℕ, List, [], ◌∷◌, ◌++◌, length, Bool, true, false, ◌⊎◌, inl, inr, Option, Some, None, refl, sym, ap, subst, ◌∙◌, arith, append-nil}
-use Rattle.std.specs.Prelude.{◌&&◌, Ok, Err, if◌then◌else◌, codes, Result, map}
+use Rattle.std.proofs.Common.{◌≡◌, ℕ, List, [], ◌∷◌, ◌++◌, length, Bool, true, false, inl, inr, Option, Some, None, refl, sym, ap, subst, ◌∙◌, arith, append-nil}
+use Rattle.std.specs.Prelude.{◌&&◌, Ok, Err, if◌then◌else◌, codes}
 use Rattle.std.specs.Str.{bytes_eq}
-use Rattle.fisca_tokens.specs.declared.token.Token.{Token}
-use Rattle.fisca_tokens.specs.declared.fault.FormulaFault.{FormulaFault}
 use Rattle.fisca_tokens.specs.declared.fault.Kind.TheVariants.{Unsupported}
 use Rattle.fisca_tokens.specs.Texts.{joined}
 use Rattle.fisca_tokens.specs.Tokens.{Lexed, tokens}
 use Rattle.fisca_expressions.specs.declared.sign.Sign.{Sign}
 use Rattle.fisca_expressions.specs.declared.sign.Sign.TheVariants as sign
 use Rattle.fisca_expressions.specs.declared.tree.Mode.TheVariants as mode
-use Rattle.fisca_expressions.specs.Reading.{tail}
 use Rattle.fisca_expressions.specs.Signs.{signs}
 use Rattle.fisca_expressions.proofs.Steps.{both}
 use Rattle.fisca_syntax.specs.declared.heading.Base.{Base}
 use Rattle.fisca_syntax.specs.declared.heading.Base.TheVariants as base
-use Rattle.fisca_syntax.specs.declared.module.Member.{Member}
 use Rattle.fisca_syntax.specs.declared.shape.Shape.{Shape}
 use Rattle.fisca_syntax.specs.declared.shape.Shape.TheVariants as shape
 use Rattle.fisca_syntax.specs.Forms.{is_entity, is_list_of_names, declared, is_week_attribute}
 use Rattle.fisca_syntax.specs.Headings.{alone, assignment, class_heading}
 use Rattle.fisca_syntax.specs.Lines.{Line, number, on_line, lines, last_line}
 use Rattle.fisca_syntax.specs.Modules.{Assigned, Item, attribute, formula, Statement, entity, entities, choices, variable}
-use Rattle.fisca_syntax.specs.Reading.{Outcome, Reader, and_then, pure, given, refuse, shape_at, skipped, assigned_in, below, block, enum_line, formula_at, with_unit, variable_line, variable_line_by, with_form, class_of, class_at, module_line, module_line_by, first_of, of_lines, of_joined, of_tokens, module_of}
-use Rattle.fisca_syntax.specs.Grammar.{IsText, IsAssigned, IsClass, IsBlock, IsBelow, IsEnumLine, IsVariableLine, IsModuleLine, IsModule}
+use Rattle.fisca_syntax.specs.Reading.{Outcome, pure, refuse, shape_at, skipped, assigned_in, below, block, enum_line, formula_at, with_unit, variable_line, variable_line_by, with_form, class_of, class_at, module_line, module_line_by, first_of, of_lines, of_tokens, module_of}
+use Rattle.fisca_syntax.specs.Grammar.{IsAssigned, IsClass, IsBlock, IsEnumLine, IsVariableLine, IsModuleLine, IsModule}
 use Rattle.fisca_syntax.proofs.Inverse.{class-ok, Shaped, shaped}
-use Rattle.fisca_syntax.proofs.Found.{and_then_ok, made_ok, given_ok, told_ok, Sound, Ends, block-ok, below-ok}
+use Rattle.fisca_syntax.proofs.Found.{made_ok, given_ok, told_ok, Sound, Ends, block-ok, below-ok}
 use Rattle.fisca_syntax.proofs.Statements.{Owned, passed-ok, assigned-ok, enum-ok, formula-ok}
 
 module _ (source : List ℕ) (end : ℕ) where

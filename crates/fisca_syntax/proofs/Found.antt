@@ -1,14 +1,11 @@
 -- What is read of a text's lines is declared there.
-use Rattle.std.proofs.Common.{◌≡◌, ◌≢◌, ◌<◌, ◌≤◌, ◌+◌, ℕ, zero, suc, List, [], ◌∷◌, ◌++◌, length, Bool, true, false, ◌⊎◌, inl, inr, Option, Some, None, refl, sym, ap, subst, ◌∙◌, rules, arith, append_assoc, append-nil, length-append}
-use Rattle.std.specs.Prelude.{◌&&◌, Ok, Err, if◌then◌else◌, nat_lt, codes, Result}
-use Rattle.std.specs.Str.{bytes_eq}
+use Rattle.std.proofs.Common.{◌≡◌, ◌<◌, ◌≤◌, ℕ, zero, suc, List, [], ◌∷◌, ◌++◌, length, Bool, true, false, Option, Some, None, refl, sym, ap, subst, ◌∙◌, arith, append_assoc, length-append}
+use Rattle.std.specs.Prelude.{Ok, Err, if◌then◌else◌, nat_lt, Result}
 use Rattle.std.proofs.lemmas.Bool.{ltb-false, ltb-true}
 use Rattle.fisca_tokens.specs.declared.fault.FormulaFault.{FormulaFault}
-use Rattle.fisca_tokens.specs.declared.fault.Kind.{Kind}
 use Rattle.fisca_tokens.specs.declared.fault.Kind.TheVariants.{Indent}
 use Rattle.fisca_expressions.specs.declared.sign.Sign.{Sign}
-use Rattle.fisca_expressions.specs.Reading.{Outcome as Noted, Reader as Notes}
-use Rattle.fisca_expressions.specs.Signs.{signs}
+use Rattle.fisca_expressions.specs.Reading.{Outcome as Noted}
 use Rattle.fisca_syntax.specs.Lines.{Line, number, told, fault}
 use Rattle.fisca_syntax.specs.Reading.{Outcome, Reader, and_then, pure, given, missing, next_at, deeper, put, turn, turn_by, after_turn, block, below}
 use Rattle.fisca_syntax.specs.Grammar.{IsBlock, over, more, IsBelow}

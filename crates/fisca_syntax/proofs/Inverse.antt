@@ -1,11 +1,10 @@
 -- What is read on one line is spelled so.
-use Rattle.std.proofs.Common.{◌≡◌, ◌≢◌, ◌<◌, ◌≤◌, ℕ, List, [], ◌∷◌, ◌++◌, length, Bool, true, false, ◌⊎◌, inl, inr, Option, Some, None, refl, sym, ap, subst, ◌∙◌, rules, arith}
-use Rattle.std.specs.Prelude.{◌&&◌, ◌||◌, Ok, Err, if◌then◌else◌, nat_lt, codes}
+use Rattle.std.proofs.Common.{◌≡◌, ◌≤◌, ℕ, List, [], ◌∷◌, ◌++◌, length, Bool, true, false, Option, Some, None, refl, ap, subst, ◌∙◌, arith}
+use Rattle.std.specs.Prelude.{◌||◌, Ok, if◌then◌else◌, nat_lt, codes}
 use Rattle.std.specs.Str.{bytes_eq}
 use Rattle.std.proofs.lemmas.Bool.{ltb-false}
 use Rattle.std.proofs.lemmas.Slice.Eq.{bytes_eq-Decides}
 use Rattle.fisca_tokens.specs.declared.fault.Kind.TheVariants.{Syntax, Unsupported}
-use Rattle.fisca_tokens.specs.declared.token.Mark.{Mark}
 use Rattle.fisca_tokens.specs.declared.token.Mark.TheVariants as mark
 use Rattle.fisca_time.specs.Instant.{CivilDate}
 use Rattle.fisca_expressions.specs.declared.sign.Sign.{Sign}
@@ -13,19 +12,19 @@ use Rattle.fisca_expressions.specs.declared.sign.Sign.TheVariants as sign
 use Rattle.fisca_expressions.specs.declared.tree.Mode.{Mode}
 use Rattle.fisca_expressions.specs.Tree.{Tree}
 use Rattle.fisca_expressions.specs.Words.{is_name}
-use Rattle.fisca_expressions.specs.Reading.{Outcome, Reader, and_then, pure, refuse, stop, tail, begins, word_ahead, expect, take_name}
+use Rattle.fisca_expressions.specs.Reading.{Outcome, and_then, refuse, stop, tail, begins, word_ahead, expect, take_name}
 use Rattle.fisca_expressions.specs.Views.{whole}
-use Rattle.fisca_expressions.proofs.Steps.{fine, and_then_ok, made_ok, then_ok, else_ok, chosen, begun, word-is, take_name-ok, expect-ok}
+use Rattle.fisca_expressions.proofs.Steps.{fine, and_then_ok, made_ok, then_ok, else_ok, begun, word-is, take_name-ok, expect-ok}
 use Rattle.fisca_expressions.proofs.Laws.{expression_found}
 use Rattle.fisca_syntax.specs.declared.heading.Base.{Base}
 use Rattle.fisca_syntax.specs.declared.heading.Base.TheVariants as base
 use Rattle.fisca_syntax.specs.declared.module.Signature.{Signature}
 use Rattle.fisca_syntax.specs.declared.shape.Shape.{Shape}
 use Rattle.fisca_syntax.specs.declared.shape.Shape.TheVariants as shape
-use Rattle.fisca_syntax.specs.Shapes.{is_import, begins_nothing, worded, begun_by, quoted, shape_at, shape_of}
+use Rattle.fisca_syntax.specs.Shapes.{is_import, begins_nothing, worded, begun_by, quoted, shape_of}
 use Rattle.fisca_syntax.specs.Starts.{start_of}
-use Rattle.fisca_syntax.specs.Headings.{limit, ended, alone, assignment, returned, text, text_at, labelled, bases_open, base_named, base_ahead, base_of, bases_close, class_heading, start_found, start_named, start, is_word, other_name, third_name, past_comma, third_at, third, signature, definition_heading}
-use Rattle.fisca_syntax.specs.Grammar.{IsImport, IsText, IsValue, IsAssignment, IsLabelled, IsClass, IsSignature, IsThird, base_word, spelled_third, spelled_comma}
+use Rattle.fisca_syntax.specs.Headings.{limit, ended, assignment, text, text_at, labelled, bases_open, base_named, base_ahead, base_of, bases_close, class_heading, start_found, start_named, start, is_word, other_name, third_name, past_comma, third_at, third, signature, definition_heading}
+use Rattle.fisca_syntax.specs.Grammar.{IsImport, IsText, IsAssignment, IsLabelled, IsSignature, IsThird, base_word, spelled_third, spelled_comma}
 
 none_left : (ts : List Sign) → length ts ≤ 0 → ts ≡ []
 none_left [] e = refl

@@ -6,3 +6,7 @@ pub mod Found
 pub mod Statements
 pub mod Declared
 pub mod Laws
+pub mod Spelled
+pub mod Complete
+pub mod Whole
+pub mod Worked

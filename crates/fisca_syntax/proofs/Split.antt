@@ -1,7 +1,7 @@
 -- Lines of tokens, one after another.
 use Rattle.std.proofs.Common.{◌≡◌, ℕ, suc, ◌+◌, ◌-◌, ◌≤◌, List, [], ◌∷◌, ◌++◌, length, take, drop, get_or, refl, sym, ap, ◌∙◌, append_assoc, arith, length-drop}
 use Rattle.std.proofs.Math.Seq.{take-length}
-use Rattle.std.specs.Prelude.{Option, Some, None, is_none, Bool, true, false, cond}
+use Rattle.std.specs.Prelude.{Option, Some, None, is_none, cond}
 use Rattle.fisca_tokens.specs.declared.token.Token.{Token}
 use Rattle.fisca_syntax.specs.Lines.{Line, lines, line_by, within_len}
 

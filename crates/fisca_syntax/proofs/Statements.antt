@@ -1,7 +1,6 @@
 -- What is read of a statement's lines is declared there.
-use Rattle.std.proofs.Common.{◌≡◌, ◌≢◌, ◌<◌, ◌≤◌, ℕ, zero, suc, List, [], ◌∷◌, ◌++◌, length, Bool, true, false, ◌⊎◌, inl, inr, Option, Some, None, refl, sym, ap, subst, ◌∙◌, rules, arith, append_assoc, append-nil, length-append}
-use Rattle.std.specs.Prelude.{◌&&◌, Ok, Err, if◌then◌else◌, codes, Result}
-use Rattle.fisca_tokens.specs.declared.fault.FormulaFault.{FormulaFault}
+use Rattle.std.proofs.Common.{◌≡◌, ℕ, zero, suc, List, [], ◌∷◌, ◌++◌, length, Bool, true, false, inl, inr, Option, Some, None, refl, sym, ap, subst, ◌∙◌}
+use Rattle.std.specs.Prelude.{Ok, if◌then◌else◌, codes}
 use Rattle.fisca_expressions.specs.declared.sign.Sign.{Sign}
 use Rattle.fisca_expressions.specs.declared.sign.Sign.TheVariants as sign
 use Rattle.fisca_expressions.specs.declared.tree.Mode.{Mode}
@@ -9,7 +8,6 @@ use Rattle.fisca_expressions.specs.declared.tree.Mode.TheVariants as mode
 use Rattle.fisca_expressions.specs.Reading.{tail}
 use Rattle.fisca_expressions.specs.Signs.{signs}
 use Rattle.fisca_expressions.specs.Tree.{Tree}
-use Rattle.fisca_expressions.specs.Views.{whole}
 use Rattle.fisca_expressions.proofs.Laws.{expression_found}
 use Rattle.fisca_syntax.specs.declared.module.Member.{Member}
 use Rattle.fisca_time.specs.Instant.{CivilDate}
@@ -20,10 +18,10 @@ use Rattle.fisca_syntax.specs.declared.shape.Shape.TheVariants as shape
 use Rattle.fisca_syntax.specs.Headings.{limit, alone, assignment, returned, labelled, definition_heading}
 use Rattle.fisca_syntax.specs.Lines.{Line, number, on_line}
 use Rattle.fisca_syntax.specs.Modules.{Assigned, Answer, Step, local, result, Formula}
-use Rattle.fisca_syntax.specs.Reading.{Outcome, Reader, and_then, pure, given, next_at, shape_at, skipped, assigned_in, ended_by, enum_line, enum_line_by, body_line, body_line_by, deeper, documented, documented_body, after_step, step_by, step_at, body, formula_at}
+use Rattle.fisca_syntax.specs.Reading.{and_then, pure, next_at, shape_at, skipped, assigned_in, ended_by, enum_line, enum_line_by, body_line, body_line_by, deeper, documented, documented_body, after_step, step_by, step_at, body, formula_at}
 use Rattle.fisca_syntax.specs.Grammar.{IsText, IsPass, IsAssigned, IsAssignment, IsReturn, IsLabelled, IsEnumLine, IsLocals, IsBody, IsFormula, IsDefinition}
 use Rattle.fisca_syntax.proofs.Inverse.{ended-ok, assignment-ok, labelled-ok, definition-ok, Shaped, shaped}
-use Rattle.fisca_syntax.proofs.Found.{and_then_ok, made_ok, given_ok, IsNext, deeper-ok, told_ok, next-ok, Sound, Ends}
+use Rattle.fisca_syntax.proofs.Found.{and_then_ok, made_ok, given_ok, IsNext, deeper-ok, told_ok, next-ok, Sound}
 
 module _ (source : List ℕ) where
   abbrev On : Line → List Sign

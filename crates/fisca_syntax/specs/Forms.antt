@@ -1,12 +1,12 @@
 -- Forms of values.
-use Rattle.std.specs.Prelude.{ℕ, List, [], ◌∷◌, Bool, true, false, ◌||◌, ◌&&◌, if◌then◌else◌, Option, Some, None, codes}
+use Rattle.std.specs.Prelude.{ℕ, List, Bool, true, false, ◌||◌, ◌&&◌, if◌then◌else◌, Option, Some, None, codes}
 use Rattle.std.specs.Str.{bytes_eq}
 use Rattle.fisca_expressions.specs.declared.tree.Bracket.{Bracket}
 use Rattle.fisca_expressions.specs.declared.tree.Bracket.TheVariants as bracket
 use Rattle.fisca_expressions.specs.declared.tree.Suffix.{Suffix}
 use Rattle.fisca_expressions.specs.declared.tree.Suffix.TheVariants as suffix
 use Rattle.fisca_expressions.specs.Words.{is_name}
-use Rattle.fisca_expressions.specs.Tree.{Tree, Series, Argument, name, number, text, bracketed, attribute, applied, prefixed, binary, compare, nothing, last, next, positional, keyword, entry}
+use Rattle.fisca_expressions.specs.Tree.{Tree, Series, Argument, name, bracketed, attribute, applied, nothing, last, next, positional}
 use Rattle.fisca_syntax.specs.Modules.{Assigned, Statement, entity, entities}
 
 -- this name and nothing else

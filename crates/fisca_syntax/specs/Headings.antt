@@ -1,7 +1,6 @@
 -- What stands on one line, from left to right.
-use Rattle.std.specs.Prelude.{ℕ, List, [], ◌∷◌, length, Bool, true, false, ◌&&◌, ◌||◌, nat_lt, if◌then◌else◌, Option, Some, None, Result, Ok, Err, codes}
+use Rattle.std.specs.Prelude.{ℕ, List, [], ◌∷◌, length, Bool, false, ◌||◌, nat_lt, if◌then◌else◌, Option, Some, None, Ok, codes}
 use Rattle.std.specs.Str.{bytes_eq}
-use Rattle.fisca_tokens.specs.declared.fault.Kind.{Kind}
 use Rattle.fisca_tokens.specs.declared.fault.Kind.TheVariants.{Syntax, Unsupported}
 use Rattle.fisca_tokens.specs.declared.token.Mark.TheVariants as mark
 use Rattle.fisca_time.specs.Instant.{CivilDate}

@@ -1,5 +1,5 @@
 -- The lines of a list of tokens.
-use Rattle.std.specs.Prelude.{ℕ, List, [], ◌∷◌, length, take, is_none, Bool, true, false, if◌then◌else◌, Option, Some, None, Result, Ok, Err}
+use Rattle.std.specs.Prelude.{ℕ, List, [], ◌∷◌, length, take, is_none, Option, Some, None, Result, Ok, Err}
 use Rattle.fisca_tokens.specs.declared.fault.Kind.{Kind}
 use Rattle.fisca_tokens.specs.declared.fault.Kind.TheVariants as kind
 use Rattle.fisca_tokens.specs.declared.fault.FormulaFault.{FormulaFault}

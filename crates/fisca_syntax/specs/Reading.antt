@@ -6,15 +6,12 @@ use Rattle.fisca_tokens.specs.declared.fault.FormulaFault.{FormulaFault}
 use Rattle.fisca_tokens.specs.declared.token.Token.{Token}
 use Rattle.fisca_tokens.specs.Texts.{joined}
 use Rattle.fisca_tokens.specs.Tokens.{Lexed, tokens}
-use Rattle.fisca_time.specs.Instant.{CivilDate}
 use Rattle.fisca_expressions.specs.declared.tree.Mode.TheVariants as mode
 use Rattle.fisca_expressions.specs.Tree.{Tree}
 use Rattle.fisca_expressions.specs.Signs.{signs}
-use Rattle.fisca_expressions.specs.Views.{line_in}
 use Rattle.fisca_syntax.specs.declared.heading.Base.{Base}
 use Rattle.fisca_syntax.specs.declared.heading.Base.TheVariants as base
 use Rattle.fisca_syntax.specs.declared.module.Member.{Member}
-use Rattle.fisca_syntax.specs.declared.module.Signature.{Signature}
 use Rattle.fisca_syntax.specs.declared.shape.Shape.{Shape}
 use Rattle.fisca_syntax.specs.declared.shape.Shape.TheVariants as shape
 use Rattle.fisca_syntax.specs.Headings.{alone, assignment, returned, labelled, class_heading, definition_heading}

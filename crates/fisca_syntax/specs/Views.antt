@@ -1,5 +1,7 @@
 -- What the types of the reader stand for.
-use Rattle.std.specs.Prelude.{List, map}
+use Rattle.std.specs.Prelude.{◌≡◌, ◌≢◌, List, map, Result, Ok, Err}
+use Rattle.fisca_tokens.specs.declared.fault.FormulaFault.{FormulaFault}
+use Rattle.fisca_tokens.specs.declared.fault.Kind.TheVariants.{Memory}
 use Rattle.fisca_expressions.specs.Views.{tree}
 use Rattle.fisca_syntax.specs.declared.module.Assignment.{Assignment}
 use Rattle.fisca_syntax.specs.declared.module.Returned.{Returned}
@@ -38,3 +40,8 @@ statement (declaration.Variable c) = variable c.line c.name (map item c.items.it
 
 abbrev pub statements : Module → List Statement
 statements m = map statement m.statements.items
+
+-- these statements were found, unless memory ran out
+abbrev pub Finds : List Statement → Result Module FormulaFault → Type 0
+Finds ss (Ok m) = statements m ≡ ss
+Finds ss (Err f) = ¬ (f.kind ≢ Memory)

@@ -1,8 +1,9 @@
-ghost use Rattle.std.specs.Prelude.{IfOk};
+ghost use Rattle.std.specs.Prelude.{List, IfOk};
 ghost use Rattle.fisca_syntax.specs.Grammar.{IsModule};
+ghost use Rattle.fisca_syntax.specs.Modules.{Statement};
 ghost use Rattle.fisca_syntax.specs.Reading as spec;
 ghost use Rattle.fisca_syntax.specs.Reading.{Tells};
-ghost use Rattle.fisca_syntax.specs.Views.{statements};
+ghost use Rattle.fisca_syntax.specs.Views.{statements, Finds};
 
 use crate::declarations::read_statements;
 use crate::line::{last_line, lines};
@@ -45,10 +46,12 @@ fn read_text<'a>(alloc: Global, text: &'a str) -> Result<Module<'a>, FormulaFaul
 /// one, for a body or a `return` that is missing; and the faults of expressions (`read_expression` has their list), which are
 /// read up to height 120: `TooDeep` is told of the line on which the statement begins. `Memory`, at line 0, comes only where a
 /// growth was refused.
-#[tactic(auto, using(crate::proofs::Laws::text_found))]
+#[tactic(auto, using(crate::proofs::Laws::text_found, crate::proofs::Laws::text_only))]
 pub fn read_module<'a>(alloc: Global, text: &'a str) -> Result<Module<'a>, FormulaFault>
     // What is read is declared there.
     ensures found { IfOk result (λ m. IsModule text.now (statements m)) }
+    // What is declared there is read, unless memory runs out.
+    ensures only { (ss : List Statement) → IsModule text.now ss → Finds ss result }
     // It is this module, or else the fault is the first one, with its line.
     ensures told { Tells statements (spec.module_of text.now) result }
 {

@@ -1,8 +1,6 @@
-use Rattle.std.proofs.Common.{◌≡◌, ◌+◌, ◌-◌, List, [], ◌∷◌, ◌++◌, ap, ◌∙◌, sym, arith, Ok, Err}
-use Rattle.std.specs.Prelude.{map, Option, option_map}
-use Rattle.std.specs.Option.{option_to_list}
+use Rattle.std.proofs.Common.{◌-◌, ap, ◌∙◌, sym, arith, Ok, Err}
+use Rattle.std.specs.Prelude.{map}
 use Rattle.std.proofs.lemmas.Result.{err_from_is_err_and}
-use Rattle.fisca_syntax.specs.Modules.{Step}
 use Rattle.fisca_syntax.specs.Views.{assigned, answer, step}
 use Rattle.fisca_syntax.proofs.Turns.{body_fails, body_ends, body_goes, body_stops, pushed}
 use Rattle.fisca_syntax.proofs.bodies.read_body.Goals as goal

@@ -1,6 +1,5 @@
-use Rattle.std.proofs.Common.{◌≡◌, ◌+◌, ◌-◌, List, [], ◌∷◌, ◌++◌, ap, ◌∙◌, sym, arith, Ok}
-use Rattle.std.specs.Prelude.{map, Option, option_map}
-use Rattle.std.specs.Option.{option_to_list}
+use Rattle.std.proofs.Common.{◌-◌, ap, ◌∙◌, arith, Ok}
+use Rattle.std.specs.Prelude.{map, option_map}
 use Rattle.std.proofs.lemmas.Result.{err_from_is_err_and}
 use Rattle.fisca_syntax.specs.Views.{item}
 use Rattle.fisca_syntax.specs.Reading.{variable_line}

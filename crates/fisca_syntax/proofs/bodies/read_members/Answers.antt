@@ -1,4 +1,4 @@
-use Rattle.std.proofs.Common.{◌≡◌, ◌+◌, ◌-◌, ap, ◌∙◌, arith, Ok}
+use Rattle.std.proofs.Common.{◌-◌, ap, ◌∙◌, arith, Ok}
 use Rattle.std.proofs.lemmas.Result.{err_from_is_err_and}
 use Rattle.fisca_syntax.specs.Reading.{enum_line}
 use Rattle.fisca_syntax.proofs.Turns.{fails, ends, goes, stops}

@@ -1,4 +1,4 @@
-use Rattle.std.proofs.Common.{◌≡◌, ◌∙◌, ap}
+use Rattle.std.proofs.Common.{◌∙◌, ap}
 use Rattle.std.specs.List.{list_all}
 use Rattle.fisca_expressions.specs.Views.{argument_view}
 use Rattle.fisca_syntax.specs.Forms.{is_any_name}

@@ -150,7 +150,7 @@ fn indentations_that_are_not_open_are_refused(rt: HostRuntime) {
 }
 
 /// The second of two equal keys, before what stands behind it.
-const KEYS: [(&str, usize); 16] = [
+const KEYS: [(&str, usize); 17] = [
     ("a: 1\nb: 2\na: 3", 3),
     ("a: 1\n'a' : [", 2),
     ("a: 1\na: 2\nb: \"x", 2),
@@ -168,6 +168,7 @@ const KEYS: [(&str, usize); 16] = [
     ("{a: 1, a: 2, &b: 3}", 1),
     ("a: 1\na: 2\nb", 2),
     ("a: 1\na: 2\n\"\": 3", 2),
+    ("a: 1\na: 2\n: 3", 2),
     ("  a: 1\n  a: 2\n b: 3", 2),
     ("a: 1\nb: 2\na: 3\n  c: 4", 3),
 ];

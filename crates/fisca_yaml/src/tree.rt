@@ -1,3 +1,5 @@
+//! What a text means.
+
 ghost use Rattle.std.specs.Prelude.{◌≡◌, string_bytes, option_map, Some, OnOk, IfErr, true, OnErr};
 ghost use Rattle.fisca_yaml.specs.Node.{scalar};
 ghost use Rattle.fisca_yaml.specs.Scalars.{leaf};

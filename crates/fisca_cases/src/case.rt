@@ -1,6 +1,7 @@
 //! A case as it stands on the lines of the input.
 
 use crate::words::Words;
+use crate::written::Written;
 use std::alloc::{AllocError, Global};
 
 /// A case: its first line, and the text below it.
@@ -18,7 +19,9 @@ impl Case {
 
     /// Whether a line belongs to the text of the case, which then has it.
     pub fn takes(&mut self, alloc: Global, line: &str) -> Result<bool, AllocError> {
-        let Some(inner) = line.strip_prefix("  ") else { return Ok(false) };
+        let Some(inner) = line.strip_prefix("  ") else {
+            return Ok(false)
+        };
         let mut text = match self.text.take() {
             Some(text) => text,
             None => String::new(alloc),
@@ -43,38 +46,47 @@ impl Case {
     }
 
     /// The case as it stands and its answer: behind it where both have one line, else below.
-    pub fn shown(&self, answer: &str) -> Result<String, AllocError> {
-        let mut shown = self.line.clone()?;
+    pub fn shown(&self, alloc: Global, answer: &str) -> Result<String, AllocError> {
+        let mut shown = Written::new(alloc);
+        shown.push(self.line.as_str());
         match &self.text {
-            None if !answer.contains('\n') => shown.push_str(" =>")?,
-            None => shown.push_str("\n=>")?,
+            None => shown.push(if answer.contains('\n') { "\n=>" } else { " =>" }),
             Some(text) => {
-                push_text(&mut shown, text.as_str())?;
-                shown.push_str("\n=>")?;
+                push_text(&mut shown, text.as_str());
+                shown.push("\n=>");
             }
         }
-        push_answer(&mut shown, answer)?;
-        Ok(shown)
+        push_answer(&mut shown, answer);
+        shown.finish()
     }
 }
 
 /// Appends the lines of a text, each behind two blanks.
-fn push_text(shown: &mut String, text: &str) -> Result<(), AllocError> {
+fn push_text(shown: &mut Written, text: &str) {
     for line in text.lines() {
-        shown.push_str("\n  ")?;
-        shown.push_str(line)?;
+        shown.push("\n  ");
+        shown.push(line);
     }
-    Ok(())
 }
 
 /// Appends the lines of an answer, each below the first one.
-fn push_answer(shown: &mut String, answer: &str) -> Result<(), AllocError> {
+fn push_answer(shown: &mut Written, answer: &str) {
     let mut is_first = true;
     for line in answer.split('\n') {
-        shown.push_str(if is_first { "" } else { "\n  " })?;
-        shown.push_str(if line.is_empty() { "" } else { " " })?;
-        shown.push_str(line)?;
+        shown.push(if is_first { "" } else { "\n  " });
+        shown.push(if line.is_empty() { "" } else { " " });
+        push_line(shown, line);
         is_first = false;
     }
-    Ok(())
+}
+
+/// Appends a line, with a carriage return at its end as an escape.
+fn push_line(shown: &mut Written, line: &str) {
+    match line.strip_suffix('\r') {
+        None => shown.push(line),
+        Some(rest) => {
+            shown.push(rest);
+            shown.push("\\r");
+        }
+    }
 }

@@ -72,7 +72,14 @@ fn limit(word: &str) -> Result<Option<u64>, Fault> {
 /// What is written, and the end of the run or the refusal.
 fn axes(alloc: Global, asked: &Asked<'_>) -> Result<String, Fault> {
     let mut sink = MemorySink::new(alloc);
-    let end = match axes_words(alloc, asked.words, asked.keep, asked.from, asked.rows, &mut sink) {
+    let end = match axes_words(
+        alloc,
+        asked.words,
+        asked.keep,
+        asked.from,
+        asked.rows,
+        &mut sink,
+    ) {
         Ok(RunEnd::End) => String::from_str(alloc, "end")?,
         Ok(RunEnd::More(position)) => format!(in alloc; "more {position}")?,
         Err(refusal) => Fault::Refused(refusal).told(alloc)?,

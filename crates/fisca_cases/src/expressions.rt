@@ -2,12 +2,13 @@
 
 use crate::fault::Fault;
 use crate::words::one;
+use crate::written::Written;
 use fisca_expressions::{
     Argument, Arguments, Bracket, Comparison, Expr, Mode, Operator, Prefix, Slice, Suffix,
     read_expression,
 };
 use fisca_tokens::{join_texts, tokens};
-use std::alloc::{AllocError, Global};
+use std::alloc::Global;
 
 /// How high an expression may be.
 const HEIGHT: usize = 120;
@@ -25,89 +26,87 @@ fn read(alloc: Global, source: &str, mode: Mode) -> Result<String, Fault> {
     let pieces = tokens(alloc, source)?;
     let found = join_texts(alloc, &pieces)?;
     let expr = read_expression(alloc, source, &found, mode, HEIGHT)?;
-    let mut shown = String::new(alloc);
-    show(&mut shown, &expr)?;
-    Ok(shown)
+    let mut shown = Written::new(alloc);
+    show(&mut shown, &expr);
+    Ok(shown.finish()?)
 }
 
 /// Appends an expression with each operation in parentheses, and a letter before brackets that begin one.
 #[cycle(show)]
-fn show(shown: &mut String, expr: &Expr<'_>) -> Result<(), AllocError> {
+fn show(shown: &mut Written, expr: &Expr<'_>) {
     match expr {
         Expr::Name(word) | Expr::Number(word) | Expr::Text(word) => push(shown, word),
         Expr::Bracketed(bracket, inside) => {
-            shown.push_str(beginning(*bracket))?;
-            show_arguments(shown, inside)?;
-            shown.push_str(">")
+            shown.push(beginning(*bracket));
+            show_arguments(shown, inside);
+            shown.push(">");
         }
         Expr::Attribute(value, name) => {
-            show(shown, value)?;
-            shown.push_str(".")?;
-            push(shown, name)
+            show(shown, value);
+            shown.push(".");
+            push(shown, name);
         }
         Expr::Applied(value, suffix, inside) => {
-            show(shown, value)?;
-            shown.push_str(opening(*suffix))?;
-            show_arguments(shown, inside)?;
-            shown.push_str(closing(*suffix))
+            show(shown, value);
+            shown.push(opening(*suffix));
+            show_arguments(shown, inside);
+            shown.push(closing(*suffix));
         }
         Expr::Prefixed(prefix, value) => {
-            shown.push_str(prefix_name(*prefix))?;
-            show(shown, value)
+            shown.push(prefix_name(*prefix));
+            show(shown, value);
         }
         Expr::Binary(operator, left, right) => {
-            shown.push_str("(")?;
-            show(shown, left)?;
-            shown.push_str(operator_name(*operator))?;
-            show(shown, right)?;
-            shown.push_str(")")
+            shown.push("(");
+            show(shown, left);
+            shown.push(operator_name(*operator));
+            show(shown, right);
+            shown.push(")");
         }
         Expr::Compare(comparison, left, right) => {
-            shown.push_str("(")?;
-            show(shown, left)?;
-            shown.push_str(comparison_name(*comparison))?;
-            show(shown, right)?;
-            shown.push_str(")")
+            shown.push("(");
+            show(shown, left);
+            shown.push(comparison_name(*comparison));
+            show(shown, right);
+            shown.push(")");
         }
     }
 }
 
 #[cycle(show)]
-fn show_arguments(
-    shown: &mut String,
-    inside: &Arguments<'_>,
-) -> Result<(), AllocError> {
+fn show_arguments(shown: &mut Written, inside: &Arguments<'_>) {
     let mut is_first = true;
     for argument in &inside.items {
-        shown.push_str(if is_first { "" } else { " " })?;
-        show_argument(shown, argument)?;
+        shown.push(if is_first { "" } else { " " });
+        show_argument(shown, argument);
         is_first = false;
     }
-    shown.push_str(if inside.comma && !inside.items.is_empty() { "," } else { "" })
+    shown.push(if inside.comma && !inside.items.is_empty() {
+        ","
+    } else {
+        ""
+    });
 }
 
 #[cycle(show)]
-fn show_argument(
-    shown: &mut String,
-    argument: &Argument<'_>,
-) -> Result<(), AllocError> {
+fn show_argument(shown: &mut Written, argument: &Argument<'_>) {
     match argument {
         Argument::Positional(value) => show(shown, value),
         Argument::Keyword(key, value) => {
-            push(shown, key)?;
-            shown.push_str("=")?;
-            show(shown, value)
+            push(shown, key);
+            shown.push("=");
+            show(shown, value);
         }
         Argument::Entry(key, value) => {
-            show(shown, key)?;
-            shown.push_str(":")?;
-            show(shown, value)
+            show(shown, key);
+            shown.push(":");
+            show(shown, value);
         }
     }
 }
 
-fn push(shown: &mut String, slice: &Slice<'_>) -> Result<(), AllocError> {
-    shown.push_str(str::from_utf8(slice.as_bytes()).unwrap_or("?"))
+fn push(shown: &mut Written, slice: &Slice<'_>) {
+    shown.push(str::from_utf8(slice.as_bytes()).unwrap_or("?"));
 }
 
 fn beginning(bracket: Bracket) -> &'static str {

@@ -96,10 +96,8 @@ fn told_param(alloc: Global, fault: ParamFault) -> Result<String, AllocError> {
         | ParamFault::DuplicateName { file, line } => {
             format!(in alloc; "fault {number} {fault}, file {file}, line {line}")
         }
-        ParamFault::BadScale
-        | ParamFault::Undefined
-        | ParamFault::Number(_)
-        | ParamFault::Memory => format!(in alloc; "fault {number} {fault}"),
+        ParamFault::BadScale | ParamFault::Undefined | ParamFault::Number(_) | ParamFault::Memory =>
+            format!(in alloc; "fault {number} {fault}"),
     }
 }
 

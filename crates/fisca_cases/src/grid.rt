@@ -1,10 +1,11 @@
 //! Axes: their limits, values and positions.
 
 use crate::fault::Fault;
-use crate::words::number;
+use crate::words::{number, one, two};
+use crate::written::Written;
 use fisca_grid::{Axes, AxesFault, AxisSpec, GridCursor};
 use fisca_num::Fraction;
-use std::alloc::{AllocError, Global};
+use std::alloc::Global;
 use std::cmp::Ordering;
 
 pub fn answer(alloc: Global, operation: &str, words: &[String]) -> Result<String, Fault> {
@@ -13,16 +14,20 @@ pub fn answer(alloc: Global, operation: &str, words: &[String]) -> Result<String
         "empty_group" => size(alloc, Axes::build(alloc, &[], &[0])),
         _ => match words {
             [min, max, count, rest @ ..] => {
-                let spec = AxisSpec {
-                    count: number(count.as_str())?,
-                    min: Fraction::from_decimal(min.as_str())?,
-                    max: Fraction::from_decimal(max.as_str())?,
-                };
+                let spec = axis(min.as_str(), max.as_str(), count.as_str())?;
                 of_axis(alloc, operation, spec, rest)
             }
             _ => Err(Fault::Malformed),
         },
     }
+}
+
+fn axis(min: &str, max: &str, count: &str) -> Result<AxisSpec, Fault> {
+    Ok(AxisSpec {
+        count: number(count)?,
+        min: Fraction::from_decimal(min)?,
+        max: Fraction::from_decimal(max)?,
+    })
 }
 
 /// What is asked of an axis.
@@ -32,13 +37,11 @@ fn of_axis(
     spec: AxisSpec,
     words: &[String],
 ) -> Result<String, Fault> {
-    match (operation, words) {
-        ("size", []) => size(alloc, Axes::build(alloc, &[spec], &[1])),
-        ("step", [position]) => step(alloc, spec, number(position.as_str())?),
-        ("compare", [position, with]) => {
-            compare(alloc, spec, number(position.as_str())?, with.as_str())
-        }
-        ("cursor", [from]) => cursor(alloc, spec, number(from.as_str())?),
+    match operation {
+        "size" => size(alloc, Axes::build(alloc, &[spec], &[1])),
+        "step" => step(alloc, spec, words),
+        "compare" => compare(alloc, spec, words),
+        "cursor" => cursor(alloc, spec, words),
         _ => Err(Fault::Malformed),
     }
 }
@@ -49,7 +52,8 @@ fn size(alloc: Global, axes: Result<Axes, AxesFault>) -> Result<String, Fault> {
 }
 
 /// The value at a position.
-fn step(alloc: Global, spec: AxisSpec, position: u64) -> Result<String, Fault> {
+fn step(alloc: Global, spec: AxisSpec, words: &[String]) -> Result<String, Fault> {
+    let position = number(one(words)?)?;
     let axes = Axes::build(alloc, &[spec], &[1])?;
     if position >= axes.size() {
         return Err(Fault::Malformed);
@@ -58,17 +62,15 @@ fn step(alloc: Global, spec: AxisSpec, position: u64) -> Result<String, Fault> {
 }
 
 /// How the value at a position stands to a number.
-fn compare(
-    alloc: Global,
-    spec: AxisSpec,
-    position: u64,
-    with: &str,
-) -> Result<String, Fault> {
+fn compare(alloc: Global, spec: AxisSpec, words: &[String]) -> Result<String, Fault> {
+    let (position, with) = two(words)?;
+    let position = number(position)?;
+    let with = Fraction::from_decimal(with)?;
     let axes = Axes::build(alloc, &[spec], &[1])?;
     if position >= axes.size() {
         return Err(Fault::Malformed);
     }
-    let order = match axes.compare(0, position, Fraction::from_decimal(with)?) {
+    let order = match axes.compare(0, position, with) {
         Ordering::Less => "less",
         Ordering::Equal => "equal",
         Ordering::Greater => "greater",
@@ -77,24 +79,27 @@ fn compare(
 }
 
 /// How many positions are left from a start on, which, what two further calls give, and how many are left then.
-fn cursor(alloc: Global, spec: AxisSpec, from: u64) -> Result<String, Fault> {
+fn cursor(alloc: Global, spec: AxisSpec, words: &[String]) -> Result<String, Fault> {
+    let from = number(one(words)?)?;
     let axes = Axes::build(alloc, &[spec], &[1])?;
     let mut cursor = GridCursor::new(&axes, from);
     let count = cursor.remaining();
-    let mut shown = format!(in alloc; "{count} left:")?;
-    for _ in 0..count.saturating_add(2) {
-        push_position(alloc, &mut shown, cursor.next())?;
+    let mut shown = Written::new(alloc);
+    shown.push_number(count);
+    shown.push(" left:");
+    for _call in 0..count.saturating_add(2) {
+        push_position(&mut shown, cursor.next());
     }
-    let rest = cursor.remaining();
-    Ok(format!(in alloc; "{shown}; {rest} left")?)
+    shown.push("; ");
+    shown.push_number(cursor.remaining());
+    shown.push(" left");
+    Ok(shown.finish()?)
 }
 
-fn push_position(alloc: Global, shown: &mut String, found: Option<u64>) -> Result<(), AllocError> {
+fn push_position(shown: &mut Written, found: Option<u64>) {
+    shown.push(" ");
     match found {
-        Some(position) => {
-            let piece = format!(in alloc; " {position}")?;
-            shown.push_str(piece.as_str())
-        }
-        None => shown.push_str(" none"),
+        Some(position) => shown.push_number(position),
+        None => shown.push("none"),
     }
 }

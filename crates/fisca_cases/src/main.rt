@@ -13,10 +13,10 @@ mod fault;
 mod grid;
 mod num;
 mod params;
-mod show;
 mod time;
 mod tokens;
 mod words;
+mod written;
 mod yaml;
 
 use case::Case;
@@ -62,16 +62,12 @@ fn close(rt: &HostRuntime, files: &mut Vec<SourceFile>, open: Option<Case>) -> i
         Ok(answer) => answer,
         Err(fault) => fault.told(rt.alloc())?,
     };
-    let shown = case.shown(answer.as_str())?;
+    let shown = case.shown(rt.alloc(), answer.as_str())?;
     println!(rt; "{shown}")
 }
 
 /// What the call of a case answers.
-fn answer(
-    alloc: Global,
-    files: &mut Vec<SourceFile>,
-    words: &[String],
-) -> Result<String, Fault> {
+fn answer(alloc: Global, files: &mut Vec<SourceFile>, words: &[String]) -> Result<String, Fault> {
     match words {
         [] => Err(Fault::Malformed),
         [first, rest @ ..] => match first.as_str() {
@@ -89,11 +85,7 @@ fn begin(alloc: Global, files: &mut Vec<SourceFile>) -> Result<String, Fault> {
 }
 
 /// Adds the file `PATH TEXT` to the rule set, and answers its place.
-fn add(
-    alloc: Global,
-    files: &mut Vec<SourceFile>,
-    words: &[String],
-) -> Result<String, Fault> {
+fn add(alloc: Global, files: &mut Vec<SourceFile>, words: &[String]) -> Result<String, Fault> {
     let (path, text) = words::two(words)?;
     let place = files.len();
     let path = String::from_str(alloc, path)?;

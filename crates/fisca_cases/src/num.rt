@@ -8,13 +8,13 @@ use std::cmp::Ordering;
 
 pub fn answer(alloc: Global, operation: &str, words: &[String]) -> Result<String, Fault> {
     match operation {
-        "read" => shown(alloc, Fraction::from_decimal(one(words)?)?),
-        "new" => shown(alloc, fraction(one(words)?)?),
+        "read" => read(alloc, words),
+        "new" => new(alloc, words),
         "add" => add(alloc, words),
         "sub" => sub(alloc, words),
         "mul" => mul(alloc, words),
         "div" => div(alloc, words),
-        "neg" => shown(alloc, fraction(one(words)?)?.neg()),
+        "neg" => neg(alloc, words),
         "trunc" => trunc(alloc, words),
         "write" => write(alloc, words),
         "order" => order(alloc, words),
@@ -33,6 +33,18 @@ pub fn fraction(word: &str) -> Result<Fraction, Fault> {
         None => (word, "1"),
     };
     Ok(Fraction::new(number(numerator)?, number(denominator)?)?)
+}
+
+fn read(alloc: Global, words: &[String]) -> Result<String, Fault> {
+    shown(alloc, Fraction::from_decimal(one(words)?)?)
+}
+
+fn new(alloc: Global, words: &[String]) -> Result<String, Fault> {
+    shown(alloc, fraction(one(words)?)?)
+}
+
+fn neg(alloc: Global, words: &[String]) -> Result<String, Fault> {
+    shown(alloc, fraction(one(words)?)?.neg())
 }
 
 fn add(alloc: Global, words: &[String]) -> Result<String, Fault> {

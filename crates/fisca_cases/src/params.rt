@@ -48,7 +48,9 @@ fn no_node(alloc: Global) -> Result<String, Fault> {
 fn at(alloc: Global, tree: &ParamTree, words: &[String]) -> Result<String, Fault> {
     let (path, date) = two(words)?;
     let day = Instant::read(date)?;
-    let Some(node) = find(tree, path) else { return no_node(alloc) };
+    let Some(node) = find(tree, path) else {
+        return no_node(alloc)
+    };
     let kind = tree.kind(node);
     let value = shown(alloc, &tree.value_at(node, day))?;
     Ok(format!(in alloc; "{kind:?}, {value}")?)
@@ -67,7 +69,9 @@ fn sum(alloc: Global, tree: &ParamTree, words: &[String]) -> Result<String, Faul
     let (path, date, base) = three(words)?;
     let day = Instant::read(date)?;
     let base = fraction(base)?;
-    let Some(node) = find(tree, path) else { return no_node(alloc) };
+    let Some(node) = find(tree, path) else {
+        return no_node(alloc)
+    };
     match tree.kind(node) {
         NodeKind::Scale => Ok(tree.calc(node, day, base)?.text(alloc)?),
         _ => Ok(String::from_str(alloc, "no scale")?),

@@ -1,23 +1,23 @@
 //! Instants and periods.
 
 use crate::fault::Fault;
-use crate::show::optional;
 use crate::words::{number, one, three, two};
+use crate::written::Written;
 use fisca_time::{Instant, Period, TimeFault, Unit};
 use std::alloc::Global;
 
 pub fn answer(alloc: Global, operation: &str, words: &[String]) -> Result<String, Fault> {
     match operation {
-        "period" => shown(alloc, Ok(period(one(words)?)?)),
+        "period" => shown(alloc, Period::read(one(words)?)),
         "offset" => offset(alloc, words),
         "offset_by" => offset_by(alloc, words),
         "subperiods" => subperiods(alloc, words),
         "parts" => parts(alloc, words),
         "compare" => compare(alloc, words),
-        "instant" => day(alloc, Instant::read(one(words)?)?),
+        "instant" => instant(alloc, words),
         "date" => date(alloc, words),
         "earlier" => earlier(alloc, words),
-        name => shown(alloc, moved(name, period(one(words)?)?)?),
+        name => named(alloc, name, words),
     }
 }
 
@@ -27,6 +27,11 @@ fn period(word: &str) -> Result<Period, Fault> {
 
 fn shown(alloc: Global, period: Result<Period, TimeFault>) -> Result<String, Fault> {
     Ok(period?.text(alloc)?)
+}
+
+/// The period that a move by its name gives.
+fn named(alloc: Global, name: &str, words: &[String]) -> Result<String, Fault> {
+    shown(alloc, moved(name, period(one(words)?)?)?)
 }
 
 /// A move that has a name.
@@ -77,15 +82,47 @@ fn subperiods(alloc: Global, words: &[String]) -> Result<String, Fault> {
 /// The unit, the start, the size, the months and the days of a period.
 fn parts(alloc: Global, words: &[String]) -> Result<String, Fault> {
     let period = period(one(words)?)?;
-    let unit = period.unit();
-    let start = match period.start() {
-        Some(start) => day(alloc, start)?,
-        None => String::from_str(alloc, "none")?,
-    };
-    let size = optional(alloc, period.size())?;
-    let months = optional(alloc, period.months())?;
-    let days = optional(alloc, period.days())?;
-    Ok(format!(in alloc; "{unit:?}, start {start}, size {size}, months {months}, days {days}")?)
+    let mut shown = Written::new(alloc);
+    push_unit(&mut shown, period.unit());
+    push_start(&mut shown, period.start());
+    push_optional(&mut shown, ", size ", period.size());
+    push_optional(&mut shown, ", months ", period.months());
+    push_optional(&mut shown, ", days ", period.days());
+    Ok(shown.finish()?)
+}
+
+fn push_unit(shown: &mut Written, unit: Unit) {
+    shown.push(match unit {
+        Unit::Day => "Day",
+        Unit::Month => "Month",
+        Unit::Year => "Year",
+        Unit::Eternity => "Eternity",
+    });
+}
+
+fn push_start(shown: &mut Written, start: Option<Instant>) {
+    shown.push(", start ");
+    match start {
+        Some(start) => push_day(shown, start),
+        None => shown.push("none"),
+    }
+}
+
+fn push_optional(shown: &mut Written, name: &str, number: Option<u32>) {
+    shown.push(name);
+    match number {
+        Some(number) => shown.push_number(u64::from(number)),
+        None => shown.push("none"),
+    }
+}
+
+/// A year, a month and a day.
+fn push_day(shown: &mut Written, instant: Instant) {
+    shown.push_number(u64::from(instant.year()));
+    shown.push("-");
+    shown.push_number(u64::from(instant.month()));
+    shown.push("-");
+    shown.push_number(u64::from(instant.day()));
 }
 
 /// Whether two periods share a day, and how the first stands to the second by unit, start and size.
@@ -93,7 +130,11 @@ fn compare(alloc: Global, words: &[String]) -> Result<String, Fault> {
     let (left, right) = two(words)?;
     let left = period(left)?;
     let right = period(right)?;
-    let shared = if left.overlaps(&right) { "overlapping" } else { "apart" };
+    let shared = if left.overlaps(&right) {
+        "overlapping"
+    } else {
+        "apart"
+    };
     let order = match (left < right, left == right) {
         (true, false) => "less",
         (false, true) => "equal",
@@ -104,15 +145,21 @@ fn compare(alloc: Global, words: &[String]) -> Result<String, Fault> {
 }
 
 fn day(alloc: Global, instant: Instant) -> Result<String, Fault> {
-    let year = instant.year();
-    let month = instant.month();
-    let day = instant.day();
-    Ok(format!(in alloc; "{year}-{month}-{day}")?)
+    let mut shown = Written::new(alloc);
+    push_day(&mut shown, instant);
+    Ok(shown.finish()?)
+}
+
+fn instant(alloc: Global, words: &[String]) -> Result<String, Fault> {
+    day(alloc, Instant::read(one(words)?)?)
 }
 
 fn date(alloc: Global, words: &[String]) -> Result<String, Fault> {
     let (year, month, of_month) = three(words)?;
-    day(alloc, Instant::new(number(year)?, number(month)?, number(of_month)?)?)
+    day(
+        alloc,
+        Instant::new(number(year)?, number(month)?, number(of_month)?)?,
+    )
 }
 
 /// Whether the first instant is before the second.

@@ -2,13 +2,14 @@
 
 use crate::fault::Fault;
 use crate::words::{one, two};
+use crate::written::Written;
 use fisca_yaml::{Entry, Item, Tree, read};
 use std::alloc::{AllocError, Global};
 
 pub fn answer(alloc: Global, operation: &str, words: &[String]) -> Result<String, Fault> {
     match operation {
         "tree" => tree(alloc, words),
-        "text" => Ok(text(alloc, &read(alloc, one(words)?)?)?),
+        "text" => whole(alloc, words),
         "at" => at(alloc, words),
         _ => Err(Fault::Malformed),
     }
@@ -16,21 +17,32 @@ pub fn answer(alloc: Global, operation: &str, words: &[String]) -> Result<String
 
 /// The tree of a text.
 fn tree(alloc: Global, words: &[String]) -> Result<String, Fault> {
-    let mut shown = String::new(alloc);
-    show(alloc, &mut shown, &read(alloc, one(words)?)?)?;
-    Ok(shown)
+    let tree = read(alloc, one(words)?)?;
+    let mut shown = Written::new(alloc);
+    show(&mut shown, &tree);
+    Ok(shown.finish()?)
+}
+
+/// The tree of a text as a text.
+fn whole(alloc: Global, words: &[String]) -> Result<String, Fault> {
+    let tree = read(alloc, one(words)?)?;
+    Ok(text(alloc, &tree)?)
 }
 
 /// What stands at the key `KEY` of the text `TEXT`: as a text, as a truth value and as a number.
 fn at(alloc: Global, words: &[String]) -> Result<String, Fault> {
     let (key, source) = two(words)?;
     let tree = read(alloc, source)?;
-    let Some(value) = tree.get(key) else {
-        return Ok(String::from_str(alloc, "no such key")?);
-    };
-    let text = text(alloc, value)?;
-    let bool = bool(value);
-    let number = number(alloc, value)?;
+    match tree.get(key) {
+        Some(value) => values(alloc, value),
+        None => Ok(String::from_str(alloc, "no such key")?),
+    }
+}
+
+fn values(alloc: Global, tree: &Tree<'_>) -> Result<String, Fault> {
+    let text = text(alloc, tree)?;
+    let bool = bool(tree);
+    let number = number(alloc, tree)?;
     Ok(format!(in alloc; "text {text}, bool {bool}, number {number}")?)
 }
 
@@ -59,54 +71,44 @@ fn number(alloc: Global, tree: &Tree<'_>) -> Result<String, Fault> {
 
 /// Appends a tree with its lines: `~` for nothing, `text@line`, `'text'@line`, `[line:value ]` and `{key@line:value }`.
 #[cycle(show)]
-fn show(alloc: Global, shown: &mut String, tree: &Tree<'_>) -> Result<(), AllocError> {
+fn show(shown: &mut Written, tree: &Tree<'_>) {
     match tree {
-        Tree::Null => shown.push_str("~"),
+        Tree::Null => shown.push("~"),
         Tree::Scalar { text, quoted, line } => {
             let quote = if *quoted { "'" } else { "" };
-            show_text(alloc, shown, quote, text.as_str(), *line)
+            shown.push(quote);
+            shown.push(text.as_str());
+            shown.push(quote);
+            shown.push("@");
+            shown.push_number(*line as u64);
         }
-        Tree::List(items) => show_items(alloc, shown, items),
-        Tree::Map(entries) => show_entries(alloc, shown, entries),
+        Tree::List(items) => show_items(shown, items),
+        Tree::Map(entries) => show_entries(shown, entries),
     }
 }
 
 #[cycle(show)]
-fn show_items(alloc: Global, shown: &mut String, items: &[Item<'_>]) -> Result<(), AllocError> {
-    shown.push_str("[")?;
+fn show_items(shown: &mut Written, items: &[Item<'_>]) {
+    shown.push("[");
     for item in items {
-        push_line(alloc, shown, item.line)?;
-        show(alloc, shown, &item.value)?;
-        shown.push_str(" ")?;
+        shown.push_number(item.line as u64);
+        shown.push(":");
+        show(shown, &item.value);
+        shown.push(" ");
     }
-    shown.push_str("]")
+    shown.push("]");
 }
 
 #[cycle(show)]
-fn show_entries(alloc: Global, shown: &mut String, entries: &[Entry<'_>]) -> Result<(), AllocError> {
-    shown.push_str("{")?;
+fn show_entries(shown: &mut Written, entries: &[Entry<'_>]) {
+    shown.push("{");
     for entry in entries {
-        shown.push_str(entry.key.as_str())?;
-        shown.push_str("@")?;
-        push_line(alloc, shown, entry.line)?;
-        show(alloc, shown, &entry.value)?;
-        shown.push_str(" ")?;
+        shown.push(entry.key.as_str());
+        shown.push("@");
+        shown.push_number(entry.line as u64);
+        shown.push(":");
+        show(shown, &entry.value);
+        shown.push(" ");
     }
-    shown.push_str("}")
-}
-
-fn show_text(
-    alloc: Global,
-    shown: &mut String,
-    quote: &str,
-    text: &str,
-    line: usize,
-) -> Result<(), AllocError> {
-    let scalar = format!(in alloc; "{quote}{text}{quote}@{line}")?;
-    shown.push_str(scalar.as_str())
-}
-
-fn push_line(alloc: Global, shown: &mut String, line: usize) -> Result<(), AllocError> {
-    let line = format!(in alloc; "{line}:")?;
-    shown.push_str(line.as_str())
+    shown.push("}");
 }

@@ -1,8 +1,9 @@
 //! The commands over texts and a sink in memory.
 
-use crate::fault::Fault;
+use crate::fault::{Fault, push_refusal};
 use crate::words::number;
-use fisca_commands::{Refusal, Task, axes_words, check_rules, run_task};
+use crate::written::Written;
+use fisca_commands::{Task, axes_words, check_rules, run_task};
 use fisca_grid::{MemorySink, RunEnd};
 use fisca_params::SourceFile;
 use std::alloc::{AllocError, Global};
@@ -72,49 +73,56 @@ fn limit(word: &str) -> Result<Option<u64>, Fault> {
 /// What is written, and the end of the run or the refusal.
 fn axes(alloc: Global, asked: &Asked<'_>) -> Result<String, Fault> {
     let mut sink = MemorySink::new(alloc);
-    let end = match axes_words(
-        alloc,
-        asked.words,
-        asked.keep,
-        asked.from,
-        asked.rows,
-        &mut sink,
-    ) {
-        Ok(RunEnd::End) => String::from_str(alloc, "end")?,
-        Ok(RunEnd::More(position)) => format!(in alloc; "more {position}")?,
-        Err(refusal) => Fault::Refused(refusal).told(alloc)?,
-    };
-    Ok(written(alloc, &sink, end.as_str())?)
+    let answer = axes_words(
+        alloc, asked.words, asked.keep, asked.from, asked.rows, &mut sink,
+    );
+    let mut shown = Written::new(alloc);
+    push_sink(&mut shown, &sink);
+    match answer {
+        Ok(RunEnd::End) => shown.push("end"),
+        Ok(RunEnd::More(position)) => {
+            shown.push("more ");
+            shown.push_number(position);
+        }
+        Err(refusal) => push_refusal(alloc, &mut shown, &refusal),
+    }
+    Ok(shown.finish()?)
 }
 
 /// What is written, and that the files are checked or the refusal.
 fn check(alloc: Global, files: &[SourceFile]) -> Result<String, Fault> {
     let mut sink = MemorySink::new(alloc);
-    let end = match check_rules(alloc, files, &mut sink) {
-        Ok(()) => String::from_str(alloc, "checked")?,
-        Err(refusal) => Fault::Refused(refusal).told(alloc)?,
-    };
-    Ok(written(alloc, &sink, end.as_str())?)
+    let answer = check_rules(alloc, files, &mut sink);
+    let mut shown = Written::new(alloc);
+    push_sink(&mut shown, &sink);
+    match answer {
+        Ok(()) => shown.push("checked"),
+        Err(refusal) => push_refusal(alloc, &mut shown, &refusal),
+    }
+    Ok(shown.finish()?)
 }
 
 /// What a task prints, its status and the line for standard error.
 fn run(alloc: Global, task: &Task<'_>, files: &[SourceFile]) -> Result<String, Fault> {
     let mut sink = MemorySink::new(alloc);
     let ending = run_task(alloc, task, files, &mut sink);
-    let status = ending.status();
-    let end = match ending.line() {
-        Some(line) => format!(in alloc; "status {status}, {line}")?,
-        None => format!(in alloc; "status {status}")?,
-    };
-    Ok(written(alloc, &sink, end.as_str())?)
+    let mut shown = Written::new(alloc);
+    push_sink(&mut shown, &sink);
+    shown.push("status ");
+    shown.push_number(u64::from(ending.status()));
+    if let Some(line) = ending.line() {
+        shown.push(", ");
+        shown.push(line);
+    }
+    Ok(shown.finish()?)
 }
 
-/// The text in a sink, a last line, and how often the sink failed.
-fn written(alloc: Global, sink: &MemorySink, end: &str) -> Result<String, AllocError> {
-    let text = str::from_utf8(sink.bytes()).unwrap_or("no text\n");
-    let failures = match sink.failures() {
-        0 => "",
-        _ => ", and the sink failed",
-    };
-    format!(in alloc; "{text}{end}{failures}")
+/// Appends what a sink has, and how often it failed if it did.
+fn push_sink(shown: &mut Written, sink: &MemorySink) {
+    shown.push(str::from_utf8(sink.bytes()).unwrap_or("no text\n"));
+    if sink.failures() != 0 {
+        shown.push("failures: ");
+        shown.push_number(sink.failures());
+        shown.push("\n");
+    }
 }

@@ -1,5 +1,6 @@
 //! What is told in place of an answer.
 
+use crate::written::Written;
 use fisca_commands::Refusal;
 use fisca_grid::AxesFault;
 use fisca_num::NumFault;
@@ -8,6 +9,7 @@ use fisca_time::TimeFault;
 use fisca_tokens::FormulaFault;
 use fisca_yaml::YamlFault;
 use std::alloc::{AllocError, AllocFailed, Global};
+use std::fmt::Display;
 use thiserror::Error;
 
 /// Why a case has no answer: the fault that the call gave, or that it is no case.
@@ -48,62 +50,73 @@ impl<T: Drop> From<AllocFailed<T>> for Fault {
 impl Fault {
     /// The fault as its number, its name and the line where it stands.
     pub fn told(&self, alloc: Global) -> Result<String, AllocError> {
+        let mut told = Written::new(alloc);
         match self {
-            Fault::Malformed => String::from_str(alloc, "malformed"),
-            Fault::Memory => String::from_str(alloc, "no memory"),
-            Fault::Num(fault) => numbered(alloc, *fault as u8, fault.name()),
-            Fault::Time(fault) => told_time(alloc, *fault),
-            Fault::Yaml(fault) => told_yaml(alloc, *fault),
-            Fault::Formula(fault) => told_formula(alloc, *fault),
-            Fault::Param(fault) => told_param(alloc, *fault),
-            Fault::Axes(fault) => numbered(alloc, *fault as u8, fault.name()),
-            Fault::Refused(refusal) => told_refusal(alloc, refusal),
+            Fault::Malformed => told.push("malformed"),
+            Fault::Memory => told.push("no memory"),
+            Fault::Num(fault) => push(&mut told, *fault as u8, fault),
+            Fault::Time(fault) => push(&mut told, *fault as u8, fault),
+            Fault::Yaml(fault) => push_yaml(&mut told, *fault),
+            Fault::Formula(fault) => push_formula(&mut told, *fault),
+            Fault::Param(fault) => push_param(&mut told, *fault),
+            Fault::Axes(fault) => push(&mut told, *fault as u8, fault),
+            Fault::Refused(refusal) => push_refusal(alloc, &mut told, refusal),
         }
+        told.finish()
     }
 }
 
-fn numbered(alloc: Global, number: u8, name: &str) -> Result<String, AllocError> {
-    format!(in alloc; "fault {number} {name}")
+fn push(told: &mut Written, number: u8, fault: &impl Display) {
+    told.push("fault ");
+    told.push_number(u64::from(number));
+    told.push(" ");
+    told.push_shown(fault);
 }
 
-fn told_time(alloc: Global, fault: TimeFault) -> Result<String, AllocError> {
-    let number = fault as u8;
-    format!(in alloc; "fault {number} {fault}")
+fn push_line(told: &mut Written, line: usize) {
+    told.push(", line ");
+    told.push_number(line as u64);
 }
 
-fn told_yaml(alloc: Global, fault: YamlFault) -> Result<String, AllocError> {
-    let number = fault.kind.number();
-    let line = fault.line;
-    let kind = fault.kind;
-    format!(in alloc; "fault {number} {kind}, line {line}")
+fn push_yaml(told: &mut Written, fault: YamlFault) {
+    push(told, fault.kind.number(), &fault.kind);
+    push_line(told, fault.line);
 }
 
-fn told_formula(alloc: Global, fault: FormulaFault) -> Result<String, AllocError> {
-    let number = fault.kind as u8;
-    let line = fault.line;
-    let kind = fault.kind;
-    format!(in alloc; "fault {number} {kind}, line {line}")
+fn push_formula(told: &mut Written, fault: FormulaFault) {
+    push(told, fault.kind as u8, &fault.kind);
+    push_line(told, fault.line);
 }
 
-fn told_param(alloc: Global, fault: ParamFault) -> Result<String, AllocError> {
-    let number = fault.number();
+fn push_param(told: &mut Written, fault: ParamFault) {
+    push(told, fault.number(), &fault);
     match fault {
-        ParamFault::Yaml {
-            file,
-            fault: YamlFault { line, .. },
+        ParamFault::Yaml { file, fault } => push_place(told, file, fault.line),
+        ParamFault::BadParameter { file, line } | ParamFault::DuplicateName { file, line } => {
+            push_place(told, file, line);
         }
-        | ParamFault::BadParameter { file, line }
-        | ParamFault::DuplicateName { file, line } => {
-            format!(in alloc; "fault {number} {fault}, file {file}, line {line}")
-        }
-        ParamFault::BadScale | ParamFault::Undefined | ParamFault::Number(_) | ParamFault::Memory =>
-            format!(in alloc; "fault {number} {fault}"),
+        ParamFault::BadScale
+        | ParamFault::Undefined
+        | ParamFault::Number(_)
+        | ParamFault::Memory => {}
     }
 }
 
-fn told_refusal(alloc: Global, refusal: &Refusal) -> Result<String, AllocError> {
-    let number = refusal.number();
-    let status = refusal.status();
-    let line = refusal.line(alloc, "")?;
-    format!(in alloc; "refusal {number}, status {status}, {line}")
+fn push_place(told: &mut Written, file: usize, line: usize) {
+    told.push(", file ");
+    told.push_number(file as u64);
+    push_line(told, line);
+}
+
+/// Appends a refusal of a command as its number, its status and its line for standard error.
+pub fn push_refusal(alloc: Global, told: &mut Written, refusal: &Refusal) {
+    told.push("refusal ");
+    told.push_number(u64::from(refusal.number()));
+    told.push(", status ");
+    told.push_number(u64::from(refusal.status()));
+    told.push(", ");
+    match refusal.line(alloc, "") {
+        Ok(line) => told.push(line.as_str()),
+        Err(_) => told.push("no memory"),
+    }
 }

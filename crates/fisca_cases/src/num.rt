@@ -2,7 +2,7 @@
 
 use crate::fault::Fault;
 use crate::words::{number, one, two};
-use fisca_num::Fraction;
+use fisca_num::{Fraction, NumFault};
 use std::alloc::Global;
 use std::cmp::Ordering;
 
@@ -10,10 +10,7 @@ pub fn answer(alloc: Global, operation: &str, words: &[String]) -> Result<String
     match operation {
         "read" => read(alloc, words),
         "new" => new(alloc, words),
-        "add" => add(alloc, words),
-        "sub" => sub(alloc, words),
-        "mul" => mul(alloc, words),
-        "div" => div(alloc, words),
+        "add" | "sub" | "mul" | "div" => operate(alloc, operation, words),
         "neg" => neg(alloc, words),
         "trunc" => trunc(alloc, words),
         "write" => write(alloc, words),
@@ -47,24 +44,19 @@ fn neg(alloc: Global, words: &[String]) -> Result<String, Fault> {
     shown(alloc, fraction(one(words)?)?.neg())
 }
 
-fn add(alloc: Global, words: &[String]) -> Result<String, Fault> {
-    let (a, b) = two(words)?;
-    shown(alloc, fraction(a)?.add(fraction(b)?)?)
+/// What an operation of two numbers gives.
+fn operate(alloc: Global, operation: &str, words: &[String]) -> Result<String, Fault> {
+    let (left, right) = two(words)?;
+    shown(alloc, operated(operation, fraction(left)?, fraction(right)?)?)
 }
 
-fn sub(alloc: Global, words: &[String]) -> Result<String, Fault> {
-    let (a, b) = two(words)?;
-    shown(alloc, fraction(a)?.sub(fraction(b)?)?)
-}
-
-fn mul(alloc: Global, words: &[String]) -> Result<String, Fault> {
-    let (a, b) = two(words)?;
-    shown(alloc, fraction(a)?.mul(fraction(b)?)?)
-}
-
-fn div(alloc: Global, words: &[String]) -> Result<String, Fault> {
-    let (a, b) = two(words)?;
-    shown(alloc, fraction(a)?.div(fraction(b)?)?)
+fn operated(operation: &str, left: Fraction, right: Fraction) -> Result<Fraction, NumFault> {
+    match operation {
+        "add" => left.add(right),
+        "sub" => left.sub(right),
+        "mul" => left.mul(right),
+        _ => left.div(right),
+    }
 }
 
 fn trunc(alloc: Global, words: &[String]) -> Result<String, Fault> {

@@ -1,6 +1,7 @@
 //! A text that is written in pieces.
 
 use std::alloc::{AllocError, Global};
+use std::fmt::Display;
 
 /// A text that is being written. No piece is an error: that memory was refused is told at the end.
 #[derive(Drop)]
@@ -25,6 +26,12 @@ impl Written {
 
     pub fn push_number(&mut self, number: u64) {
         if write!(self.text, "{number}").is_err() {
+            self.is_whole = false;
+        }
+    }
+
+    pub fn push_shown(&mut self, value: &impl Display) {
+        if write!(self.text, "{value}").is_err() {
             self.is_whole = false;
         }
     }

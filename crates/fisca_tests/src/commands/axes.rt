@@ -19,7 +19,14 @@ fn list_salaries<S: RowSink>(
     sink: &mut S,
 ) -> Result<RunEnd, Refusal> {
     let words = one_word(alloc, "salary=0..2000/5")?;
-    axes_words(alloc, words.as_slice(), Some("salary>=500"), from, rows, sink)
+    axes_words(
+        alloc,
+        words.as_slice(),
+        Some("salary>=500"),
+        from,
+        rows,
+        sink,
+    )
 }
 
 /// A writer that takes a few bytes a call while it has room, and then fails: by an error, or by taking nothing.

@@ -145,7 +145,10 @@ fn lines_from_a_start_up_to_a_limit(rt: HostRuntime) {
     ];
     for (first, from, limit, wanted, written) in table {
         let salaries = make_salaries(first, 9);
-        assert!(rt; writes(rt.alloc(), salaries, from, limit, wanted, written), "from {from}");
+        assert!(rt;
+            writes(rt.alloc(), salaries, from, limit, wanted, written),
+            "from {from}"
+        );
     }
 }
 
@@ -167,7 +170,10 @@ fn a_fault_ends_the_lines_where_the_limit_does_not_come_first(rt: HostRuntime) {
     ];
     for (from, limit, wanted, written) in table {
         let salaries = make_salaries(0, 3);
-        assert!(rt; writes(rt.alloc(), salaries, from, limit, wanted, written), "from {from}");
+        assert!(rt;
+            writes(rt.alloc(), salaries, from, limit, wanted, written),
+            "from {from}"
+        );
     }
 }
 
@@ -212,11 +218,7 @@ fn a_sink_that_fails_at_any_call_has_the_text_up_to_it(rt: HostRuntime) {
 }
 
 /// Whether the sink has just what an answer says, and a run that stopped for want of memory can be resumed.
-fn is_right(
-    alloc: Global,
-    answer: Result<RunEnd, RunFault<u64>>,
-    sink: &mut MemorySink,
-) -> bool {
+fn is_right(alloc: Global, answer: Result<RunEnd, RunFault<u64>>, sink: &mut MemorySink) -> bool {
     match answer {
         Err(RunFault::Memory { position }) => {
             let rest = write_lines(alloc, &mut make_salaries(0, 9), position, None, sink);

@@ -74,7 +74,12 @@ fn limit(word: &str) -> Result<Option<u64>, Fault> {
 fn axes(alloc: Global, asked: &Asked<'_>) -> Result<String, Fault> {
     let mut sink = MemorySink::new(alloc);
     let answer = axes_words(
-        alloc, asked.words, asked.keep, asked.from, asked.rows, &mut sink,
+        alloc,
+        asked.words,
+        asked.keep,
+        asked.from,
+        asked.rows,
+        &mut sink,
     );
     let mut shown = Written::new(alloc);
     push_sink(&mut shown, &sink);

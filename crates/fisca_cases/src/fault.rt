@@ -95,10 +95,8 @@ fn push_param(told: &mut Written, fault: ParamFault) {
         ParamFault::BadParameter { file, line } | ParamFault::DuplicateName { file, line } => {
             push_place(told, file, line);
         }
-        ParamFault::BadScale
-        | ParamFault::Undefined
-        | ParamFault::Number(_)
-        | ParamFault::Memory => {}
+        ParamFault::BadScale | ParamFault::Undefined | ParamFault::Number(_) | ParamFault::Memory =>
+            {}
     }
 }
 

@@ -47,7 +47,10 @@ fn neg(alloc: Global, words: &[String]) -> Result<String, Fault> {
 /// What an operation of two numbers gives.
 fn operate(alloc: Global, operation: &str, words: &[String]) -> Result<String, Fault> {
     let (left, right) = two(words)?;
-    shown(alloc, operated(operation, fraction(left)?, fraction(right)?)?)
+    shown(
+        alloc,
+        operated(operation, fraction(left)?, fraction(right)?)?,
+    )
 }
 
 fn operated(operation: &str, left: Fraction, right: Fraction) -> Result<Fraction, NumFault> {

@@ -1,4 +1,4 @@
-//! The commands over texts.
+//! The commands over texts and sinks.
 
 mod axes;
 mod check;

@@ -1,5 +1,6 @@
-//! Tests of the libraries, through their public calls: worked rows, printed texts, kinds and lines of faults, sinks
-//! that fail. A crate with tests of its own is proved twice, so they stand above all.
+//! Tests of the libraries, through their public calls, that need code: sinks and writers that fail, refused growths, runs
+//! that are resumed, texts that are made or drawn by lot. All that is a call with texts is a case of `fisca_cases`. A crate
+//! with tests of its own is proved twice, so they stand above all.
 #![tactic(auto)]
 
 #[cfg(test)]
@@ -10,8 +11,6 @@ mod grid;
 mod modules;
 #[cfg(test)]
 mod num;
-#[cfg(test)]
-mod params;
 #[cfg(test)]
 mod syntax;
 #[cfg(test)]

@@ -1,4 +1,4 @@
-//! `fisca check` over texts and sinks.
+//! `fisca check` over many files.
 
 use fisca_commands::{Refusal, check_rules};
 use fisca_grid::MemorySink;
@@ -13,6 +13,7 @@ fn file(alloc: Global, path: &str, text: &str) -> Result<SourceFile, AllocError>
     Ok(SourceFile::new(path, text))
 }
 
+<<<<<<< HEAD
 #[test]
 fn parameters_and_scales_are_counted(rt: HostRuntime) -> Result<(), Fail> {
     let mut files = Vec::new(rt.alloc());
@@ -129,6 +130,16 @@ fn the_first_fault_in_order_of_paths_is_told(rt: HostRuntime) -> Result<(), Fail
         "parameters/z.yaml:1: BadFlow"
     );
     Ok(())
+=======
+/// So many files, of which all but the first are refused.
+fn files(alloc: Global, count: u32) -> Result<Vec<SourceFile>, AllocError> {
+    let mut files = Vec::new(alloc);
+    files.push(file(alloc, "variables/a.py", "")?)?;
+    for _file in 1..count {
+        files.push(file(alloc, "parameters/a.yaml", "[")?)?;
+    }
+    Ok(files)
+>>>>>>> 9c2aa17d6f3d6275162919cbb79bc30506b86452
 }
 
 #[test]
@@ -176,18 +187,13 @@ fn parameter_files_are_told_before_modules(rt: HostRuntime) -> Result<(), Fail> 
 
 #[test]
 fn too_many_files_come_before_their_faults(rt: HostRuntime) -> Result<(), Fail> {
-    let alloc = rt.alloc();
-    let mut files = Vec::new(alloc);
-    files.push(file(alloc, "variables/a.py", "")?)?;
-    for _ in 0..1000 {
-        files.push(file(alloc, "parameters/a.yaml", "[")?)?;
-    }
-    let mut sink = MemorySink::new(alloc);
-    let most = check_rules(alloc, files.as_slice(), &mut sink);
-    assert!(rt; matches!(most, Err(Refusal::Params { .. })));
-    files.push(file(alloc, "parameters/a.yaml", "[")?)?;
-    let more = check_rules(alloc, files.as_slice(), &mut sink);
-    assert_eq!(rt; more, Err(Refusal::TooManyFiles));
+    let most = files(rt.alloc(), 1001)?;
+    let mut sink = MemorySink::new(rt.alloc());
+    let refused = check_rules(rt.alloc(), most.as_slice(), &mut sink);
+    assert!(rt; matches!(refused, Err(Refusal::Params { .. })));
+    let more = files(rt.alloc(), 1002)?;
+    let refused = check_rules(rt.alloc(), more.as_slice(), &mut sink);
+    assert_eq!(rt; refused, Err(Refusal::TooManyFiles));
     assert!(rt; sink.bytes().is_empty());
     Ok(())
 }

@@ -1,47 +1,32 @@
-//! Refusals: their numbers, statuses and lines.
+//! Refusals for want of memory and failed writes: their numbers, statuses and lines.
 
 use fisca_commands::Refusal;
 use fisca_grid::{AxesFault, RunFault};
-use std::alloc::AllocError;
+use std::alloc::Global;
+
+const NO_MEMORY: &str = "fisca: out of memory";
+
+/// Whether a refusal has this number, this exit status and this line.
+fn is_told(alloc: Global, refusal: Refusal, number: u8, status: u8, line: &str) -> bool {
+    match refusal.line(alloc, "") {
+        Ok(told) => {
+            refusal.number() == number && refusal.status() == status && told.as_str() == line
+        }
+        Err(_) => false,
+    }
+}
 
 #[test]
-fn each_refusal_has_its_number_status_and_line(rt: HostRuntime) -> Result<(), AllocError> {
-    let table = [
-        (Refusal::Axes(AxesFault::NoAxes), 6, 3, "fisca: NoAxes"),
-        (Refusal::Axes(AxesFault::BadCount), 6, 3, "fisca: BadCount"),
-        (Refusal::Axes(AxesFault::BadBound), 6, 3, "fisca: BadBound"),
-        (
-            Refusal::Axes(AxesFault::Memory),
-            6,
-            6,
-            "fisca: out of memory",
-        ),
-        (Refusal::BadWord, 7, 3, "fisca: BadWord"),
-        (Refusal::BadCondition, 8, 3, "fisca: BadCondition"),
-        (
-            Refusal::Run(RunFault::BadPosition),
-            9,
-            3,
-            "fisca: BadPosition",
-        ),
-        (
-            Refusal::Run(RunFault::Write { position: 1 }),
-            9,
-            5,
-            "fisca: write failed",
-        ),
-        (
-            Refusal::Run(RunFault::Memory { position: 1 }),
-            9,
-            6,
-            "fisca: out of memory",
-        ),
-        (Refusal::Memory, 12, 6, "fisca: out of memory"),
-    ];
-    for (refusal, number, status, line) in table {
-        assert_eq!(rt; refusal.number(), number, "{line}");
-        assert_eq!(rt; refusal.status(), status, "{line}");
-        assert_eq!(rt; refusal.line(rt.alloc(), "")?.as_str(), line);
-    }
-    Ok(())
+fn want_of_memory_is_told(rt: HostRuntime) {
+    let axes = Refusal::Axes(AxesFault::Memory);
+    assert!(rt; is_told(rt.alloc(), axes, 6, 6, NO_MEMORY));
+    let run = Refusal::Run(RunFault::Memory { position: 1 });
+    assert!(rt; is_told(rt.alloc(), run, 9, 6, NO_MEMORY));
+    assert!(rt; is_told(rt.alloc(), Refusal::Memory, 12, 6, NO_MEMORY));
+}
+
+#[test]
+fn a_failed_write_within_a_run_is_told(rt: HostRuntime) {
+    let run = Refusal::Run(RunFault::Write { position: 1 });
+    assert!(rt; is_told(rt.alloc(), run, 9, 5, "fisca: write failed"));
 }

@@ -8,6 +8,7 @@ use fisca_grid::{
     MemorySink, RowFault, RowSink, Rows, RunEnd, RunFault, Selection, SinkFault, StreamSink,
     write_lines,
 };
+use std::alloc::Global;
 
 /// The value at a position is 500 times the position. The positions from `first` on are kept, and at
 /// `broken` stands a fault.
@@ -89,8 +90,16 @@ impl RowSink for Narrow {
 /// The text of all five lines.
 const ALL: &[u8] = b"0\t0\n1\t500\n2\t1000\n3\t1500\n4\t2000\n";
 
-/// Where the lines behind the first one begin in that text.
-const STARTS: [usize; 4] = [4, 10, 17, 24];
+/// How many of its lines are whole in so many of its first bytes, below all of them.
+fn count_whole(bytes: usize) -> u64 {
+    match bytes {
+        0..=3 => 0,
+        4..=9 => 1,
+        10..=16 => 2,
+        17..=23 => 3,
+        _ => 4,
+    }
+}
 
 /// The salaries 0, 500, 1000, 1500 and 2000.
 fn make_salaries(first: u64, broken: u64) -> Salaries {
@@ -99,6 +108,20 @@ fn make_salaries(first: u64, broken: u64) -> Salaries {
         first,
         broken,
     }
+}
+
+/// Whether a run over a sink in memory gives this answer and writes this.
+fn writes(
+    alloc: Global,
+    mut salaries: Salaries,
+    from: u64,
+    limit: Option<u64>,
+    wanted: Result<RunEnd, RunFault<u64>>,
+    written: &[u8],
+) -> bool {
+    let mut sink = MemorySink::new(alloc);
+    let answer = write_lines(alloc, &mut salaries, from, limit, &mut sink);
+    answer == wanted && sink.bytes() == written && sink.failures() == 0
 }
 
 #[test]
@@ -121,17 +144,11 @@ fn lines_from_a_start_up_to_a_limit(rt: HostRuntime) {
         (0, 6, None, Err(RunFault::BadPosition), none),
     ];
     for (first, from, limit, wanted, written) in table {
-        let mut sink = MemorySink::new(rt.alloc());
-        let answer = write_lines(
-            rt.alloc(),
-            &mut make_salaries(first, 9),
-            from,
-            limit,
-            &mut sink,
+        let salaries = make_salaries(first, 9);
+        assert!(rt;
+            writes(rt.alloc(), salaries, from, limit, wanted, written),
+            "from {from}"
         );
-        assert_eq!(rt; answer, wanted, "from {from}");
-        assert_eq!(rt; sink.bytes(), written, "from {from}");
-        assert_eq!(rt; sink.failures(), 0);
     }
 }
 
@@ -152,10 +169,11 @@ fn a_fault_ends_the_lines_where_the_limit_does_not_come_first(rt: HostRuntime) {
         (4, None, Ok(RunEnd::End), last),
     ];
     for (from, limit, wanted, written) in table {
-        let mut sink = MemorySink::new(rt.alloc());
-        let answer = write_lines(rt.alloc(), &mut make_salaries(0, 3), from, limit, &mut sink);
-        assert_eq!(rt; answer, wanted, "from {from}");
-        assert_eq!(rt; sink.bytes(), written, "from {from}");
+        let salaries = make_salaries(0, 3);
+        assert!(rt;
+            writes(rt.alloc(), salaries, from, limit, wanted, written),
+            "from {from}"
+        );
     }
 }
 
@@ -174,54 +192,50 @@ fn a_sink_that_takes_three_bytes_breaks_the_first_line(rt: HostRuntime) {
     assert_eq!(rt; sink.failed, 1);
 }
 
+/// Whether a run over this sink fails where its room ends, with the text up to there.
+fn is_broken(alloc: Global, mut sink: Narrow) -> bool {
+    let room = sink.room;
+    let answer = write_lines(alloc, &mut make_salaries(0, 9), 0, None, &mut sink);
+    let position = count_whole(room);
+    let is_told = answer == Err(RunFault::Write { position });
+    is_told && ALL.get(..room) == Some(sink.held.as_slice()) && sink.failed == 1
+}
+
 #[test]
 fn a_sink_that_fails_at_any_call_has_the_text_up_to_it(rt: HostRuntime) {
     for answers_zero in [false, true] {
         for room in 0..ALL.len() {
-            let mut sink = Narrow {
+            let sink = Narrow {
                 held: Vec::new(rt.alloc()),
                 per_call: 1,
                 room,
                 answers_zero,
                 failed: 0,
             };
-            let answer = write_lines(rt.alloc(), &mut make_salaries(0, 9), 0, None, &mut sink);
-            let position = STARTS.iter().filter(|start| **start <= room).count() as u64;
-            assert_eq!(rt;
-                answer,
-                Err(RunFault::Write { position }),
-                "after {room} bytes"
-            );
-            assert_eq!(rt; sink.held.as_slice(), &ALL[..room]);
-            assert_eq!(rt; sink.failed, 1);
+            assert!(rt; is_broken(rt.alloc(), sink), "after {room} bytes");
         }
+    }
+}
+
+/// Whether the sink has just what an answer says, and a run that stopped for want of memory can be resumed.
+fn is_right(alloc: Global, answer: Result<RunEnd, RunFault<u64>>, sink: &mut MemorySink) -> bool {
+    match answer {
+        Err(RunFault::Memory { position }) => {
+            let rest = write_lines(alloc, &mut make_salaries(0, 9), position, None, sink);
+            rest == Ok(RunEnd::End) && sink.bytes() == ALL
+        }
+        Err(RunFault::Write { position }) => {
+            position < 5 && ALL.starts_with(sink.bytes()) && sink.failures() == 1
+        }
+        other => other == Ok(RunEnd::End) && sink.bytes() == ALL,
     }
 }
 
 #[test]
 fn a_refused_growth_leaves_a_run_that_can_be_resumed(rt: HostRuntime) {
     let mut sink = MemorySink::new(rt.alloc());
-    match write_lines(rt.alloc(), &mut make_salaries(0, 9), 0, None, &mut sink) {
-        Err(RunFault::Memory { position }) => {
-            let rest = write_lines(
-                rt.alloc(),
-                &mut make_salaries(0, 9),
-                position,
-                None,
-                &mut sink,
-            );
-            assert_eq!(rt; rest, Ok(RunEnd::End));
-            assert_eq!(rt; sink.bytes(), ALL);
-        }
-        Err(RunFault::Write { position }) => {
-            assert!(rt; position < 5 && ALL.starts_with(sink.bytes()));
-            assert_eq!(rt; sink.failures(), 1);
-        }
-        answer => {
-            assert_eq!(rt; answer, Ok(RunEnd::End));
-            assert_eq!(rt; sink.bytes(), ALL);
-        }
-    }
+    let answer = write_lines(rt.alloc(), &mut make_salaries(0, 9), 0, None, &mut sink);
+    assert!(rt; is_right(rt.alloc(), answer, &mut sink));
 }
 
 #[test]

@@ -1,6 +1,7 @@
 //! The sink before a writer.
 
 use fisca_grid::{RowSink, SinkFault, StreamSink, hand_over};
+use std::alloc::Global;
 use std::io;
 use std::io::{ErrorKind, Write};
 
@@ -37,30 +38,47 @@ impl Write for Halting {
     }
 }
 
+/// A sink before such a writer.
+fn make_halting(alloc: Global, answers_zero: bool) -> StreamSink<Halting> {
+    StreamSink::new(Halting {
+        held: Vec::new(alloc),
+        calls: 0,
+        answers_zero,
+    })
+}
+
 #[test]
-fn a_stream_tries_again_when_interrupted_and_counts_each_failure(rt: HostRuntime) {
+fn a_stream_tries_again_when_interrupted(rt: HostRuntime) {
     for answers_zero in [false, true] {
-        let mut sink = StreamSink::new(Halting {
-            held: Vec::new(rt.alloc()),
-            calls: 0,
-            answers_zero,
-        });
+        let mut sink = make_halting(rt.alloc(), answers_zero);
         assert_eq!(rt; hand_over(&mut sink, b"12345"), Ok(()));
         assert_eq!(rt; sink.failures(), 0);
         assert_eq!(rt; sink.flush(), Ok(()));
-        assert_eq!(rt; hand_over(&mut sink, b"6789"), Err(SinkFault::Write));
-        assert_eq!(rt; sink.failures(), 1);
-        assert_eq!(rt;
-            sink.take(b""),
-            if answers_zero {
-                Ok(0)
-            } else {
-                Err(SinkFault::Write)
-            }
-        );
-        assert_eq!(rt; sink.flush(), Err(SinkFault::Write));
-        assert_eq!(rt; sink.failures(), if answers_zero { 2 } else { 3 });
-        assert_eq!(rt; sink.writer().held.as_slice(), b"1234567".as_slice());
-        assert_eq!(rt; sink.into_writer().held.len(), 7);
+        assert_eq!(rt; sink.failures(), 0);
+    }
+}
+
+/// Whether a sink that has taken five bytes takes just two more, and counts this and each further failure.
+fn counts_failures(mut sink: StreamSink<Halting>, empty: Result<usize, SinkFault>) -> bool {
+    let handed = hand_over(&mut sink, b"6789");
+    let first = sink.failures();
+    let taken = sink.take(b"");
+    let flushed = sink.flush();
+    let further = if empty.is_ok() { 2 } else { 3 };
+    handed == Err(SinkFault::Write)
+        && first == 1
+        && taken == empty
+        && flushed == Err(SinkFault::Write)
+        && sink.failures() == further
+        && sink.writer().held.as_slice() == b"1234567".as_slice()
+        && sink.into_writer().held.len() == 7
+}
+
+#[test]
+fn a_stream_counts_each_failure(rt: HostRuntime) {
+    for (answers_zero, empty) in [(false, Err(SinkFault::Write)), (true, Ok(0))] {
+        let mut sink = make_halting(rt.alloc(), answers_zero);
+        assert_eq!(rt; hand_over(&mut sink, b"12345"), Ok(()));
+        assert!(rt; counts_failures(sink, empty));
     }
 }

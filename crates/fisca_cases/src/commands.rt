@@ -1,0 +1,133 @@
+//! The commands over texts and a sink in memory.
+
+use crate::fault::{Fault, push_refusal};
+use crate::words::number;
+use crate::written::Written;
+use fisca_commands::{Task, axes_words, check_rules, run_task};
+use fisca_grid::{MemorySink, RunEnd};
+use fisca_params::SourceFile;
+use std::alloc::{AllocError, Global};
+
+pub fn answer(
+    alloc: Global,
+    operation: &str,
+    files: &[SourceFile],
+    words: &[String],
+) -> Result<String, Fault> {
+    match operation {
+        "axes" => axes(alloc, &Asked::new(words)?),
+        "axes_task" => run(alloc, &Asked::new(words)?.task(alloc)?, &[]),
+        "check" => check(alloc, files),
+        "check_task" => run(alloc, &Task::Check { rules: "rules" }, files),
+        _ => Err(Fault::Malformed),
+    }
+}
+
+/// What `axes` is called with: `FROM ROWS KEEP WORD..`, where `-` stands for no limit and no condition.
+#[derive(Drop)]
+struct Asked<'a> {
+    from: u64,
+    rows: Option<u64>,
+    keep: Option<&'a str>,
+    words: &'a [String],
+}
+
+impl<'a> Asked<'a> {
+    fn new(words: &'a [String]) -> Result<Asked<'a>, Fault> {
+        match words {
+            [from, rows, keep, words @ ..] => Ok(Asked {
+                from: number(from.as_str())?,
+                rows: limit(rows.as_str())?,
+                keep: given(keep.as_str()),
+                words,
+            }),
+            _ => Err(Fault::Malformed),
+        }
+    }
+
+    fn task(&self, alloc: Global) -> Result<Task<'a>, AllocError> {
+        let mut words = Vec::new(alloc);
+        for word in self.words {
+            words.push(word.clone()?)?;
+        }
+        Ok(Task::Axes {
+            words,
+            keep: self.keep,
+            from: self.from,
+            rows: self.rows,
+        })
+    }
+}
+
+fn given(word: &str) -> Option<&str> {
+    if word == "-" { None } else { Some(word) }
+}
+
+fn limit(word: &str) -> Result<Option<u64>, Fault> {
+    match given(word) {
+        Some(limit) => Ok(Some(number(limit)?)),
+        None => Ok(None),
+    }
+}
+
+/// What is written, and the end of the run or the refusal.
+fn axes(alloc: Global, asked: &Asked<'_>) -> Result<String, Fault> {
+    let mut sink = MemorySink::new(alloc);
+    let answer = axes_words(
+        alloc,
+        asked.words,
+        asked.keep,
+        asked.from,
+        asked.rows,
+        &mut sink,
+    );
+    let mut shown = Written::new(alloc);
+    push_sink(&mut shown, &sink);
+    match answer {
+        Ok(RunEnd::End) => shown.push("end"),
+        Ok(RunEnd::More(position)) => {
+            shown.push("more ");
+            shown.push_number(position);
+        }
+        Err(refusal) => push_refusal(alloc, &mut shown, &refusal),
+    }
+    Ok(shown.finish()?)
+}
+
+/// What is written, and that the files are checked or the refusal.
+fn check(alloc: Global, files: &[SourceFile]) -> Result<String, Fault> {
+    let mut sink = MemorySink::new(alloc);
+    let answer = check_rules(alloc, files, &mut sink);
+    let mut shown = Written::new(alloc);
+    push_sink(&mut shown, &sink);
+    match answer {
+        Ok(()) => shown.push("checked"),
+        Err(refusal) => push_refusal(alloc, &mut shown, &refusal),
+    }
+    Ok(shown.finish()?)
+}
+
+/// What a task prints, its status and the line for standard error.
+fn run(alloc: Global, task: &Task<'_>, files: &[SourceFile]) -> Result<String, Fault> {
+    let mut sink = MemorySink::new(alloc);
+    let ending = run_task(alloc, task, files, &mut sink);
+    let mut shown = Written::new(alloc);
+    push_sink(&mut shown, &sink);
+    shown.push("status ");
+    shown.push_number(u64::from(ending.status()));
+    if let Some(line) = ending.line() {
+        shown.push(", ");
+        shown.push(line);
+    }
+    Ok(shown.finish()?)
+}
+
+/// Appends what a sink has, and how often it failed if it did.
+fn push_sink(shown: &mut Written, sink: &MemorySink) {
+    shown.push(str::from_utf8(sink.bytes()).unwrap_or("no text\n"));
+    if sink.failures() != 0 {
+        shown.push("failures: ");
+        shown.push_number(sink.failures());
+        shown.push("\n");
+    }
+}

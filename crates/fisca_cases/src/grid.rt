@@ -1,0 +1,105 @@
+//! Axes: their limits, values and positions.
+
+use crate::fault::Fault;
+use crate::words::{number, one, two};
+use crate::written::Written;
+use fisca_grid::{Axes, AxesFault, AxisSpec, GridCursor};
+use fisca_num::Fraction;
+use std::alloc::Global;
+use std::cmp::Ordering;
+
+pub fn answer(alloc: Global, operation: &str, words: &[String]) -> Result<String, Fault> {
+    match operation {
+        "no_groups" => size(alloc, Axes::build(alloc, &[], &[])),
+        "empty_group" => size(alloc, Axes::build(alloc, &[], &[0])),
+        _ => match words {
+            [min, max, count, rest @ ..] => {
+                let spec = axis(min.as_str(), max.as_str(), count.as_str())?;
+                of_axis(alloc, operation, spec, rest)
+            }
+            _ => Err(Fault::Malformed),
+        },
+    }
+}
+
+fn axis(min: &str, max: &str, count: &str) -> Result<AxisSpec, Fault> {
+    Ok(AxisSpec {
+        count: number(count)?,
+        min: Fraction::from_decimal(min)?,
+        max: Fraction::from_decimal(max)?,
+    })
+}
+
+/// What is asked of an axis.
+fn of_axis(
+    alloc: Global,
+    operation: &str,
+    spec: AxisSpec,
+    words: &[String],
+) -> Result<String, Fault> {
+    match operation {
+        "size" => size(alloc, Axes::build(alloc, &[spec], &[1])),
+        "step" => step(alloc, spec, words),
+        "compare" => compare(alloc, spec, words),
+        "cursor" => cursor(alloc, spec, words),
+        _ => Err(Fault::Malformed),
+    }
+}
+
+fn size(alloc: Global, axes: Result<Axes, AxesFault>) -> Result<String, Fault> {
+    let size = axes?.size();
+    Ok(format!(in alloc; "{size}")?)
+}
+
+/// The value at a position.
+fn step(alloc: Global, spec: AxisSpec, words: &[String]) -> Result<String, Fault> {
+    let position = number(one(words)?)?;
+    let axes = Axes::build(alloc, &[spec], &[1])?;
+    if position >= axes.size() {
+        return Err(Fault::Malformed);
+    }
+    Ok(axes.step(0, position).text(alloc)?)
+}
+
+/// How the value at a position stands to a number.
+fn compare(alloc: Global, spec: AxisSpec, words: &[String]) -> Result<String, Fault> {
+    let (position, with) = two(words)?;
+    let position = number(position)?;
+    let with = Fraction::from_decimal(with)?;
+    let axes = Axes::build(alloc, &[spec], &[1])?;
+    if position >= axes.size() {
+        return Err(Fault::Malformed);
+    }
+    let order = match axes.compare(0, position, with) {
+        Ordering::Less => "less",
+        Ordering::Equal => "equal",
+        Ordering::Greater => "greater",
+    };
+    Ok(String::from_str(alloc, order)?)
+}
+
+/// How many positions are left from a start on, which, what two further calls give, and how many are left then.
+fn cursor(alloc: Global, spec: AxisSpec, words: &[String]) -> Result<String, Fault> {
+    let from = number(one(words)?)?;
+    let axes = Axes::build(alloc, &[spec], &[1])?;
+    let mut cursor = GridCursor::new(&axes, from);
+    let count = cursor.remaining();
+    let mut shown = Written::new(alloc);
+    shown.push_number(count);
+    shown.push(" left:");
+    for _call in 0..count.saturating_add(2) {
+        push_position(&mut shown, cursor.next());
+    }
+    shown.push("; ");
+    shown.push_number(cursor.remaining());
+    shown.push(" left");
+    Ok(shown.finish()?)
+}
+
+fn push_position(shown: &mut Written, found: Option<u64>) {
+    shown.push(" ");
+    match found {
+        Some(position) => shown.push_number(position),
+        None => shown.push("none"),
+    }
+}

@@ -1,0 +1,118 @@
+//! Answers the cases on standard input: each names a public call of a library and its words, and behind it, or below it,
+//! stands what the call answers. So a row of a test costs the prover nothing.
+//!
+//! A case is a line `LAYER OPERATION WORD..`. A word has no blank, or stands in double quotes, with the escapes of
+//! Rust. Lines below it that begin with two blanks are the text that is its last word. Empty lines and lines with `#` are
+//! copied. `file PATH TEXT` adds a file to the rule set that later cases are about, and `rules` begins a new one.
+#![tactic(auto)]
+
+mod case;
+mod commands;
+mod expressions;
+mod fault;
+mod grid;
+mod num;
+mod params;
+mod time;
+mod tokens;
+mod words;
+mod written;
+mod yaml;
+
+use case::Case;
+use fault::Fault;
+use fisca_params::SourceFile;
+use std::alloc::{AllocError, Global};
+use std::io;
+
+fn main(rt: HostRuntime) -> io::Result<()> {
+    let mut files = Vec::new(rt.alloc());
+    let mut open = None;
+    for line in rt.lines(rt.alloc()) {
+        open = take_line(&rt, &mut files, open, line?)?;
+    }
+    close(&rt, &mut files, open)
+}
+
+/// Takes the next line: it belongs to the open case, or ends it.
+fn take_line(
+    rt: &HostRuntime,
+    files: &mut Vec<SourceFile>,
+    open: Option<Case>,
+    line: String,
+) -> io::Result<Option<Case>> {
+    if let Some(mut case) = open {
+        if case.takes(rt.alloc(), line.as_str())? {
+            return Ok(Some(case));
+        }
+        close(rt, files, Some(case))?;
+    }
+    if line.is_empty() || line.as_str().starts_with('#') {
+        println!(rt; "{line}")?;
+        return Ok(None);
+    }
+    Ok(Some(Case::new(line)))
+}
+
+/// Prints a case and its answer.
+fn close(rt: &HostRuntime, files: &mut Vec<SourceFile>, open: Option<Case>) -> io::Result<()> {
+    let Some(case) = open else { return Ok(()) };
+    let words = case.words(rt.alloc())?;
+    let answer = match answer(rt.alloc(), files, words.as_slice()) {
+        Ok(answer) => answer,
+        Err(fault) => fault.told(rt.alloc())?,
+    };
+    let shown = case.shown(rt.alloc(), answer.as_str())?;
+    println!(rt; "{shown}")
+}
+
+/// What the call of a case answers.
+fn answer(alloc: Global, files: &mut Vec<SourceFile>, words: &[String]) -> Result<String, Fault> {
+    match words {
+        [] => Err(Fault::Malformed),
+        [first, rest @ ..] => match first.as_str() {
+            "rules" => begin(alloc, files),
+            "file" => add(alloc, files, rest),
+            layer => ask(alloc, layer, files.as_slice(), rest),
+        },
+    }
+}
+
+/// Begins a new rule set.
+fn begin(alloc: Global, files: &mut Vec<SourceFile>) -> Result<String, Fault> {
+    files.clear();
+    Ok(String::from_str(alloc, "no files")?)
+}
+
+/// Adds the file `PATH TEXT` to the rule set, and answers its place.
+fn add(alloc: Global, files: &mut Vec<SourceFile>, words: &[String]) -> Result<String, Fault> {
+    let (path, text) = words::two(words)?;
+    let place = files.len();
+    let path = String::from_str(alloc, path)?;
+    let text = String::from_str(alloc, text)?;
+    files.push(SourceFile::new(path, text))?;
+    Ok(format!(in alloc; "file {place}")?)
+}
+
+/// What an operation of a layer answers.
+fn ask(
+    alloc: Global,
+    layer: &str,
+    files: &[SourceFile],
+    words: &[String],
+) -> Result<String, Fault> {
+    match words {
+        [] => Err(Fault::Malformed),
+        [operation, rest @ ..] => match layer {
+            "num" => num::answer(alloc, operation.as_str(), rest),
+            "time" => time::answer(alloc, operation.as_str(), rest),
+            "yaml" => yaml::answer(alloc, operation.as_str(), rest),
+            "params" => params::answer(alloc, operation.as_str(), files, rest),
+            "tokens" => tokens::answer(alloc, operation.as_str(), rest),
+            "expressions" => expressions::answer(alloc, operation.as_str(), rest),
+            "grid" => grid::answer(alloc, operation.as_str(), rest),
+            "commands" => commands::answer(alloc, operation.as_str(), files, rest),
+            _ => Err(Fault::Malformed),
+        },
+    }
+}

@@ -1,0 +1,47 @@
+//! A text that is written in pieces.
+
+use std::alloc::{AllocError, Global};
+use std::fmt::Display;
+
+/// A text that is being written. No piece is an error: that memory was refused is told at the end.
+#[derive(Drop)]
+pub struct Written {
+    text: String,
+    is_whole: bool,
+}
+
+impl Written {
+    pub fn new(alloc: Global) -> Written {
+        Written {
+            text: String::new(alloc),
+            is_whole: true,
+        }
+    }
+
+    pub fn push(&mut self, piece: &str) {
+        if self.text.push_str(piece).is_err() {
+            self.is_whole = false;
+        }
+    }
+
+    pub fn push_number(&mut self, number: u64) {
+        if write!(self.text, "{number}").is_err() {
+            self.is_whole = false;
+        }
+    }
+
+    pub fn push_shown(&mut self, value: &impl Display) {
+        if write!(self.text, "{value}").is_err() {
+            self.is_whole = false;
+        }
+    }
+
+    /// The whole text.
+    pub fn finish(self) -> Result<String, AllocError> {
+        if self.is_whole {
+            Ok(self.text)
+        } else {
+            Err(AllocError)
+        }
+    }
+}

@@ -32,6 +32,8 @@ fn read_text<'a>(alloc: Global, text: &'a str) -> Result<Module<'a>, FormulaFaul
 {
     let found = tokens(alloc, text)?;
     let joined = join_texts(alloc, found.as_slice())?;
+    // They take as much memory as a dozen texts.
+    drop(found);
     read_tokens(alloc, text, joined.as_slice())
 }
 

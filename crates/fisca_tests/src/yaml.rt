@@ -501,3 +501,16 @@ fn texts_without_escapes_are_as_they_stand(rt: HostRuntime) -> Result<(), Fail> 
     }
     Ok(())
 }
+
+#[test]
+fn an_entry_has_the_line_of_its_key(rt: HostRuntime) -> Result<(), Fail> {
+    let tree = read(rt.alloc(), "# none\na: 1\nb:\n  c: 2\n")?;
+    for (name, line) in [("a", 2), ("b", 3)] {
+        match tree.entry(name) {
+            Some(entry) => assert_eq!(rt; entry.line, line, "{name}"),
+            None => assert!(rt; false, "{name} has no entry"),
+        }
+    }
+    assert!(rt; tree.entry("c").is_none());
+    Ok(())
+}

@@ -19,16 +19,23 @@ use Rattle.fisca_commands.specs.declared.refusal.Refusal.TheVariants.{Params, Fo
 use Rattle.fisca_grid.specs.Condition.{condition_of, is_kept}
 use Rattle.fisca_grid.specs.Words.{axis_of}
 
+abbrev pub tab : ℕ
+tab = 9
+
+abbrev pub line_feed : ℕ
+line_feed = 10
+
 -- the line of a position: its number, a tab, the value and a line feed
 abbrev pub line_of : ℕ → Number → List ℕ
-line_of position value = decimal position ++ 9 ∷ text_of value ++ 10 ∷ []
+line_of position value = decimal position ++ tab ∷ text_of value ++ line_feed ∷ []
 
 -- the line of a value that meets the condition, and nothing for another
 abbrev pub row_of : Option Condition → ℕ → Result Number NumFault → Row Infallible
 row_of keep position (Ok value) = if is_kept keep value then Line (line_of position value) else Nothing
 row_of keep position (Err fault) = Nothing
 
--- what stands at a position of an axis, whose value there is always a number
+-- what stands at a position of an axis. Its value there is always a number, as `each_step_is_a_number` of `fisca_grid` says, so
+-- no line is left out for want of one
 abbrev pub axes_row : List AxisSpec → Option Condition → ℕ → Row Infallible
 axes_row [] keep position = Nothing
 axes_row (axis ∷ axes) keep position = row_of keep position (step_of axis position)

@@ -24,9 +24,12 @@ pub record Folder : Type 0 where
 abbrev pub entries_of : Folder → List ℕ → List Entry
 entries_of folder path = unwrap_or (folder.entries path) []
 
+abbrev pub slash : ℕ
+slash = 47
+
 -- the path of an entry
 abbrev pub path_in : List ℕ → Entry → List ℕ
-path_in path entry = path ++ (47 ∷ entry.name)
+path_in path entry = path ++ (slash ∷ entry.name)
 
 -- the folders in a folder
 abbrev pub folders_in : List ℕ → List Entry → List (List ℕ)

@@ -50,7 +50,6 @@ IsFaultOf fault BadWord = ⊥
 IsFaultOf fault BadCondition = ⊥
 IsFaultOf fault (Run other) = ⊥
 
-
 -- what the reading of modules answers, where this is their first fault or they have none
 abbrev pub IsModuleCheck : Option FileFault → Result Unit Refusal → Type 0
 IsModuleCheck None (Ok done) = ⊤

@@ -27,26 +27,10 @@ enum TimeFault {
     NoSubperiods,
 }
 
-#[derive(Clone, Copy, Debug, PartialEq, Eq, Hash)]
+/// The unit above the start above the size.
+#[derive(Clone, Copy, Debug, PartialEq, Eq, PartialOrd, Ord, Hash)]
 struct Period {
-    first: u32,
-    size: u16,
-    unit: Unit,
-}
-
-impl Ord for Period {
-    fn cmp(&self, other: &Period) -> std::cmp::Ordering {
-        self.unit
-            .cmp(&other.unit)
-            .then(self.first.cmp(&other.first))
-            .then(self.size.cmp(&other.size))
-    }
-}
-
-impl PartialOrd for Period {
-    fn partial_cmp(&self, other: &Period) -> Option<std::cmp::Ordering> {
-        Some(self.cmp(other))
-    }
+    key: u64,
 }
 
 #[derive(Clone, Copy)]
@@ -191,7 +175,28 @@ fn written_period(text: &str) -> Option<Form> {
 }
 
 impl Period {
-    const ETERNITY: Period = Period { first: 0, size: 0, unit: Unit::Eternity };
+    const ETERNITY: Period = Period { key: 3 << 48 };
+
+    fn of(unit: Unit, first: u32, size: u16) -> Period {
+        Period { key: (unit as u64) << 48 | u64::from(first) << 16 | u64::from(size) }
+    }
+
+    fn unit(self) -> Unit {
+        match self.key >> 48 {
+            0 => Unit::Day,
+            1 => Unit::Month,
+            2 => Unit::Year,
+            _ => Unit::Eternity,
+        }
+    }
+
+    fn first(self) -> u32 {
+        (self.key >> 16) as u32
+    }
+
+    fn size(self) -> u16 {
+        self.key as u16
+    }
 
     fn read(text: &str) -> Result<Period, TimeFault> {
         if text == "ETERNITY" || text == "eternity" {
@@ -211,15 +216,15 @@ impl Period {
     }
 
     fn text(self) -> String {
-        if self.unit == Unit::Day {
-            let Day { year, month, day } = Day::of_number(self.first);
-            return match self.size {
+        if self.unit() == Unit::Day {
+            let Day { year, month, day } = Day::of_number(self.first());
+            return match self.size() {
                 1 => format!("{year:04}-{month:02}-{day:02}"),
                 size => format!("day:{year:04}-{month:02}-{day:02}:{size}"),
             };
         }
-        let (year, month, size) = (self.first / 12, self.first % 12 + 1, self.size);
-        match (self.unit, month, size) {
+        let (year, month, size) = (self.first() / 12, self.first() % 12 + 1, self.size());
+        match (self.unit(), month, size) {
             (Unit::Day | Unit::Eternity, ..) => String::from("ETERNITY"),
             (Unit::Month, _, 1) => format!("{year:04}-{month:02}"),
             (Unit::Month, ..) => format!("month:{year:04}-{month:02}:{size}"),
@@ -231,101 +236,101 @@ impl Period {
     }
 
     fn start(self) -> Option<Day> {
-        match self.unit {
-            Unit::Day => Some(Day::of_number(self.first)),
-            Unit::Month | Unit::Year => Some(Day::first_of(self.first)),
+        match self.unit() {
+            Unit::Day => Some(Day::of_number(self.first())),
+            Unit::Month | Unit::Year => Some(Day::first_of(self.first())),
             Unit::Eternity => None,
         }
     }
 
     fn start_day(self) -> u32 {
-        match self.unit {
-            Unit::Day => self.first,
-            Unit::Month | Unit::Year => month_start(self.first),
+        match self.unit() {
+            Unit::Day => self.first(),
+            Unit::Month | Unit::Year => month_start(self.first()),
             Unit::Eternity => 0,
         }
     }
 
     fn stop_day(self) -> u32 {
-        match self.unit {
-            Unit::Day => self.first + u32::from(self.size),
-            Unit::Month | Unit::Year => month_start(self.first + self.month_count()),
+        match self.unit() {
+            Unit::Day => self.first() + u32::from(self.size()),
+            Unit::Month | Unit::Year => month_start(self.first() + self.month_count()),
             Unit::Eternity => 0,
         }
     }
 
     fn overlaps(self, other: &Period) -> bool {
-        if self.unit == Unit::Eternity || other.unit == Unit::Eternity {
+        if self.unit() == Unit::Eternity || other.unit() == Unit::Eternity {
             return true;
         }
-        if self.unit == Unit::Day || other.unit == Unit::Day {
+        if self.unit() == Unit::Day || other.unit() == Unit::Day {
             return self.start_day() < other.stop_day() && other.start_day() < self.stop_day();
         }
-        self.first < other.first + other.month_count() && other.first < self.first + self.month_count()
+        self.first() < other.first() + other.month_count() && other.first() < self.first() + self.month_count()
     }
 
     fn month_count(self) -> u32 {
-        u32::from(months_in(self.unit)) * u32::from(self.size)
+        u32::from(months_in(self.unit())) * u32::from(self.size())
     }
 
     fn months(self) -> Option<u32> {
-        match self.unit {
+        match self.unit() {
             Unit::Day | Unit::Eternity => None,
             _ => Some(self.month_count()),
         }
     }
 
     fn sub_count(self, unit: Unit) -> Result<u32, TimeFault> {
-        match (unit, self.unit) {
+        match (unit, self.unit()) {
             (Unit::Day, Unit::Day | Unit::Month | Unit::Year) => Ok(self.stop_day() - self.start_day()),
             (Unit::Month, Unit::Month | Unit::Year) => Ok(self.month_count()),
-            (Unit::Year, Unit::Year) => Ok(u32::from(self.size)),
+            (Unit::Year, Unit::Year) => Ok(u32::from(self.size())),
             _ => Err(TimeFault::NoSubperiods),
         }
     }
 
     fn sub(self, unit: Unit, i: u32) -> Period {
         match unit {
-            Unit::Day => Period { first: self.start_day() + i, size: 1, unit },
-            Unit::Month => Period { first: self.first + i, size: 1, unit },
-            _ => Period { first: 12 * (self.first / 12 + i), size: 1, unit: Unit::Year },
+            Unit::Day => Period::of(unit, self.start_day() + i, 1),
+            Unit::Month => Period::of(unit, self.first() + i, 1),
+            _ => Period::of(Unit::Year, 12 * (self.first() / 12 + i), 1),
         }
     }
 
     fn this_year(self) -> Result<Period, TimeFault> {
-        if self.unit == Unit::Eternity {
+        if self.unit() == Unit::Eternity {
             return Err(TimeFault::OutOfRange);
         }
-        Ok(Period { first: 12 * (self.first / 12), size: 1, unit: Unit::Year })
+        Ok(Period::of(Unit::Year, 12 * (self.first() / 12), 1))
     }
 
     fn first_month(self) -> Result<Period, TimeFault> {
-        if self.unit == Unit::Eternity {
+        if self.unit() == Unit::Eternity {
             return Err(TimeFault::OutOfRange);
         }
-        Ok(Period { first: self.first, size: 1, unit: Unit::Month })
+        Ok(Period::of(Unit::Month, self.first(), 1))
     }
 
     fn last_3_months(self) -> Result<Period, TimeFault> {
-        if self.unit == Unit::Eternity {
+        if self.unit() == Unit::Eternity {
             return Err(TimeFault::OutOfRange);
         }
-        Period::from_month(Unit::Month, 3, i128::from(self.first) - 3)
+        Period::from_month(Unit::Month, 3, i128::from(self.first()) - 3)
     }
 
     fn offset(self, k: i64) -> Result<Period, TimeFault> {
-        self.offset_by(k, self.unit)
+        self.offset_by(k, self.unit())
     }
 
     fn offset_by(self, k: i64, unit: Unit) -> Result<Period, TimeFault> {
-        if self.unit == Unit::Eternity || unit == Unit::Eternity {
+        if self.unit() == Unit::Eternity || unit == Unit::Eternity {
             return Err(TimeFault::OutOfRange);
         }
         let moved = i128::from(k) * i128::from(months_in(unit));
-        match (self.unit, unit) {
-            (Unit::Day, Unit::Day) => Period::from_day(self.size, i128::from(self.first) + i128::from(k)),
+        match (self.unit(), unit) {
+            (Unit::Day, Unit::Day) => Period::from_day(self.size(), i128::from(self.first()) + i128::from(k)),
             (Unit::Day, _) => {
-                let start = Day::of_number(self.first);
+                let start = Day::of_number(self.first());
                 let month = i128::from(start.month_number()) + moved;
                 if month < i128::from(FIRST_MONTH) || month >= i128::from(END_MONTH) {
                     return Err(TimeFault::OutOfRange);
@@ -333,10 +338,10 @@ impl Period {
                 let (year, month) = (month as u32 / 12, month as u32 % 12 + 1);
                 let day = u32::from(start.day).min(days_in_month(year, month));
                 let start = Day { year: year as u16, month: month as u8, day: day as u8 };
-                Period::from_day(self.size, i128::from(start.number()))
+                Period::from_day(self.size(), i128::from(start.number()))
             }
             (_, Unit::Day) => Err(TimeFault::OutOfRange),
-            _ => Period::from_month(self.unit, self.size, i128::from(self.first) + moved),
+            _ => Period::from_month(self.unit(), self.size(), i128::from(self.first()) + moved),
         }
     }
 
@@ -344,7 +349,7 @@ impl Period {
         if first < i128::from(FIRST_DAY) || first > i128::from(END_DAY - u32::from(size)) {
             return Err(TimeFault::OutOfRange);
         }
-        Ok(Period { first: first as u32, size, unit: Unit::Day })
+        Ok(Period::of(Unit::Day, first as u32, size))
     }
 
     fn from_month(unit: Unit, size: u16, first: i128) -> Result<Period, TimeFault> {
@@ -352,7 +357,7 @@ impl Period {
         if first < i128::from(FIRST_MONTH) || first > i128::from(END_MONTH - months) {
             return Err(TimeFault::OutOfRange);
         }
-        Ok(Period { first: first as u32, size, unit })
+        Ok(Period::of(unit, first as u32, size))
     }
 }
 

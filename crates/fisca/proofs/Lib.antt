@@ -1,3 +1,3 @@
-mod FirstFiles
+mod Commands
 mod Matches
 mod Parses

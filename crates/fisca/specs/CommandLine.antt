@@ -61,4 +61,4 @@ IsCheckTask rows (Axes words keep from limit) = ⊥
 -- the task of the command with this name and these matches
 abbrev pub IsTaskOf : Option (Text × List Row) → Task → Type 0
 IsTaskOf None task = ⊥
-IsTaskOf (Some command) task = ((command.0 ≡ codes "axes") × IsAxesTask command.1 task) ⊎ ((command.0 ≢ codes "axes") × IsCheckTask command.1 task)
+IsTaskOf (Some command) task = ((command.0 ≡ codes "check") × IsCheckTask command.1 task) ⊎ ((command.0 ≡ codes "axes") × IsAxesTask command.1 task)

@@ -5,10 +5,10 @@ mod folder;
 mod task;
 
 use clap::error::ErrorKind;
-use fisca_commands::{Ending, Task, run_task};
+use fisca_commands::{Ending, FolderFault, Task, read_rules, run_task};
 use fisca_grid::StreamSink;
 use fisca_params::SourceFile;
-use folder::{FolderFault, read_rules};
+use folder::DiskFolder;
 use std::io::{BufWriter, Write};
 use std::process::ExitCode;
 use std::{env, io};
@@ -67,7 +67,7 @@ fn print_text(rt: &HostRuntime, error: &clap::Error) -> u8 {
 /// Runs a task over the files of the folder that it names, if it names one, and answers the exit status.
 fn run_task_of(rt: &HostRuntime, task: &Task<'_>) -> u8 {
     match task {
-        Task::Check { rules } => match read_rules(rt, rules) {
+        Task::Check { rules } => match read_rules(rt.alloc(), &DiskFolder::new(rt, rules)) {
             Ok(files) => run_over(rt, task, files.as_slice()),
             Err(fault) => tell_folder(rt, rules, fault),
         },

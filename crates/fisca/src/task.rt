@@ -28,15 +28,15 @@ const CHECK_ABOUT: &str = "Check the rule files of a folder";
 
 const CHECK_LONG: &str = "Check the rule files of a folder, and print what they hold.
 
-It reads the parameter files, parameters/**/*.yaml and .yml, at most 8 folders deep, in the order
-of their paths, and prints one line: entities E, variables V, parameters P. Entities and variables
-are not read yet. A file that is refused is told by one line on standard error:
-fisca: PATH:LINE: FAULT.";
+It reads the parameter files, parameters/**/*.yaml and .yml, and then the modules, entities.py and
+variables/**/*.py, at most 8 folders deep, each in the order of their paths, and prints one line:
+entities E, variables V, parameters P. What modules declare is not counted yet. A file that is
+refused is told by one line on standard error: fisca: PATH:LINE: FAULT.";
 
 const CHECK_EXAMPLE: &str = "Example:
   fisca check examples/household";
 
-const RULES_HELP: &str = "The folder of the rule set, in which the folder parameters stands";
+const RULES_HELP: &str = "The folder of the rule set: entities.py, variables and parameters";
 
 const AXES_ABOUT: &str = "List the values of an axis";
 
@@ -220,8 +220,9 @@ pub fn read_task<'a>(alloc: Global, words: &'a [String]) -> Result<Task<'a>, Err
 {
     let matches = command(alloc)?.try_get_matches_from(words)?;
     match matches.subcommand() {
+        Some(("check", inner)) => Ok(check_task(inner)),
         Some(("axes", inner)) => Ok(axes_task(alloc, inner)?),
-        Some((_, inner)) => Ok(check_task(inner)),
+        Some(_) => unreachable!(),
         None => unreachable!(),
     }
 }

@@ -2,6 +2,7 @@
 //! answers. The same work is done by a plain Rust program under `bench/`, which prints the same checksum.
 #![tactic(auto)]
 
+mod modules;
 mod numbers;
 mod params;
 mod periods;
@@ -21,6 +22,7 @@ fn main(rt: HostRuntime) -> io::Result<()> {
     match words.as_slice() {
         [] => list(&rt),
         [subject, rest @ ..] => match subject.as_str() {
+            "modules" => modules::run(&rt, rt.alloc(), rest),
             "numbers" => numbers::run(&rt, rt.alloc(), rest),
             "params" => params::run(&rt, rt.alloc(), rest),
             "periods" => periods::run(&rt, rt.alloc(), rest),
@@ -34,6 +36,8 @@ fn main(rt: HostRuntime) -> io::Result<()> {
 /// Lists the benchmarks.
 fn list(rt: &impl Print) -> io::Result<()> {
     println!(rt; "fisca_bench SUBJECT WORD.. COUNT")?;
+    println!(rt; "modules NAME COUNT")?;
+    println!(rt; "modules FILE")?;
     println!(rt; "numbers add|mul|cmp|text|decimal whole|hundredths|unlike COUNT")?;
     println!(rt; "params read|value_at|calc [whole|hundredths] COUNT")?;
     println!(rt; "periods read|text|offset|named|sub|compare|hash COUNT")?;

@@ -1,5 +1,5 @@
 -- The status that is told of an answer is 5 exactly where the sink failed.
-use Rattle.std.proofs.Common.{◌≡◌, ◌≢◌, ◌⊎◌, inl, inr, ℕ, ◌==◌, ◌&&◌, cond, is_ok, Bool, true, false, List, [], ◌∷◌, Option, Some, None, Result, Ok, Err, MatchResult, refl, sym, ap, ◌∙◌}
+use Rattle.std.proofs.Common.{◌≡◌, inl, inr, ℕ, ◌==◌, ◌&&◌, cond, is_ok, Bool, false, List, [], ◌∷◌, Option, Some, None, Result, Ok, Err, MatchResult, refl, sym, ap, ◌∙◌}
 use Rattle.std.proofs.lemmas.Bool.{ne_eqb, true≢false}
 use Rattle.fisca_grid.specs.Axes.{axes_fault}
 use Rattle.fisca_grid.specs.Sink.{one_more}
@@ -15,7 +15,7 @@ use Rattle.fisca_commands.specs.AxesRun.{FilteredAxes, required_condition, optio
 use Rattle.fisca_commands.specs.Ending.{Outcome, IsTold, IsRunEnding}
 use Rattle.fisca_commands.specs.Refusal.{status_of}
 use Rattle.fisca_commands.specs.declared.refusal.Refusal.{Refusal}
-use Rattle.fisca_commands.specs.declared.refusal.Refusal.TheVariants.{Params, Axes, BadWord, BadCondition, Run, Write, Memory, TooManyFiles}
+use Rattle.fisca_commands.specs.declared.refusal.Refusal.TheVariants.{Params, Formula, Axes, BadWord, BadCondition, Run, Write, Memory, TooManyFiles}
 
 -- no refusal of words, axes or conditions is a failed write
 abbrev IsUnwritten : {X : Type 0} → Result X Refusal → Type 0
@@ -68,6 +68,7 @@ not_write (Err refusal) from limit old new h (inr e, kept) = true≢false (ap is
 failed_write : (words : List (List ℕ)) (keep : Option (List ℕ)) (from : ℕ) (limit : Option ℕ) (old new : Option (List ℕ)) (refusal : Refusal)
     → IsAxesAnswer words keep from limit old new (Err refusal) → (status_of refusal == 5) ≡ is_write (Err refusal)
 failed_write words keep from limit old new (Params path line fault) answer = refl
+failed_write words keep from limit old new (Formula path line kind) answer = refl
 failed_write words keep from limit old new (Axes fault) answer = unwritten_fault fault
 failed_write words keep from limit old new BadWord answer = refl
 failed_write words keep from limit old new BadCondition answer = refl

@@ -1,3 +1,6 @@
 mod ManyWords
 mod Parts
+mod FirstModule
 mod Endings
+mod Looks
+mod FirstFiles

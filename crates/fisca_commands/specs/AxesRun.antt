@@ -15,20 +15,27 @@ use Rattle.fisca_grid.specs.declared.axes.AxesFault.TheVariants.{NoAxes}
 use Rattle.fisca_grid.specs.declared.fault.RunEnd.{RunEnd}
 use Rattle.fisca_grid.specs.declared.condition.Condition.{Condition}
 use Rattle.fisca_commands.specs.declared.refusal.Refusal.{Refusal}
-use Rattle.fisca_commands.specs.declared.refusal.Refusal.TheVariants.{Params, Axes, BadWord, BadCondition, Run, Write, Memory, TooManyFiles}
+use Rattle.fisca_commands.specs.declared.refusal.Refusal.TheVariants.{Params, Formula, Axes, BadWord, BadCondition, Run, Write, Memory, TooManyFiles}
 use Rattle.fisca_grid.specs.Condition.{condition_of, is_kept}
 use Rattle.fisca_grid.specs.Words.{axis_of}
 
+abbrev pub tab : ℕ
+tab = 9
+
+abbrev pub line_feed : ℕ
+line_feed = 10
+
 -- the line of a position: its number, a tab, the value and a line feed
 abbrev pub line_of : ℕ → Number → List ℕ
-line_of position value = decimal position ++ 9 ∷ text_of value ++ 10 ∷ []
+line_of position value = decimal position ++ tab ∷ text_of value ++ line_feed ∷ []
 
 -- the line of a value that meets the condition, and nothing for another
 abbrev pub row_of : Option Condition → ℕ → Result Number NumFault → Row Infallible
 row_of keep position (Ok value) = if is_kept keep value then Line (line_of position value) else Nothing
 row_of keep position (Err fault) = Nothing
 
--- what stands at a position of an axis, whose value there is always a number
+-- what stands at a position of an axis. Its value there is always a number, as `each_step_is_a_number` of `fisca_grid` says, so
+-- no line is left out for want of one
 abbrev pub axes_row : List AxisSpec → Option Condition → ℕ → Row Infallible
 axes_row [] keep position = Nothing
 axes_row (axis ∷ axes) keep position = row_of keep position (step_of axis position)
@@ -90,6 +97,7 @@ is_write (Err Memory) = false
 is_write (Err Write) = false
 is_write (Err TooManyFiles) = false
 is_write (Err (Params path line fault)) = false
+is_write (Err (Formula path line kind)) = false
 
 -- what `axes` answers for these words and this condition, where a sink held `old` and then holds `new`
 abbrev pub IsAxesAnswer : List (List ℕ) → Option (List ℕ) → ℕ → Option ℕ → Option (List ℕ) → Option (List ℕ) → Result RunEnd Refusal → Type 0

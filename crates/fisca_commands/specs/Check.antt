@@ -1,22 +1,22 @@
 -- What `fisca check` answers and writes.
-use Rattle.std.specs.Prelude.{◌≡◌, ℕ, ◌<◌, ◌≤◌, ◌++◌, Bool, true, false, List, [], count_by, codes, slice_get, string_bytes, Option, Some, None, Result, Ok, Err, is_some, ⊤}
+use Rattle.std.specs.Prelude.{◌≡◌, ℕ, ◌<◌, ◌≤◌, ◌++◌, Bool, true, false, List, [], count_by, codes, slice_get, string_bytes, Option, Some, None, Result, Ok, Err, ⊤}
 use Rattle.std.specs.Fmt.{decimal}
 use Rattle.std.specs.Io.KnownBytes.{Appends, Keeps}
-use Rattle.fisca_grid.specs.Run.{IsProperPrefix}
+use Rattle.fisca_grid.specs.Run.{AppendsPart}
 use Rattle.fisca_params.specs.Answers.{Refuses}
 use Rattle.fisca_params.specs.Source.{Source}
-use Rattle.fisca_params.specs.Paths.{names_of}
-use Rattle.fisca_params.specs.Files.{tree_of}
+use Rattle.fisca_params.specs.Files.{tree_of, in_path_order}
 use Rattle.fisca_params.specs.Tree.{TreeNode}
 use Rattle.fisca_params.specs.Lookup.{is_counted}
 use Rattle.fisca_params.specs.declared.fault.ParamFault.{ParamFault}
 use Rattle.fisca_params.specs.declared.fault.ParamFault.TheVariants as params
+use Rattle.fisca_commands.specs.Modules.{is_rule_path, first_fault, IsModuleCheck}
 use Rattle.fisca_commands.specs.declared.refusal.Refusal.{Refusal}
-use Rattle.fisca_commands.specs.declared.refusal.Refusal.TheVariants.{Params, Axes, BadWord, BadCondition, Run, Write, Memory, TooManyFiles}
+use Rattle.fisca_commands.specs.declared.refusal.Refusal.TheVariants.{Params, Formula, Axes, BadWord, BadCondition, Run, Write, Memory, TooManyFiles}
 
 -- how many files are not ignored
 abbrev pub count_of_files : List Source → ℕ
-count_of_files = count_by (λ file. is_some (names_of file.path))
+count_of_files = count_by (λ file. is_rule_path file.path)
 
 -- the line of so many dated parameters and scales
 abbrev pub text_of_count : ℕ → List ℕ
@@ -26,9 +26,13 @@ text_of_count parameters = codes "entities 0, variables 0, parameters " ++ decim
 abbrev pub text_of : List TreeNode → List ℕ
 text_of tree = text_of_count (count_by is_counted tree)
 
--- the parameter files make this tree, and are not too many
+-- the files are not too many, and the parameter files make this tree
+abbrev pub HasTree : List Source → List TreeNode → Type 0
+HasTree files tree = (count_of_files files ≤ 1000) × (tree_of files ≡ Ok tree)
+
+-- and each module can be read
 abbrev pub IsAccepted : List Source → List TreeNode → Type 0
-IsAccepted files tree = (count_of_files files ≤ 1000) × (tree_of files ≡ Ok tree)
+IsAccepted files tree = HasTree files tree × (first_fault (in_path_order files) ≡ None)
 
 -- the file of a fault, by its place among the files, and the line there
 abbrev pub place_of : ParamFault → Option (ℕ × ℕ)
@@ -55,7 +59,9 @@ IsCheck files old new (Ok done) = (tree : List TreeNode) × IsAccepted files tre
 IsCheck files old new (Err TooManyFiles) = (1000 < count_of_files files) × Keeps old new
 IsCheck files old new (Err (Params path line fault)) =
     (count_of_files files ≤ 1000) × Refuses fault (tree_of files) × StandsAt files (place_of fault) (string_bytes path) line × Keeps old new
-IsCheck files old new (Err Write) = (tree : List TreeNode) × IsAccepted files tree × ((part : List ℕ) × IsProperPrefix part (text_of tree) × Appends old new part)
+IsCheck files old new (Err (Formula path line kind)) =
+    ((tree : List TreeNode) × HasTree files tree) × (IsModuleCheck (first_fault (in_path_order files)) (Err (Formula path line kind)) × Keeps old new)
+IsCheck files old new (Err Write) = (tree : List TreeNode) × IsAccepted files tree × AppendsPart (text_of tree) old new
 IsCheck files old new (Err Memory) = Keeps old new
 IsCheck files old new (Err (Axes fault)) = ⊥
 IsCheck files old new (Err BadWord) = ⊥
@@ -65,6 +71,7 @@ IsCheck files old new (Err (Run fault)) = ⊥
 -- the refusal tells this fault and where it stands, or that memory was refused
 abbrev pub IsToldOf : List Source → ParamFault → Refusal → Type 0
 IsToldOf files fault (Params path line told) = (told ≡ fault) × StandsAt files (place_of fault) (string_bytes path) line
+IsToldOf files fault (Formula path line kind) = ⊥
 IsToldOf files fault Memory = ⊤
 IsToldOf files fault TooManyFiles = ⊥
 IsToldOf files fault Write = ⊥
@@ -76,6 +83,7 @@ IsToldOf files fault (Run other) = ⊥
 -- the same of a path and a line that are known
 abbrev pub IsToldAt : List ℕ → ℕ → ParamFault → Refusal → Type 0
 IsToldAt path line fault (Params told_path told_line told) = (told ≡ fault) × (string_bytes told_path ≡ path) × (told_line ≡ line)
+IsToldAt path line fault (Formula other_path other_line kind) = ⊥
 IsToldAt path line fault Memory = ⊤
 IsToldAt path line fault TooManyFiles = ⊥
 IsToldAt path line fault Write = ⊥
@@ -91,6 +99,7 @@ is_check_write (Err Write) = true
 is_check_write (Err Memory) = false
 is_check_write (Err TooManyFiles) = false
 is_check_write (Err (Params path line fault)) = false
+is_check_write (Err (Formula path line kind)) = false
 is_check_write (Err (Axes fault)) = false
 is_check_write (Err BadWord) = false
 is_check_write (Err BadCondition) = false

@@ -1,7 +1,7 @@
 -- How a command ends: what it answers, tells and writes.
 use Rattle.std.specs.Prelude.{◌≡◌, ◌≢◌, ◌⊎◌, ℕ, List, map, Option, Some, None, option_map, Result, Ok, Err, string_bytes}
 use Rattle.std.specs.Io.KnownBytes.{Appends, Keeps}
-use Rattle.fisca_grid.specs.Run.{IsProperPrefix}
+use Rattle.fisca_grid.specs.Run.{AppendsPart}
 use Rattle.fisca_grid.specs.declared.fault.RunEnd.{RunEnd}
 use Rattle.fisca_params.specs.Source.{Source}
 use Rattle.fisca_commands.specs.declared.refusal.Refusal.{Refusal}
@@ -33,7 +33,7 @@ IsTold refusal outcome = (outcome ≡ told_of refusal) ⊎ ((outcome ≡ told_of
 abbrev pub IsRunEnding : Result RunEnd Refusal → Option (List ℕ) → Option (List ℕ) → Outcome → Type 0
 IsRunEnding (Ok end) old new outcome =
     ((outcome ≡ done) × Appends old new (last_line end))
-    ⊎ ((outcome ≡ told_of Write) × ((part : List ℕ) × IsProperPrefix part (last_line end) × Appends old new part))
+    ⊎ ((outcome ≡ told_of Write) × AppendsPart (last_line end) old new)
 IsRunEnding (Err refusal) old new outcome = IsTold refusal outcome × Keeps old new
 
 -- how `axes` ends: the run writes its lines, and then ends

@@ -3,7 +3,7 @@
 ghost use Rattle.std.specs.Prelude.{◌≡◌, ◌≢◌, ℕ, ◌<◌, length, slice_get, ◌+◌, ◌++◌, ◌∷◌, [], map, cond, option_map, IfOk, IfErr, IfSome, OnOk, Ok, Err, Some, None, string_bytes};
 ghost use Rattle.std.specs.Fmt.{decimal};
 ghost use Rattle.fisca_grid.specs.Axes.{axes_fault, size_of, step_of};
-ghost use Rattle.fisca_grid.specs.Sink.{one_more};
+ghost use Rattle.fisca_grid.specs.Sink.{CountsFailure};
 ghost use Rattle.fisca_grid.specs.Condition.{is_kept};
 ghost use Rattle.fisca_grid.specs.Words.{axis_of};
 ghost use Rattle.fisca_commands.specs.AxesRun.{axes_of_words, required_axis, axis_within_limits, optional_condition, IsAxesAnswer, is_write, line_of};
@@ -175,7 +175,7 @@ pub fn axes_words<S: RowSink>(
     sink: &mut S,
 ) -> Result<RunEnd, Refusal>
     ensures answer { IsAxesAnswer (map (λ word. string_bytes word) words.now) (option_map (λ text. text.now) keep.entry) from rows (S.taken sink.old) (S.taken sink.new) result }
-    ensures failures { S.failures sink.new ≡ cond (is_write result) (one_more (S.failures sink.old)) (S.failures sink.old) }
+    ensures failures { CountsFailure (is_write result) (S.failures sink.old) (S.failures sink.new) }
 {
     let mut axis_rows = read_words(alloc, words, keep)?;
     match write_lines(alloc, &mut axis_rows, from, rows, sink) {

@@ -1,11 +1,12 @@
 //! `fisca check`: whether the files of a rule set are accepted, and what they hold.
 
 ghost use Rattle.std.specs.Prelude.{◌≡◌, ℕ, ◌<◌, cond, IfOk, IfSome, OnOk, IsTrue, ◌↔◌, string_bytes, length};
-ghost use Rattle.fisca_grid.specs.Sink.{one_more};
+ghost use Rattle.fisca_grid.specs.Sink.{CountsFailure};
 ghost use Rattle.fisca_params.specs.Answers.{file_of, Refuses};
 ghost use Rattle.fisca_params.specs.Files.{tree_of};
 ghost use Rattle.fisca_commands.specs.Check.{count_of_files, text_of_count, IsCheck, IsToldOf, IsToldAt, is_check_write};
 
+use super::modules::{is_rule_path, read_modules};
 use super::refusal::Refusal;
 use fisca_grid::{RowSink, hand_over};
 use fisca_params::{ParamFault, ParamTree, SourceFile};
@@ -14,11 +15,14 @@ use std::alloc::{AllocError, Global};
 /// A rule set has at most so many files.
 const MOST_FILES: usize = 1000;
 
-/// How many of the files belong to the rule set; others are ignored. At present those are its parameter files.
+/// How many of the files belong to the rule set, as parameter files or as modules; others are ignored.
 fn count_files(files: &[SourceFile]) -> usize
     ensures { result ≡ count_of_files files.now }
 {
-    files.iter().filter(|file| file.is_parameter_file()).count()
+    files
+        .iter()
+        .filter(|file| is_rule_path(file.path()))
+        .count()
 }
 
 /// The line that `fisca check` prints of so many parameters and scales.
@@ -57,13 +61,15 @@ fn tell(alloc: Global, path: &str, line: usize, fault: ParamFault) -> Refusal
 }
 
 /// Checks the files of a rule set, and writes one line: how many entities, variables and dated parameters with scales
-/// it has. At present it has parameter files alone, and other files are ignored.
+/// it has. At present modules are read, and what they declare is not counted yet.
 ///
 /// The first refusal in this order is told, and nothing is written before it:
 ///
 /// - `TooManyFiles` exactly where more than 1,000 of the files are not ignored.
 /// - `Params` exactly where the parameter files make no tree: what is wrong with the first file, in order of the paths,
 ///   that makes none with those before it, its path, and the line that the fault names.
+/// - `Formula` exactly where each file before it is accepted and modules cannot be read: the path of the first that cannot,
+///   in order of the paths, and the line and the kind of its first fault.
 /// - `Write` only where the sink failed in this call: it has a proper beginning of the line.
 /// - `Memory` only where memory was refused.
 ///
@@ -74,7 +80,7 @@ pub fn check_rules<S: RowSink>(
     sink: &mut S,
 ) -> Result<(), Refusal>
     ensures answer { IsCheck files.now (S.taken sink.old) (S.taken sink.new) result }
-    ensures failures { S.failures sink.new ≡ cond (is_check_write result) (one_more (S.failures sink.old)) (S.failures sink.old) }
+    ensures failures { CountsFailure (is_check_write result) (S.failures sink.old) (S.failures sink.new) }
 {
     if count_files(files) > MOST_FILES {
         return Err(Refusal::TooManyFiles);
@@ -83,6 +89,7 @@ pub fn check_rules<S: RowSink>(
         Ok(tree) => tree,
         Err(fault) => return Err(refuse(alloc, files, fault)),
     };
+    read_modules(alloc, files)?;
     let text = text_of_count(alloc, tree.count())?;
     match hand_over(sink, text.as_bytes()) {
         Ok(()) => Ok(()),

@@ -1,10 +1,10 @@
 //! The line that tells how a run ended.
 
-ghost use Rattle.std.specs.Prelude.{◌≡◌, List, ℕ, ◌++◌, cond, is_ok, codes, OnOk, OnErr};
+ghost use Rattle.std.specs.Prelude.{◌++◌, is_err, codes, OnOk, OnErr};
 ghost use Rattle.std.specs.Fmt.{decimal};
 ghost use Rattle.std.specs.Io.KnownBytes.{Appends};
-ghost use Rattle.fisca_grid.specs.Run.{IsProperPrefix};
-ghost use Rattle.fisca_grid.specs.Sink.{one_more};
+ghost use Rattle.fisca_grid.specs.Run.{AppendsPart};
+ghost use Rattle.fisca_grid.specs.Sink.{CountsFailure};
 ghost use Rattle.fisca_commands.specs.LastLine.{last_line};
 
 use fisca_grid::{RowSink, RunEnd, SinkFault, hand_over};
@@ -15,8 +15,8 @@ use fisca_grid::{RowSink, RunEnd, SinkFault, hand_over};
 /// `Write` only where the sink failed in this call: it has a proper beginning of the line. This project's own rule.
 pub fn write_end<S: RowSink>(end: RunEnd, sink: &mut S) -> Result<(), SinkFault>
     ensures all { OnOk result (Appends (S.taken sink.old) (S.taken sink.new) (last_line end)) }
-    ensures part { OnErr result ((part : List ℕ) × IsProperPrefix part (last_line end) × Appends (S.taken sink.old) (S.taken sink.new) part) }
-    ensures failures { S.failures sink.new ≡ cond (is_ok result) (S.failures sink.old) (one_more (S.failures sink.old)) }
+    ensures part { OnErr result (AppendsPart (last_line end) (S.taken sink.old) (S.taken sink.new)) }
+    ensures failures { CountsFailure (is_err result) (S.failures sink.old) (S.failures sink.new) }
 {
     match end {
         RunEnd::End => hand_over(sink, b"end\n"),
@@ -30,8 +30,8 @@ pub fn write_end<S: RowSink>(end: RunEnd, sink: &mut S) -> Result<(), SinkFault>
 /// Writes a position and a line feed.
 fn write_rest<S: RowSink>(position: u64, sink: &mut S) -> Result<(), SinkFault>
     ensures all { OnOk result (Appends (S.taken sink.old) (S.taken sink.new) (decimal position ++ codes "\n")) }
-    ensures part { OnErr result ((part : List ℕ) × IsProperPrefix part (decimal position ++ codes "\n") × Appends (S.taken sink.old) (S.taken sink.new) part) }
-    ensures failures { S.failures sink.new ≡ cond (is_ok result) (S.failures sink.old) (one_more (S.failures sink.old)) }
+    ensures part { OnErr result (AppendsPart (decimal position ++ codes "\n") (S.taken sink.old) (S.taken sink.new)) }
+    ensures failures { CountsFailure (is_err result) (S.failures sink.old) (S.failures sink.new) }
 {
     hand_over(sink, itoa::Buffer::new().format(position).as_bytes())?;
     hand_over(sink, b"\n")

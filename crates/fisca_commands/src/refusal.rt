@@ -8,6 +8,7 @@ ghost use Rattle.fisca_commands.specs.Refusal.{number_of, status_of, reason_of, 
 use super::shown::write_shown;
 use fisca_grid::{AxesFault, RunFault};
 use fisca_params::ParamFault;
+use fisca_tokens::Kind;
 use std::alloc::{AllocError, Global};
 use std::convert::Infallible;
 use std::fmt::Write;
@@ -22,6 +23,12 @@ pub enum Refusal {
         path: String,
         line: usize,
         fault: ParamFault,
+    },
+    /// 2: a module is refused: its path, the line of the fault, counted from 1, and the fault's kind.
+    Formula {
+        path: String,
+        line: usize,
+        kind: Kind,
     },
     /// 6: the axes make no grid.
     Axes(AxesFault),
@@ -67,6 +74,7 @@ impl Refusal {
     {
         match self {
             Refusal::Params { .. } => 1,
+            Refusal::Formula { .. } => 2,
             Refusal::Axes(_) => 6,
             Refusal::BadWord => 7,
             Refusal::BadCondition => 8,
@@ -83,7 +91,7 @@ impl Refusal {
         ensures { result ≡ status_of self.now }
     {
         match self {
-            Refusal::Params { .. } | Refusal::TooManyFiles => 3,
+            Refusal::Params { .. } | Refusal::Formula { .. } | Refusal::TooManyFiles => 3,
             Refusal::Axes(AxesFault::Memory) => 6,
             Refusal::Axes(_) | Refusal::BadWord | Refusal::BadCondition => 3,
             Refusal::Run(RunFault::BadPosition) => 3,
@@ -101,6 +109,7 @@ impl Refusal {
     {
         match self {
             Refusal::Params { fault, .. } => fault.name(),
+            Refusal::Formula { kind, .. } => kind.name(),
             Refusal::Axes(AxesFault::Memory) => "out of memory",
             Refusal::Axes(fault) => fault.name(),
             Refusal::BadWord => "BadWord",
@@ -133,6 +142,11 @@ impl Refusal {
     {
         match self {
             Refusal::Params {
+                path,
+                line: number,
+                ..
+            }
+            | Refusal::Formula {
                 path,
                 line: number,
                 ..

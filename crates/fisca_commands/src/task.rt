@@ -1,7 +1,7 @@
 //! What a command line asks for, and the running of it.
 
-ghost use Rattle.std.specs.Prelude.{◌≡◌, ◌==◌, ◌&&◌, cond, is_ok, map, option_map, string_bytes};
-ghost use Rattle.fisca_grid.specs.Sink.{one_more};
+ghost use Rattle.std.specs.Prelude.{◌≡◌, ◌==◌, ◌&&◌, is_ok, map, option_map, string_bytes};
+ghost use Rattle.fisca_grid.specs.Sink.{CountsFailure};
 ghost use Rattle.fisca_commands.specs.Ending.{IsTaskEnding, IsAxesEnding, IsCheckEnding, IsRunEnding};
 
 use super::axes::axes_words;
@@ -45,7 +45,7 @@ pub fn run_task<S: RowSink>(
     sink: &mut S,
 ) -> Ending
     ensures ending { IsTaskEnding task.now files.now (S.taken sink.old) (S.taken sink.new) result }
-    ensures failures { S.failures sink.new ≡ cond (result.status == 5) (one_more (S.failures sink.old)) (S.failures sink.old) }
+    ensures failures { CountsFailure (result.status == 5) (S.failures sink.old) (S.failures sink.new) }
 {
     match task {
         Task::Check { rules: _ } => run_check(alloc, files, sink),
@@ -61,7 +61,7 @@ pub fn run_task<S: RowSink>(
 /// Checks files, and answers how that ended.
 fn run_check<S: RowSink>(alloc: Global, files: &[SourceFile], sink: &mut S) -> Ending
     ensures ending { IsCheckEnding files.now (S.taken sink.old) (S.taken sink.new) result }
-    ensures failures { S.failures sink.new ≡ cond (result.status == 5) (one_more (S.failures sink.old)) (S.failures sink.old) }
+    ensures failures { CountsFailure (result.status == 5) (S.failures sink.old) (S.failures sink.new) }
 {
     match check_rules(alloc, files, sink) {
         Ok(()) => Ending::done(),
@@ -79,7 +79,7 @@ fn run_axes<S: RowSink>(
     sink: &mut S,
 ) -> Ending
     ensures ending { IsAxesEnding (map (λ word. string_bytes word) words.now) (option_map (λ text. text.now) keep.entry) from rows (S.taken sink.old) (S.taken sink.new) result }
-    ensures failures { S.failures sink.new ≡ cond (result.status == 5) (one_more (S.failures sink.old)) (S.failures sink.old) }
+    ensures failures { CountsFailure (result.status == 5) (S.failures sink.old) (S.failures sink.new) }
 {
     let answer = axes_words(alloc, words, keep, from, rows, sink);
     end_run(alloc, answer, sink)
@@ -88,7 +88,7 @@ fn run_axes<S: RowSink>(
 /// Writes the last line of a run that nothing stopped, and answers how the run ended.
 fn end_run<S: RowSink>(alloc: Global, answer: Result<RunEnd, Refusal>, sink: &mut S) -> Ending
     ensures ending { IsRunEnding answer (S.taken sink.old) (S.taken sink.new) result }
-    ensures failures { S.failures sink.new ≡ cond (is_ok answer && (result.status == 5)) (one_more (S.failures sink.old)) (S.failures sink.old) }
+    ensures failures { CountsFailure (is_ok answer && (result.status == 5)) (S.failures sink.old) (S.failures sink.new) }
 {
     match answer {
         Ok(end) => match write_end(end, sink) {

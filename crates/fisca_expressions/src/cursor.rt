@@ -11,9 +11,9 @@ use crate::words::{is_left_out, is_name};
 use fisca_tokens::{Kind, Mark, Token};
 use std::marker::Model;
 
-/// The tokens that are left.
+/// The tokens of a text that are left, seen as signs.
 #[derive(Drop)]
-pub(crate) struct Cursor<'a, 't> {
+pub struct Cursor<'a, 't> {
     text: &'a [u8],
     rest: &'t [Token],
 }
@@ -95,7 +95,7 @@ impl<'a, 't> Cursor<'a, 't> {
     }
 
     /// What the next token does behind an expression.
-    pub fn joint(&self) -> Joint
+    pub(crate) fn joint(&self) -> Joint
         ensures { result ≡ spec.joint_ahead self.now }
     {
         match self.sign() {
@@ -105,7 +105,7 @@ impl<'a, 't> Cursor<'a, 't> {
     }
 
     /// The comparison that comes next.
-    pub fn comparison(&self) -> Option<Comparison>
+    pub(crate) fn comparison(&self) -> Option<Comparison>
         ensures { result ≡ spec.comparison_ahead self.now }
     {
         match self.sign() {

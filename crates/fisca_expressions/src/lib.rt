@@ -2,6 +2,7 @@
 #![tactic(auto)]
 
 mod cursor;
+mod law;
 mod made;
 mod marks;
 mod measured;
@@ -12,7 +13,10 @@ mod sign;
 mod tree;
 mod words;
 
-pub use reader::read_expression;
+pub use cursor::Cursor;
+pub use law::each_list_of_tokens_has_one_tree;
+pub use reader::{read_all, read_expression};
+pub use refusal::Refusal;
 pub use sign::{Sign, Slice};
 pub use tree::{
     Argument, Arguments, Bracket, Comparison, Expr, Mode, Operator, Place, Prefix, Suffix,

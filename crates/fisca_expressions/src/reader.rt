@@ -363,8 +363,9 @@ pub fn read_expression<'a>(
     }
 }
 
-/// The same, with the place of the first fault.
-fn read_all<'a>(
+/// The same, with the place of the first fault: the tree of the expression that all tokens are which are left, up to this
+/// height, or the first fault and how many tokens are left there.
+pub fn read_all<'a>(
     alloc: Global,
     cursor: &mut Cursor<'a, '_>,
     mode: Mode,

@@ -3,8 +3,10 @@ use std::alloc::{AllocError, AllocFailed};
 
 /// A refusal, and how many tokens are left where it stands.
 #[derive(Clone, Copy, Debug, PartialEq, Eq)]
-pub(crate) struct Refusal {
+pub struct Refusal {
+    /// How many tokens are left there.
     pub left: usize,
+    /// Why.
     pub kind: Kind,
 }
 

@@ -1,4 +1,4 @@
--- The plain names of the faults of axes.
+-- The numbers and the plain names of the faults of axes.
 use Rattle.std.specs.Prelude.{ℕ, List, codes}
 use Rattle.fisca_grid.specs.declared.axes.AxesFault.{AxesFault}
 use Rattle.fisca_grid.specs.declared.axes.AxesFault.TheVariants.{NoAxes, BadCount, BadBound, Memory}
@@ -8,3 +8,9 @@ name_of NoAxes = codes "NoAxes"
 name_of BadCount = codes "BadCount"
 name_of BadBound = codes "BadBound"
 name_of Memory = codes "Memory"
+
+abbrev pub number_of : AxesFault → ℕ
+number_of NoAxes = 1
+number_of BadCount = 3
+number_of BadBound = 9
+number_of Memory = 10

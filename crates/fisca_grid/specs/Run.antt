@@ -21,6 +21,10 @@ pub record IsProperPrefix (part text : List ℕ) : Type 0 where
   pub beginning : part ≡ take (length part) text
   pub shorter : length part < length text
 
+-- a sink that held `old` then holds a beginning of the text, and not all of it
+abbrev pub AppendsPart : List ℕ → Option (List ℕ) → Option (List ℕ) → Type 0
+AppendsPart text old new = (part : List ℕ) × IsProperPrefix part text × Appends old new part
+
 -- the end that an answer tells
 abbrev pub told_end : {F : Type 0} → RunEnd → End F
 told_end answer.End = AtEnd

@@ -1,6 +1,6 @@
 //! The axes of a grid.
 
-ghost use Rattle.std.specs.Prelude.{◌≡◌, ◌≢◌, ℕ, [], ◌∷◌, ◌≤◌, ◌<◌, ◌*◌, ◌+◌, ◌^◌, ◌+ℤ◌, ◌-ℤ◌, ◌*ℤ◌, pos, unsigned_abs, length, sum, IfOk, IfErr, IfSome, Some, None, Ok, true, slice_get};
+ghost use Rattle.std.specs.Prelude.{◌≡◌, ◌≢◌, ℕ, [], ◌∷◌, ◌≤◌, ◌<◌, ◌*◌, ◌+◌, ◌^◌, ◌+ℤ◌, ◌-ℤ◌, ◌*ℤ◌, pos, unsigned_abs, length, sum, IsOk, IfOk, IfErr, IfSome, Some, None, Ok, true, slice_get};
 ghost use Rattle.std.specs.Int.{◌∣◌, IsGcd};
 ghost use Rattle.std.specs.Option.{ForSome};
 ghost use Rattle.fisca_num.specs.Number.{number_cmp};
@@ -39,7 +39,7 @@ pub enum AxesFault {
 }
 
 impl AxesFault {
-    ghost use Rattle.fisca_grid.specs.AxesFault.{name_of};
+    ghost use Rattle.fisca_grid.specs.AxesFault.{name_of, number_of as number_of_fault};
 
     /// The plain name of the fault, as `BadCount`.
     pub fn name(self) -> &'static str
@@ -51,6 +51,13 @@ impl AxesFault {
             AxesFault::BadBound => "BadBound",
             AxesFault::Memory => "Memory",
         }
+    }
+
+    /// The number of the fault: 1, 3, 9 or 10.
+    pub fn number(self) -> u8
+        ensures { result ≡ number_of_fault self }
+    {
+        self as u8
     }
 }
 
@@ -192,6 +199,20 @@ impl Axis {
         let left = wide_product(self.numerator_at(place), number.denominator());
         let right = wide_product(number.numerator(), self.denominator);
         left.cmp(&right)
+    }
+}
+
+/// Each value of an accepted axis is a number within the limits of numbers.
+pub fn each_step_is_a_number(axis: AxisSpec, place: u64)
+    requires accepted { axis_fault axis ≡ None }
+    requires inside { place < axis.count }
+    ensures { IsOk (step_of axis place) }
+{
+    match Axis::new(axis) {
+        Ok(axis) => {
+            let _ = axis.value(place);
+        }
+        Err(_) => unreachable!(),
     }
 }
 

@@ -40,7 +40,7 @@ pub enum RunFault<F> {
 }
 
 impl<F> RunFault<F> {
-    ghost use Rattle.fisca_grid.specs.Fault.{name_of};
+    ghost use Rattle.fisca_grid.specs.Fault.{name_of, number_of};
 
     /// The plain name of the fault, as `BadPosition`.
     pub fn name(&self) -> &'static str
@@ -51,6 +51,18 @@ impl<F> RunFault<F> {
             RunFault::Eval { .. } => "Eval",
             RunFault::Write { .. } => "Write",
             RunFault::Memory { .. } => "Memory",
+        }
+    }
+
+    /// The number of the fault, from 1 to 4.
+    pub fn number(&self) -> u8
+        ensures { result ≡ number_of self.now }
+    {
+        match self {
+            RunFault::BadPosition => 1,
+            RunFault::Eval { .. } => 2,
+            RunFault::Write { .. } => 3,
+            RunFault::Memory { .. } => 4,
         }
     }
 }

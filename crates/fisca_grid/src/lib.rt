@@ -13,7 +13,7 @@ mod sink;
 mod stream_sink;
 mod words;
 
-pub use axes::{Axes, AxesFault, AxisSpec};
+pub use axes::{Axes, AxesFault, AxisSpec, each_step_is_a_number};
 pub use condition::{Comparison, Condition, read_condition};
 pub use cursor::GridCursor;
 pub use fault::{RowFault, RunEnd, RunFault};

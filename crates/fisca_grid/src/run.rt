@@ -1,8 +1,8 @@
 //! Writing the lines of a run.
 
-ghost use Rattle.std.specs.Prelude.{◌≡◌, ◌≢◌, ℕ, ◌-◌, ◌<◌, ◌↔◌, cond, option_map, IsErrOf};
+ghost use Rattle.std.specs.Prelude.{◌≡◌, ◌≢◌, ℕ, ◌-◌, ◌<◌, ◌↔◌, option_map, IsErrOf};
 ghost use Rattle.fisca_grid.specs.Run.{IsRun, IsRowWritten, is_write};
-ghost use Rattle.fisca_grid.specs.Sink.{one_more};
+ghost use Rattle.fisca_grid.specs.Sink.{CountsFailure};
 
 use super::fault::{RowFault, RunEnd, RunFault};
 use super::rows::{Rows, Selection};
@@ -27,7 +27,7 @@ pub fn write_lines<R: Rows, S: RowSink>(
 ) -> Result<RunEnd, RunFault<R::Fault>>
     ensures run { IsRun (R.row_at rows.old) (R.size rows.old) from limit (S.taken sink.old) (S.taken sink.new) result }
     ensures bad_position { IsErrOf result RunFault.BadPosition ↔ (R.size rows.old < from) }
-    ensures failures { S.failures sink.new ≡ cond (is_write result) (one_more (S.failures sink.old)) (S.failures sink.old) }
+    ensures failures { CountsFailure (is_write result) (S.failures sink.old) (S.failures sink.new) }
     ensures same_row { R.row_at rows.new ≡ R.row_at rows.old }
     ensures same_size { R.size rows.new ≡ R.size rows.old }
 {
@@ -66,7 +66,7 @@ fn write_row<R: Rows, S: RowSink>(
 ) -> Result<Selection, RunFault<R::Fault>>
     requires { position < R.size rows.old }
     ensures written { IsRowWritten (R.row_at rows.old position) position (S.taken sink.old) (S.taken sink.new) result }
-    ensures failures { S.failures sink.new ≡ cond (is_write result) (one_more (S.failures sink.old)) (S.failures sink.old) }
+    ensures failures { CountsFailure (is_write result) (S.failures sink.old) (S.failures sink.new) }
     ensures same_row { R.row_at rows.new ≡ R.row_at rows.old }
     ensures same_size { R.size rows.new ≡ R.size rows.old }
 {

@@ -1,9 +1,9 @@
 //! What takes the bytes of a run.
 
-ghost use Rattle.std.specs.Prelude.{◌≡◌, ℕ, List, OnOk, OnErr, is_ok, cond};
+ghost use Rattle.std.specs.Prelude.{◌≡◌, ℕ, OnOk, OnErr, is_err};
 ghost use Rattle.std.specs.Io.KnownBytes.{Appends};
-ghost use Rattle.fisca_grid.specs.Sink.{one_more};
-ghost use Rattle.fisca_grid.specs.Run.{IsProperPrefix};
+ghost use Rattle.fisca_grid.specs.Sink.{CountsFailure, one_more};
+ghost use Rattle.fisca_grid.specs.Run.{AppendsPart};
 
 use std::marker::Model;
 use thiserror::Error;
@@ -88,8 +88,8 @@ impl FailureCount {
 /// Hands over a piece until all of it is taken or one failure happened.
 pub fn hand_over<S: RowSink>(sink: &mut S, piece: &[u8]) -> Result<(), SinkFault>
     ensures all { OnOk result (Appends (S.taken sink.old) (S.taken sink.new) piece.now) }
-    ensures part { OnErr result ((part : List ℕ) × IsProperPrefix part piece.now × Appends (S.taken sink.old) (S.taken sink.new) part) }
-    ensures failures { S.failures sink.new ≡ cond (is_ok result) (S.failures sink.old) (one_more (S.failures sink.old)) }
+    ensures part { OnErr result (AppendsPart piece.now (S.taken sink.old) (S.taken sink.new)) }
+    ensures failures { CountsFailure (is_err result) (S.failures sink.old) (S.failures sink.new) }
 {
     let mut rest = piece;
     while !rest.is_empty() {

@@ -1,6 +1,6 @@
 //! Why an operation or a text gives no number.
 ghost use Rattle.std.specs.Prelude.{◌≡◌};
-ghost use Rattle.fisca_num.specs.Faults.{name_of};
+ghost use Rattle.fisca_num.specs.Faults.{name_of, number_of};
 
 use thiserror::Error;
 
@@ -19,6 +19,18 @@ pub enum NumFault {
 }
 
 impl NumFault {
+    /// The number of the fault, from 1 to 4.
+    pub fn number(self) -> u8
+        ensures { result ≡ number_of self }
+    {
+        match self {
+            NumFault::TooWide => 1,
+            NumFault::ZeroDivisor => 2,
+            NumFault::NotANumber => 3,
+            NumFault::Memory => 4,
+        }
+    }
+
     /// The plain name of the fault, as `TooWide`.
     pub fn name(self) -> &'static str
         ensures { result.now ≡ name_of self }

@@ -11,7 +11,7 @@ each-cond : (P : Placed → Type 0) (v : Bool) (ps qs : List Placed) → Each P 
 each-cond P true ps qs h k = h
 each-cond P false ps qs h k = k
 
-each-put : (P : Placed → Type 0) (p : Placed) (ps : List Placed) → P p → Each P ps → Each P (put_by_path p ps)
+pub each-put : (P : Placed → Type 0) (p : Placed) (ps : List Placed) → P p → Each P ps → Each P (put_by_path p ps)
 each-put P p [] h hs = (h, tt)
 each-put P p (q ∷ qs) h hs =
     each-cond P (is_path_before p.1.path q.1.path) (p ∷ q ∷ qs) (q ∷ put_by_path p qs) (h, hs) (hs.0, each-put P p qs h hs.1)

@@ -15,7 +15,7 @@ use Rattle.fisca_params.specs.declared.content.Content.{Content}
 use Rattle.fisca_params.specs.Tree.{TreeNode, is_child, child_of, child_node}
 use Rattle.fisca_params.specs.Nodes.{IsIndexed}
 
-abbrev or_else : Option ℕ → Option ℕ → Option ℕ
+abbrev pub or_else : Option ℕ → Option ℕ → Option ℕ
 or_else (Some a) b = Some a
 or_else None b = b
 

@@ -12,3 +12,4 @@ pub mod Thresholds
 pub mod Walks
 pub mod Worked
 pub mod WorkedTrees
+mod Made

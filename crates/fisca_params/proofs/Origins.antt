@@ -24,16 +24,16 @@ use Rattle.fisca_params.proofs.EachFile.{Each, each-ordered}
 use Rattle.fisca_params.proofs.Standing.{Kept, put-found, Grows, grows-if, grows-then, grows-from, grows-either, there-grows, kept-same, kept-put}
 
 -- names that lead to a place, by the nodes above it
-data Leads (t : List TreeNode) : List (List ℕ) → ℕ → Type 0 where
+pub data Leads (t : List TreeNode) : List (List ℕ) → ℕ → Type 0 where
   at_root : Leads t [] 0
   below : (names : List (List ℕ)) (parent place : ℕ) (x : TreeNode) → Leads t names parent → slice_get t place ≡ Some x → x.parent ≡ Some parent →
       Leads t (names ++ x.name ∷ []) place
 
 -- the root has no node above it, and each other node stands after the one above it
-record IsTree (t : List TreeNode) : Type 0 where
-  root : (x : TreeNode) (parent : ℕ) → slice_get t 0 ≡ Some x → x.parent ≡ Some parent → ⊥
-  some : 0 < length t
-  after : (place parent : ℕ) (x : TreeNode) → slice_get t place ≡ Some x → x.parent ≡ Some parent → parent < place
+pub record IsTree (t : List TreeNode) : Type 0 where
+  pub root : (x : TreeNode) (parent : ℕ) → slice_get t 0 ≡ Some x → x.parent ≡ Some parent → ⊥
+  pub some : 0 < length t
+  pub after : (place parent : ℕ) (x : TreeNode) → slice_get t place ≡ Some x → x.parent ≡ Some parent → parent < place
 
 get-held : (t : List TreeNode) (y : TreeNode) (k : ℕ) (x : TreeNode) → slice_get t k ≡ Some x → slice_get (t ++ y ∷ []) k ≡ Some x
 get-held [] y k x e = cc
@@ -49,7 +49,7 @@ get-end : (t : List TreeNode) (y : TreeNode) → slice_get (t ++ y ∷ []) (leng
 get-end [] y = refl
 get-end (z ∷ t) y = get-end t y
 
-within : (t : List TreeNode) (names : List (List ℕ)) (place : ℕ) → IsTree t → Leads t names place → place < length t
+pub within : (t : List TreeNode) (names : List (List ℕ)) (place : ℕ) → IsTree t → Leads t names place → place < length t
 within t _ _ w at_root = w.some
 within t _ _ w (below names parent place x l e p) = slice_get_within t place x e
 
@@ -75,14 +75,14 @@ one-way t _ _ _ w (below names parent place x l e p) (below others above _ y m f
     ap (λ ns. ns ++ x.name ∷ []) names_same ∙ ap (λ z. others ++ z.name ∷ []) same
 
 -- names lead to each node
-abbrev IsReached : List TreeNode → Type 0
+abbrev pub IsReached : List TreeNode → Type 0
 IsReached t = (place : ℕ) → place < length t → (names : List (List ℕ)) × (walk t 0 names ≡ Some place)
 
 -- all that names lead to is what Q says
-record Only (Q : List (List ℕ) → Content → Type 0) (t : List TreeNode) : Type 0 where
-  tree : IsTree t
-  reached : IsReached t
-  said : (names : List (List ℕ)) (place : ℕ) (x : TreeNode) → Leads t names place → slice_get t place ≡ Some x → Q names x.content
+pub record Only (Q : List (List ℕ) → Content → Type 0) (t : List TreeNode) : Type 0 where
+  pub tree : IsTree t
+  pub reached : IsReached t
+  pub said : (names : List (List ℕ)) (place : ℕ) (x : TreeNode) → Leads t names place → slice_get t place ≡ Some x → Q names x.content
 
 leads-new : (t : List TreeNode) (parent : ℕ) (name : List ℕ) (c : Content) (above : List (List ℕ)) → Leads t above parent →
     Leads (with_child t parent name c) (above ++ name ∷ []) (length t)
@@ -168,7 +168,7 @@ found-at f i (x ∷ t) k e =
       | inr fails ↦ let later = found-at f (i + 1) t k (rw fails at e) in (suc later.0, later.1, omega (arith, later.2), later.3, later.4)
     ]
 
-child-is : (t : List TreeNode) (parent : ℕ) (name : List ℕ) (k : ℕ) → child_of t parent name ≡ Some k →
+pub child-is : (t : List TreeNode) (parent : ℕ) (name : List ℕ) (k : ℕ) → child_of t parent name ≡ Some k →
     (x : TreeNode) × (slice_get t k ≡ Some x) × (x.parent ≡ Some parent) × (x.name ≡ name)
 child-is t parent name k e =
     let there = found-at (is_child parent name) 0 t k e in
@@ -189,7 +189,7 @@ child-is t parent name k e =
               | inr other ↦ absurd (let no : false ≡ true = sym (ap (λ v. v && bytes_eq x.name name) other) ∙ sym (ap (λ o. is_at o parent && bytes_eq x.name name) e) ∙ h in cc)
             ]
 
-leads-child : (t : List TreeNode) (above : List (List ℕ)) (place : ℕ) (name : List ℕ) (child : ℕ) → Leads t above place → child_of t place name ≡ Some child →
+pub leads-child : (t : List TreeNode) (above : List (List ℕ)) (place : ℕ) (name : List ℕ) (child : ℕ) → Leads t above place → child_of t place name ≡ Some child →
     Leads t (above ++ name ∷ []) child
 leads-child t above place name child l e =
     let is = child-is t place name child e in
@@ -211,7 +211,7 @@ walk-leads t above (name ∷ names) place k l e =
     walk-step t above name names place k (child_of t place name) refl l e (λ child down. walk-leads t (above ++ name ∷ []) names child k down)
 
 -- all is said still, and names lead where they led
-abbrev Held : (List (List ℕ) → Content → Type 0) → List TreeNode → List TreeNode → Type 0
+abbrev pub Held : (List (List ℕ) → Content → Type 0) → List TreeNode → List TreeNode → Type 0
 Held Q t u = Only Q u × ((names : List (List ℕ)) (place : ℕ) → Leads t names place → Leads u names place)
 
 held-put : (Q : List (List ℕ) → Content → Type 0) (t : List TreeNode) (parent : ℕ) (name : List ℕ) (c : Content) (above : List (List ℕ)) →
@@ -303,7 +303,7 @@ text-held : (Q : List (List ℕ) → Content → Type 0) (t : List TreeNode) (f 
 text-held Q t f own None e d o says = tt
 text-held Q t f own (Some n) e d o says = below-held Q t 0 own n [] o at_root (λ names c h. says names c (own, n, e, d, h))
 
-named-held : (Q : List (List ℕ) → Content → Type 0) (t : List TreeNode) (f : Source) (own : Option (List (List ℕ))) → names_of f.path ≡ own →
+pub named-held : (Q : List (List ℕ) → Content → Type 0) (t : List TreeNode) (f : Source) (own : Option (List (List ℕ))) → names_of f.path ≡ own →
     Only Q t → ((names : List (List ℕ)) (c : Content) → FileSays f names c → Q names c) → Grows t (with_names t f.text own) (Held Q t)
 named-held Q t f None e o says = (kept-same t, (o, λ names k m. m))
 named-held Q t f (Some own) e o says = text-held Q t f own (document f.text) e refl o says
@@ -330,7 +330,7 @@ root-said : (files : List Source) → SomeFileSays files [] content.Folder
 root-said [] = (refl, refl)
 root-said (f ∷ fs) = inr (root-said fs)
 
-only-root : (Q : List (List ℕ) → Content → Type 0) → Q [] content.Folder → Only Q root_alone
+pub only-root : (Q : List (List ℕ) → Content → Type 0) → Q [] content.Folder → Only Q root_alone
 only-root Q q = record {
   reached = λ place h. ([], let here : 0 ≡ place = omega (arith, h) in ap Some here);
   tree = record {

@@ -3,6 +3,7 @@ use Rattle.std.specs.Prelude.{ℕ, Bool, ◌&&◌, List, Option, None, option_ma
 use Rattle.std.specs.Option.{unwrap_or}
 use Rattle.std.specs.Str.{bytes_eq}
 use Rattle.fisca_yaml.specs.Find.{get}
+pub use Rattle.fisca_yaml.specs.Find.{line_at}
 use Rattle.fisca_yaml.specs.Node.{Node, null, scalar, list, map, Items, no_items, item, Entries, no_entries, entry}
 use Rattle.fisca_params.specs.Content.{date_of, written_value, date_map, dates_or_none, first_line, names_field, bracket_of}
 
@@ -13,17 +14,6 @@ line_of given (scalar t q line) = line
 line_of given (list no_items) = given
 line_of given (list (item line n is)) = line
 line_of given (map es) = given
-
-abbrev pub entry_line : List ℕ → ℕ → Entries → ℕ
-entry_line name given no_entries = given
-entry_line name given (entry key line n es) = if bytes_eq key name then line else entry_line name given es
-
--- of the entry of this name, where a node has one
-abbrev pub line_at : List ℕ → ℕ → Node → ℕ
-line_at name given null = given
-line_at name given (scalar t q line) = given
-line_at name given (list is) = given
-line_at name given (map es) = entry_line name given es
 
 -- of the first entry of a map that fails a test, else of the node
 abbrev pub first_entry : (List ℕ → Node → Bool) → Node → Option ℕ

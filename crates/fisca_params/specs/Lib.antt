@@ -10,6 +10,7 @@ pub mod Names
 pub mod Nodes
 pub mod Paths
 pub mod Places
+pub mod Fits
 pub mod Results
 pub mod Scale
 pub mod Source

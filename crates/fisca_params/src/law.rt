@@ -2,6 +2,7 @@
 
 ghost use Rattle.std.specs.Prelude.{◌≡◌, ℕ, List, Ok, Some};
 ghost use Rattle.fisca_params.specs.Files.{tree_of};
+ghost use Rattle.fisca_params.specs.Fits.{AllFit};
 ghost use Rattle.fisca_params.specs.Places.{EachReachedOnce, EachStands, SomeFileSays, walk};
 ghost use Rattle.fisca_params.specs.Source.{Source};
 ghost use Rattle.fisca_params.specs.Tree.{TreeNode, content_at};
@@ -22,4 +23,10 @@ pub fn nothing_else_stands()
 /// Each node is reached by one path: names lead from the root to it, and no other names do.
 pub fn each_node_is_reached_once()
     ensures { (files : List Source) (tree : List TreeNode) → tree_of files ≡ Ok tree → EachReachedOnce tree }
+{}
+
+/// Files that fit make a tree: parameter files that have documents, whose maps are parameters, scales or branches, and of
+/// whose names none stands in another's way.
+pub fn files_that_fit_make_a_tree()
+    ensures { (files : List Source) → AllFit files → (tree : List TreeNode) × (tree_of files ≡ Ok tree) }
 {}

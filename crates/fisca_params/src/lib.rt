@@ -19,6 +19,10 @@ mod written;
 
 pub use content::{NodeKind, ParamValue};
 pub use fault::ParamFault;
-pub use law::{each_node_is_reached_once, files_stand_at_their_paths, nothing_else_stands};
-pub use source::SourceFile;
+pub use law::{
+    each_node_is_reached_once, files_stand_at_their_paths, files_that_fit_make_a_tree,
+    nothing_else_stands,
+};
+pub use read::in_path_order;
+pub use source::{SourceFile, is_parameter_path};
 pub use tree::{NodeId, ParamTree};

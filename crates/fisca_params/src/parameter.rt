@@ -12,7 +12,7 @@ use crate::content::Content;
 use crate::dates::{Dates, dates_in};
 use crate::fault::NodeFault;
 use crate::scale::Scale;
-use crate::written::{date_map, first_undated, line_at, line_of};
+use crate::written::{date_map, first_undated, line_of};
 use fisca_num::Fraction;
 use fisca_yaml::{Entry, Item, Tree};
 use std::alloc::Global;
@@ -59,9 +59,9 @@ fn number_dates(alloc: Global, line: usize, tree: &Tree<'_>) -> Result<Dates<Fra
 fn read_field(alloc: Global, bracket: &Tree<'_>, name: &str) -> Result<Dates<Fraction>, NodeFault>
     ensures { Finds (λ d. d) result (dates_or_none (get name.now (node bracket.now))) (unwrap_or (unreadable name.now (node bracket.now)) 0) }
 {
-    match bracket.get(name) {
+    match bracket.entry(name) {
         None => Ok(Dates::new(alloc)),
-        Some(field) => number_dates(alloc, line_at(bracket, name, 1), field),
+        Some(entry) => number_dates(alloc, entry.line, &entry.value),
     }
 }
 

@@ -34,8 +34,9 @@ impl ParamTree {
     }
 }
 
-/// The files in order of their paths, those of one path as they stand here. Each has its place here in its key.
-fn in_path_order<'f>(
+/// The files in order of the bytes of their paths, those of one path as they stand here. Each has its place here in its key.
+/// `AllocError` only where memory was refused. The order is this project's own.
+pub fn in_path_order<'f>(
     alloc: Global,
     files: &'f [SourceFile],
 ) -> Result<BTreeMap<(&'f str, usize), &'f SourceFile>, AllocError>

@@ -36,11 +36,11 @@ impl SourceFile {
         self.path.as_str()
     }
 
-    /// Whether the file is a parameter file: one below the folder `parameters` whose name ends in `.yaml` or `.yml`.
+    /// Whether the file is a parameter file, by its path.
     pub fn is_parameter_file(&self) -> bool
         ensures { result ≡ is_some (names_of self.now.path) }
     {
-        parameter_path(self.path.as_str()).is_some()
+        is_parameter_path(self.path.as_str())
     }
 
     /// The text.
@@ -49,6 +49,13 @@ impl SourceFile {
     {
         self.text.as_str()
     }
+}
+
+/// Whether this is the path of a parameter file: one below the folder `parameters` whose name ends in `.yaml` or `.yml`.
+pub fn is_parameter_path(path: &str) -> bool
+    ensures { result ≡ is_some (names_of path.now) }
+{
+    parameter_path(path).is_some()
 }
 
 /// The path of a parameter file below the folder `parameters`, without its ending. None of any other file.

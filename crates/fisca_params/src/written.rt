@@ -2,7 +2,7 @@
 ghost use Rattle.std.specs.Prelude.{◌≡◌, None, IsOk, IsTrue, is_some, is_none, option_map};
 ghost use Rattle.fisca_yaml.specs.Views.{node, entries_view};
 ghost use Rattle.fisca_params.specs.Content.{written_value, written_values, are_instants, is_date_map, date_map, first_line};
-ghost use Rattle.fisca_params.specs.FaultLines.{line_of, line_at, entry_line, is_dated};
+ghost use Rattle.fisca_params.specs.FaultLines.{line_of, line_at, is_dated};
 
 use fisca_time::Instant;
 use fisca_yaml::{Entry, Tree};
@@ -83,20 +83,8 @@ pub(crate) fn line_of(tree: &Tree<'_>, line: usize) -> usize
 pub(crate) fn line_at(tree: &Tree<'_>, name: &str, line: usize) -> usize
     ensures { result ≡ line_at name.now line (node tree.now) }
 {
-    match tree {
-        Tree::Map(entries) => entry_line(entries, name, line),
-        _ => line,
+    match tree.entry(name) {
+        Some(entry) => entry.line,
+        None => line,
     }
-}
-
-/// The line of the entry of this name, where there is one, else `line`.
-fn entry_line(entries: &[Entry<'_>], name: &str, line: usize) -> usize
-    ensures { result ≡ entry_line name.now line (entries_view entries.now) }
-{
-    for entry in entries {
-        if entry.key.as_str() == name {
-            return entry.line;
-        }
-    }
-    line
 }

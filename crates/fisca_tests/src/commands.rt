@@ -2,5 +2,6 @@
 
 mod axes;
 mod check;
+mod folder;
 mod refusal;
 mod task;

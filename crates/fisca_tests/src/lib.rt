@@ -8,6 +8,8 @@ mod commands;
 #[cfg(test)]
 mod grid;
 #[cfg(test)]
+mod modules;
+#[cfg(test)]
 mod num;
 #[cfg(test)]
 mod syntax;

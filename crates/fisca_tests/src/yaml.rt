@@ -132,3 +132,16 @@ fn texts_drawn_by_lot_are_answered(rt: HostRuntime) -> Result<(), Fail> {
     }
     Ok(())
 }
+
+#[test]
+fn an_entry_has_the_line_of_its_key(rt: HostRuntime) -> Result<(), Fail> {
+    let tree = read(rt.alloc(), "# none\na: 1\nb:\n  c: 2\n")?;
+    for (name, line) in [("a", 2), ("b", 3)] {
+        match tree.entry(name) {
+            Some(entry) => assert_eq!(rt; entry.line, line, "{name}"),
+            None => assert!(rt; false, "{name} has no entry"),
+        }
+    }
+    assert!(rt; tree.entry("c").is_none());
+    Ok(())
+}

@@ -4,19 +4,27 @@ use Rattle.std.proofs.Math.Dec.{eqb, leb}
 use Rattle.std.specs.List.{count_by}
 use Rattle.std.specs.Str.Parse.{digits_value}
 use Rattle.std.specs.Option.{option_map}
-use Rattle.std.proofs.lemmas.Bool.{cases_lt, and_right, lt-leb}
+use Rattle.std.proofs.lemmas.Bool.{cases_Bool, cases_lt, and_right, lt-leb}
 use Rattle.std.proofs.lemmas.List.Splits.{length-slice_split}
 use Rattle.fisca_time.specs.Instant.{is_between, is_on_calendar}
-use Rattle.fisca_time.specs.PeriodText.{start_of_text, start_of_pieces, unit_named, form_in, form_of_start, form_of_pieces, is_size_text, with_size, with_limit, date_in, period_of_form, period_if_written}
+use Rattle.fisca_time.specs.PeriodText.{start_of_text, start_of_pieces, unit_named, form_in, form_of_start, form_of_pieces, is_short_numeral, is_size_text, with_size, with_limit, date_in, period_of_form, period_if_written}
 use Rattle.fisca_time.specs.Pieces.{pieces}
 use Rattle.fisca_time.specs.declared.fault.TimeFault.TheVariants.{OutOfRange}
 use Rattle.fisca_time.specs.declared.form.Form.{Form}
 use Rattle.fisca_time.specs.declared.unit.Unit.{Unit}
-use Rattle.fisca_time.proofs.Splits.{start_of_pieces-day, form_of_pieces-size}
+use Rattle.fisca_time.proofs.Splits.{pieces-digits, short_digits, start_of_pieces-day, form_of_pieces-size}
 
 -- a start of a year and a month, and of a year, a month and a day
 pub start_of_text-month : (text year rest : List ℕ) → pieces 45 text ≡ year ∷ pieces 45 rest → pieces 45 rest ≡ rest ∷ [] → start_of_text text ≡ start_of_pieces (year ∷ rest ∷ [])
 start_of_text-month text year rest parts none = rw (parts, none) refl
+
+-- what is a month by itself has no dash
+pub one_piece : (rest : List ℕ) (o : Option ℕ) (month : ℕ) → o ≡ cond (is_short_numeral rest) (Some (digits_value 10 rest)) None → o ≡ Some month → pieces 45 rest ≡ rest ∷ []
+one_piece rest o month value is =
+    elim (cases_Bool (is_short_numeral rest)) [
+      | inl short ↦ pieces-digits 45 rest refl (short_digits rest short)
+      | inr not_short ↦ let none : o ≡ None = rw not_short at value in cc
+    ]
 
 pub start_of_text-day : (text year rest month day : List ℕ) → pieces 45 text ≡ year ∷ pieces 45 rest → pieces 45 rest ≡ month ∷ pieces 45 day
     → start_of_text text ≡ start_of_pieces (year ∷ month ∷ day ∷ [])

@@ -1,16 +1,19 @@
 -- What holds of the spans that are periods.
-use Rattle.std.proofs.Common.{◌≡◌, ℕ, Bool, suc, zero, ◌+◌, ◌*◌, ◌/◌, ◌<◌, ◌≤◌, true, false, ◌&&◌, ◌||◌, length, map, Some, slice_get, arith, refl, ap, ◌∙◌, sym, IsTrue, ◌↔◌, inl, inr, ℤ, Ok, Err, Option, None, cond}
+use Rattle.std.proofs.Common.{◌≡◌, ℕ, Bool, suc, zero, ◌+◌, ◌*◌, ◌/◌, ◌%◌, ◌<◌, ◌≤◌, true, false, ◌&&◌, ◌||◌, length, map, Some, slice_get, arith, refl, ap, ◌∙◌, sym, IsTrue, ◌↔◌, inl, inr, ℤ, Ok, Err, Option, None, cond}
 use Rattle.std.specs.List.{range_with_len}
-use Rattle.std.specs.Ordering.{nat_cmp, ordering_then}
+use Rattle.std.specs.Cmp.{nat_cmp_is, ranks}
+use Rattle.std.specs.Ordering.{nat_cmp, ordering_then, MatchOrdering}
 use Rattle.std.specs.declared.cmp.Ordering.{Ordering}
+use Rattle.std.specs.declared.cmp.Ordering.TheVariants.{Less, Equal, Greater}
+use Rattle.std.proofs.Math.Nat.{mul-le-mul_right}
+use Rattle.fisca_time.specs.Kept.{span_of, is_kept, is_key, span_of_key}
 use Rattle.std.proofs.lemmas.Bool.{and_parts, cases_Bool, cases_lt, leb-true, eqb-true}
 use Rattle.std.proofs.Math.Dec.{eqb, leb}
 use Rattle.std.proofs.lemmas.List.FromFn.{length-map-range_with_len}
 use Rattle.fisca_time.specs.Calendar.{first_day, end_day, date_of}
 use Rattle.fisca_time.specs.Instant.{is_between}
-use Rattle.fisca_time.specs.Kept.{span_of, is_kept}
 use Rattle.fisca_time.specs.Period.{Span, eternity, months, days, is_period, is_eternal, is_of_months, unit_of, first_of, size_of, is_within, months_of, month_start, start_day, stop_day, days_of, month_of, month_at, year_at, day_at, subs, span_cmp, this_year_of, moved_by, unless_eternal, Overlaps}
-use Rattle.fisca_time.specs.Unit.{months_in, is_month, is_year, unit_cmp}
+use Rattle.fisca_time.specs.Unit.{months_in, is_month, is_year, rank, unit_ranked}
 use Rattle.fisca_time.specs.declared.fault.TimeFault.TheVariants.{OutOfRange}
 use Rattle.fisca_time.specs.declared.unit.Unit.{Unit}
 use Rattle.fisca_time.specs.declared.unit.Unit.TheVariants.{Day, Month, Year, Eternity}
@@ -106,10 +109,70 @@ pub kept_is : (unit : Unit) (first size : ℕ) (p : Span) → is_kept unit first
 kept_is unit first size p h is =
     rw (← is) (record { period = kept_period unit first size h; unit = kept_unit unit first size; first = kept_first unit first size h; size = kept_size unit first size h })
 
--- the order of two periods is that of what is kept of them
-pub span_cmp_is : (own other : Unit) (first start size count : ℕ) (p q : Span) (a b c : Ordering) → IsKept own first size p → IsKept other start count q
-    → a ≡ unit_cmp own other → b ≡ nat_cmp first start → c ≡ nat_cmp size count → ordering_then a (ordering_then b c) ≡ span_cmp p q
-span_cmp_is own other first start size count p q a b c k l x y z = rw (k.unit, l.unit, k.first, l.first, k.size, l.size, x, y, z) refl
+-- ---- order
+
+above-lt : (a b x y m : ℕ) → a < b → x < m → a * m + x < b * m + y
+above-lt a b x y m h k = let le : (a + 1) * m ≤ b * m = mul-le-mul_right m (omega arith) in grind arith
+
+-- numbers above others below m are ordered by the two
+above_others : (a b x y m : ℕ) (r s : Ordering) → x < m → y < m → MatchOrdering r (a < b) (a ≡ b) (b < a) → MatchOrdering s (x < y) (x ≡ y) (y < x)
+    → MatchOrdering (ordering_then r s) (a * m + x < b * m + y) (a * m + x ≡ b * m + y) (b * m + y < a * m + x)
+above_others a b x y m Less s h k above below = above-lt a b x y m above h
+above_others a b x y m Greater s h k above below = above-lt b a y x m above k
+above_others a b x y m Equal Less h k above below = rw above (omega arith)
+above_others a b x y m Equal Equal h k above below = rw (above, below) refl
+above_others a b x y m Equal Greater h k above below = rw above (omega arith)
+
+by_both : (a b x y m : ℕ) → x < m → y < m → nat_cmp (a * m + x) (b * m + y) ≡ ordering_then (nat_cmp a b) (nat_cmp x y)
+by_both a b x y m h k = sym (nat_cmp_is (a * m + x) (b * m + y) (ordering_then (nat_cmp a b) (nat_cmp x y)) (above_others a b x y m (nat_cmp a b) (nat_cmp x y) h k (ranks a b) (ranks x y)))
+
+then_assoc : (a b c : Ordering) → ordering_then (ordering_then a b) c ≡ ordering_then a (ordering_then b c)
+then_assoc Less b c = refl
+then_assoc Equal b c = refl
+then_assoc Greater b c = refl
+
+-- the parts of a key as one number give it back
+key_made : (key : ℕ) → (key / 281_474_976_710_656 * 4_294_967_296 + key / 65_536 % 4_294_967_296) * 65_536 + key % 65_536 ≡ key
+key_made key = omega arith
+
+rank_within : (n : ℕ) → n ≤ 3 → rank (unit_ranked n) ≡ n
+rank_within zero h = refl
+rank_within (suc zero) h = refl
+rank_within (suc (suc zero)) h = refl
+rank_within (suc (suc (suc n))) h = omega arith
+
+-- what the parts of the key of a period are
+record IsKey (key : ℕ) (p : Span) : Type 0 where
+  unit : rank (unit_of p) ≡ key / 281_474_976_710_656
+  first : first_of p ≡ key / 65_536 % 4_294_967_296
+  size : size_of p ≡ key % 65_536
+
+key_is : (key : ℕ) (p : Span) → is_key key ≡ true → span_of_key key ≡ p → IsKey key p
+key_is key p h is =
+    let own = unit_ranked (key / 281_474_976_710_656) in
+    let first = key / 65_536 % 4_294_967_296 in
+    let size = key % 65_536 in
+    let both = and_parts (leb (key / 281_474_976_710_656) 3) (is_kept own first size) h in
+    let k : IsKept own first size p = kept_is own first size p both.1 is in
+    record { unit = ap rank k.unit ∙ rank_within (key / 281_474_976_710_656) (leb-true (key / 281_474_976_710_656) 3 both.0); first = k.first; size = k.size }
+
+-- the order of two periods is that of their keys
+pub kept_order : (a b : ℕ) (p q : Span) → is_key a ≡ true → span_of_key a ≡ p → is_key b ≡ true → span_of_key b ≡ q → nat_cmp a b ≡ span_cmp p q
+kept_order a b p q h is k same =
+    let s : IsKey a p = key_is a p h is in
+    let t : IsKey b q = key_is b q k same in
+    let i = key_made a in
+    let j = key_made b in
+    let x = a / 281_474_976_710_656 in
+    let y = b / 281_474_976_710_656 in
+    let m = a / 65_536 % 4_294_967_296 in
+    let n = b / 65_536 % 4_294_967_296 in
+    let made : nat_cmp ((x * 4_294_967_296 + m) * 65_536 + a % 65_536) ((y * 4_294_967_296 + n) * 65_536 + b % 65_536) ≡ nat_cmp a b = ap (λ k. nat_cmp k ((y * 4_294_967_296 + n) * 65_536 + b % 65_536)) i ∙ ap (nat_cmp a) j in
+    rw (s.unit, s.first, s.size, t.unit, t.first, t.size)
+    (sym made
+    ∙ by_both (x * 4_294_967_296 + m) (y * 4_294_967_296 + n) (a % 65_536) (b % 65_536) 65_536 (omega arith) (omega arith)
+    ∙ ap (λ o. ordering_then o (nat_cmp (a % 65_536) (b % 65_536))) (by_both x y m n 4_294_967_296 (omega arith) (omega arith))
+    ∙ then_assoc (nat_cmp x y) (nat_cmp m n) (nat_cmp (a % 65_536) (b % 65_536)))
 
 -- ---- days
 

@@ -57,7 +57,7 @@ date_of_pieces-day year month day =
     (λ p fails. rw (and_right (is_numeral 4 year && is_numeral 2 month) (is_numeral 2 p) fails) refl)
     (λ _ _ _. refl)
 
-short_digits : (day : List ℕ) → is_short_numeral day ≡ true → all_ascii_digits day ≡ true
+pub short_digits : (day : List ℕ) → is_short_numeral day ≡ true → all_ascii_digits day ≡ true
 short_digits day passes =
     elim (or_cases (is_numeral 1 day) (is_numeral 2 day) passes) [
       | inl one ↦ (and_parts (eqb (length day) 1) (all_ascii_digits day) one).1

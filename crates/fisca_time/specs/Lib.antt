@@ -1,4 +1,5 @@
 pub mod Calendar
+pub mod Fault
 pub mod Instant
 pub mod Kept
 pub mod Period

@@ -1,5 +1,5 @@
 -- Units of periods.
-use Rattle.std.specs.Prelude.{ℕ, Bool, true, false}
+use Rattle.std.specs.Prelude.{ℕ, zero, suc, Bool, true, false}
 use Rattle.std.specs.Ordering.{nat_cmp, on}
 use Rattle.std.specs.declared.cmp.Ordering.{Ordering}
 use Rattle.fisca_time.specs.declared.unit.Unit.{Unit}
@@ -36,6 +36,13 @@ rank Day = 0
 rank Month = 1
 rank Year = 2
 rank Eternity = 3
+
+-- and the unit at a place; eternity at any later one
+abbrev pub unit_ranked : ℕ → Unit
+unit_ranked zero = Day
+unit_ranked (suc zero) = Month
+unit_ranked (suc (suc zero)) = Year
+unit_ranked (suc (suc (suc _))) = Eternity
 
 abbrev pub unit_cmp : Unit → Unit → Ordering
 unit_cmp = on rank nat_cmp

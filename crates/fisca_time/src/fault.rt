@@ -1,3 +1,6 @@
+ghost use Rattle.std.specs.Prelude.{◌≡◌};
+ghost use Rattle.fisca_time.specs.Fault.{number_of};
+
 use std::alloc::AllocError;
 use thiserror::Error;
 
@@ -16,6 +19,20 @@ pub enum TimeFault {
     /// No memory was left for a text.
     #[error("Memory")]
     Memory = 4,
+}
+
+impl TimeFault {
+    /// The number of the fault, from 1 to 4.
+    pub fn number(self) -> u8
+        ensures { result ≡ number_of self }
+    {
+        match self {
+            TimeFault::BadText => 1,
+            TimeFault::OutOfRange => 2,
+            TimeFault::NoSubperiods => 3,
+            TimeFault::Memory => 4,
+        }
+    }
 }
 
 impl From<AllocError> for TimeFault {

@@ -50,10 +50,10 @@ fn written_start(text: &str) -> Option<Form>
         return Some(start_in(Unit::Year, year, 1, 1));
     };
     let year = numeral(4, year)?;
-    let Some((month, day)) = split(rest, '-') else {
-        let month = short_numeral(rest)?;
+    if let Some(month) = short_numeral(rest) {
         return Some(start_in(Unit::Month, year, month, 1));
-    };
+    }
+    let (month, day) = split(rest, '-')?;
     let month = short_numeral(month)?;
     let day = short_numeral(day)?;
     Some(start_in(Unit::Day, year, month, day))

@@ -2,6 +2,7 @@ ghost use Rattle.std.specs.Prelude.{◌≡◌, ◌≢◌, ◌<◌, ◌≤◌, �
 ghost use Rattle.fisca_time.specs.Calendar.{first_day, end_day};
 ghost use Rattle.fisca_time.specs.Unit.{is_month, is_year};
 ghost use Rattle.fisca_time.specs.Period.{eternity, is_period, is_eternal, is_of_months, unit_of, first_of, size_of, months_of, days_of, month_start, month_of, start_day, stop_day, start_of, months_from, days_from, days_from_month, months_moved, days_moved, moved_by, later_month, day_at, month_at, year_at, this_year_of, first_month_of, first_day_of, last_month_of, last_year_of, n_2_of, last_3_months_of, subs, Overlaps};
+ghost use Rattle.fisca_time.specs.Kept.{span_of, is_kept};
 ghost use Rattle.fisca_time.specs.PeriodText.{period_of_form, period_of_text, text_of, IsShortest};
 
 use crate::form::{Form, written_period};
@@ -10,6 +11,7 @@ use crate::unit::months_in;
 use crate::{Instant, TimeFault, Unit};
 use std::alloc::{AllocError, Global};
 use std::cmp::Ordering;
+use std::hash::Hash;
 use std::marker::Model;
 
 /// The month before which no period starts, 0001-01. Months are numbered from January of year 0.
@@ -31,12 +33,19 @@ const LARGEST_SIZE: u32 = 1_200;
 /// days from a day on, between 0001-01-01 and 9999-12-31, as in the OpenFisca documentation.
 /// Periods are equal when unit, start and size are, and ordered by unit, the smaller first, then by
 /// start, then by size.
-#[derive(Clone, Copy, Debug, PartialEq, Eq, Hash)]
+#[derive(Clone, Copy, Debug, Eq, Hash)]
 pub struct Period {
+    /// The unit above the start above the size: one number, in order of periods.
+    key: u64,
+}
+
+/// What the key of a period is made of.
+#[derive(Clone, Copy)]
+struct Parts {
+    unit: Unit,
     /// The number of the first month, and for days of the first day.
     first: u32,
     size: u16,
-    unit: Unit,
 }
 
 impl Model for Period {
@@ -45,15 +54,40 @@ impl Model for Period {
 
     ghost Value = { Span };
 
-    ghost use Rattle.fisca_time.specs.Kept.{span_of, is_kept, kept_of, kept_back};
+    ghost use Rattle.fisca_time.specs.Kept.{span_of_key, is_key, kept_of, kept_back};
 
-    ghost view = { λ p. span_of p.unit p.first p.size };
+    ghost view = { λ p. span_of_key p.key };
 
-    ghost invariant = { λ p. IsTrue (is_kept p.unit p.first p.size) };
+    ghost invariant = { λ p. IsTrue (is_key p.key) };
 
     ghost inverse = { kept_of };
 
     ghost inverse_ok = { kept_back };
+}
+
+#[derived]
+impl Hash for Period {
+    ghost use Rattle.std.proofs.Common.{ap};
+    ghost use Rattle.std.specs.Hash.{u64};
+    ghost use Rattle.fisca_time.specs.Kept.{same_key};
+
+    ghost respects_eq = { λ p q same. ap u64 (same_key p q same) };
+}
+
+impl PartialEq for Period {
+    ghost use Rattle.std.proofs.lemmas.Cmp.{eq_by_cmp_equiv};
+    ghost use Rattle.std.specs.Cmp.{partial_equiv_from_equiv};
+    ghost use Rattle.std.specs.Ordering.{eq_by_cmp};
+    ghost use Rattle.fisca_time.specs.Kept.{span_total};
+    ghost use Rattle.fisca_time.specs.Period.{span_cmp};
+
+    ghost eq = { eq_by_cmp span_cmp };
+
+    ghost laws = { partial_equiv_from_equiv (eq_by_cmp_equiv span_total) };
+
+    fn eq(&self, other: &Period) -> bool {
+        self.key == other.key
+    }
 }
 
 impl Ord for Period {
@@ -70,10 +104,7 @@ impl Ord for Period {
     ghost matches_eq = { Prim.search (comparing, rules) };
 
     fn cmp(&self, other: &Period) -> Ordering {
-        let unit = self.unit.cmp(&other.unit);
-        let first = self.first.cmp(&other.first);
-        let size = self.size.cmp(&other.size);
-        unit.then(first.then(size))
+        self.key.cmp(&other.key)
     }
 }
 
@@ -95,11 +126,29 @@ impl PartialOrd for Period {
 
 impl Period {
     /// All of time.
-    pub const ETERNITY: Period = Period {
-        first: 0,
-        size: 0,
-        unit: Unit::Eternity,
-    };
+    pub const ETERNITY: Period = Period { key: 3 << 48 };
+
+    /// The period with these parts.
+    fn of(unit: Unit, first: u32, size: u16) -> Period
+        requires { IsTrue (is_kept unit first size) }
+        ensures { result ≡ span_of unit first size }
+    {
+        let unit = u64::from(unit as u8);
+        Period {
+            key: (unit * (1 << 32) + u64::from(first)) * (1 << 16) + u64::from(size),
+        }
+    }
+
+    fn parts(self) -> Parts
+        ensures span { span_of result.unit result.first result.size ≡ self }
+        ensures kept { IsTrue (is_kept result.unit result.first result.size) }
+    {
+        Parts {
+            unit: Unit::ranked((self.key >> 48) as u8),
+            first: ((self.key >> 16) % (1 << 32)) as u32,
+            size: (self.key % (1 << 16)) as u16,
+        }
+    }
 
     /// The period that a text names, in the forms of the OpenFisca documentation: `2010` is a year,
     /// `2010-04` a month, `2010-04-05` a day, `year:2010-04` the year from April 2010, `year:2010:3`
@@ -157,10 +206,11 @@ impl Period {
         ensures value { IfOk result (λ text. string_bytes text ≡ text_of self) }
         ensures period { IsTrue (is_period self) }
     {
-        match self.unit {
-            Unit::Day => written_days(alloc, Instant::of_day(self.first), self.size),
-            Unit::Month => written_months(alloc, self.first, self.size),
-            Unit::Year => written_years(alloc, self.first, self.size),
+        let Parts { unit, first, size } = self.parts();
+        match unit {
+            Unit::Day => written_days(alloc, Instant::of_day(first), size),
+            Unit::Month => written_months(alloc, first, size),
+            Unit::Year => written_years(alloc, first, size),
             Unit::Eternity => String::from_str(alloc, "ETERNITY"),
         }
     }
@@ -170,9 +220,10 @@ impl Period {
     pub fn start(self) -> Option<Instant>
         ensures { result ≡ start_of self }
     {
-        match self.unit {
-            Unit::Day => Some(Instant::of_day(self.first)),
-            Unit::Month | Unit::Year => Some(Instant::first_of(self.first)),
+        let parts = self.parts();
+        match parts.unit {
+            Unit::Day => Some(Instant::of_day(parts.first)),
+            Unit::Month | Unit::Year => Some(Instant::first_of(parts.first)),
             Unit::Eternity => None,
         }
     }
@@ -182,7 +233,7 @@ impl Period {
         ensures value { result ≡ unit_of self }
         ensures period { IsTrue (is_period self) }
     {
-        self.unit
+        self.parts().unit
     }
 
     /// How many of its unit the period has, 1 to 1,200. `None` for eternity.
@@ -190,8 +241,9 @@ impl Period {
         ensures value { result ≡ (if is_eternal self then None else Some (size_of self)) }
         ensures period { IsTrue (is_period self) }
     {
-        match self.unit {
-            Unit::Day | Unit::Month | Unit::Year => Some(u32::from(self.size)),
+        let parts = self.parts();
+        match parts.unit {
+            Unit::Day | Unit::Month | Unit::Year => Some(u32::from(parts.size)),
             Unit::Eternity => None,
         }
     }
@@ -201,7 +253,7 @@ impl Period {
         ensures value { result ≡ (if is_of_months self then Some (months_of self) else None) }
         ensures period { IsTrue (is_period self) }
     {
-        match self.unit {
+        match self.unit() {
             Unit::Month | Unit::Year => Some(self.month_count()),
             Unit::Day | Unit::Eternity => None,
         }
@@ -210,7 +262,8 @@ impl Period {
     fn month_count(self) -> u32
         ensures { result ≡ months_of self }
     {
-        u32::from(months_in(self.unit)) * u32::from(self.size)
+        let parts = self.parts();
+        u32::from(months_in(parts.unit)) * u32::from(parts.size)
     }
 
     /// The number of days, 1 to 438,291. `None` for eternity.
@@ -228,7 +281,7 @@ impl Period {
         ensures order { IfSome result (λ range. range.0 < range.1) }
         ensures period { IsTrue (is_period self) }
     {
-        match self.unit {
+        match self.unit() {
             Unit::Day | Unit::Month | Unit::Year => Some((self.start_day(), self.stop_day())),
             Unit::Eternity => None,
         }
@@ -239,9 +292,10 @@ impl Period {
         ensures value { result ≡ start_day self }
         ensures period { IsTrue (is_period self) }
     {
-        match self.unit {
-            Unit::Day => self.first,
-            Unit::Month | Unit::Year => month_start(self.first),
+        let parts = self.parts();
+        match parts.unit {
+            Unit::Day => parts.first,
+            Unit::Month | Unit::Year => month_start(parts.first),
             Unit::Eternity => 0,
         }
     }
@@ -250,9 +304,10 @@ impl Period {
     fn stop_day(self) -> u32
         ensures { result ≡ stop_day self }
     {
-        match self.unit {
-            Unit::Day => self.first + u32::from(self.size),
-            Unit::Month | Unit::Year => month_start(self.first + self.month_count()),
+        let parts = self.parts();
+        match parts.unit {
+            Unit::Day => parts.first + u32::from(parts.size),
+            Unit::Month | Unit::Year => month_start(parts.first + self.month_count()),
             Unit::Eternity => 0,
         }
     }
@@ -263,8 +318,9 @@ impl Period {
         ensures value { result ≡ (if is_of_months self then Some (record { 0 = first_of self; 1 = first_of self + months_of self }) else None) }
         ensures period { IsTrue (is_period self) }
     {
-        match self.unit {
-            Unit::Month | Unit::Year => Some((self.first, self.first + self.month_count())),
+        let parts = self.parts();
+        match parts.unit {
+            Unit::Month | Unit::Year => Some((parts.first, parts.first + self.month_count())),
             Unit::Day | Unit::Eternity => None,
         }
     }
@@ -285,11 +341,12 @@ impl Period {
     fn length_in(self, unit: Unit) -> u32
         ensures { result ≡ length (subs self unit) }
     {
-        match (unit, self.unit) {
+        let parts = self.parts();
+        match (unit, parts.unit) {
             (Unit::Day, _) => self.stop_day() - self.start_day(),
             // Days and eternity are not counted in months and have 0.
             (Unit::Month, _) => self.month_count(),
-            (Unit::Year, Unit::Year) => u32::from(self.size),
+            (Unit::Year, Unit::Year) => u32::from(parts.size),
             (Unit::Year, Unit::Day | Unit::Month | Unit::Eternity) | (Unit::Eternity, _) => 0,
         }
     }
@@ -301,8 +358,8 @@ impl Period {
     {
         match unit {
             Unit::Day => day_at(self.start_day() + i),
-            Unit::Month => month_at(self.first + i),
-            Unit::Year => year_at(self.first / 12 + i),
+            Unit::Month => month_at(self.parts().first + i),
+            Unit::Year => year_at(self.parts().first / 12 + i),
             Unit::Eternity => unreachable!(),
         }
     }
@@ -327,9 +384,10 @@ impl Period {
         ensures from { IfOk result (λ month. 12 ≤ month) }
         ensures to { IfOk result (λ month. month < 120_000) }
     {
-        match self.unit {
-            Unit::Day => Ok(Instant::of_day(self.first).month_number()),
-            Unit::Month | Unit::Year => Ok(self.first),
+        let parts = self.parts();
+        match parts.unit {
+            Unit::Day => Ok(Instant::of_day(parts.first).month_number()),
+            Unit::Month | Unit::Year => Ok(parts.first),
             Unit::Eternity => Err(TimeFault::OutOfRange),
         }
     }
@@ -352,7 +410,7 @@ impl Period {
     pub fn first_day(self) -> Result<Period, TimeFault>
         ensures { result ≡ first_day_of self }
     {
-        match self.unit {
+        match self.unit() {
             Unit::Day | Unit::Month | Unit::Year => Ok(day_at(self.start_day())),
             Unit::Eternity => Err(TimeFault::OutOfRange),
         }
@@ -392,7 +450,14 @@ impl Period {
     pub fn offset(self, k: i64) -> Result<Period, TimeFault>
         ensures { result ≡ moved_by k (unit_of self) self }
     {
-        self.offset_by(k, self.unit)
+        let Parts { unit, first, size } = self.parts();
+        match unit {
+            Unit::Day => Period::from_day(size, i128::from(first) + i128::from(k)),
+            Unit::Month | Unit::Year => {
+                Period::from_month(unit, size, later_month(first, k, unit))
+            }
+            Unit::Eternity => Err(TimeFault::OutOfRange),
+        }
     }
 
     /// The period with its start moved by `k` of `unit`, back for a negative `k`, and its own unit
@@ -402,11 +467,14 @@ impl Period {
     pub fn offset_by(self, k: i64, unit: Unit) -> Result<Period, TimeFault>
         ensures { result ≡ moved_by k unit self }
     {
-        match self.unit {
-            Unit::Day => Period::days_moved(self.size, self.first, k, unit),
-            Unit::Month | Unit::Year => Period::months_moved(
-                self.unit, self.size, self.first, k, unit,
-            ),
+        let Parts {
+            unit: own,
+            first,
+            size,
+        } = self.parts();
+        match own {
+            Unit::Day => Period::days_moved(size, first, k, unit),
+            Unit::Month | Unit::Year => Period::months_moved(own, size, first, k, unit),
             Unit::Eternity => Err(TimeFault::OutOfRange),
         }
     }
@@ -458,11 +526,7 @@ impl Period {
         if first < i128::from(FIRST_MONTH) || first > i128::from(END_MONTH - months) {
             return Err(TimeFault::OutOfRange);
         }
-        Ok(Period {
-            first: first as u32,
-            size,
-            unit,
-        })
+        Ok(Period::of(unit, first as u32, size))
     }
 
     /// So many days from a day on.
@@ -474,11 +538,7 @@ impl Period {
         if first < i128::from(FIRST_DAY) || first > i128::from(END_DAY - u32::from(size)) {
             return Err(TimeFault::OutOfRange);
         }
-        Ok(Period {
-            first: first as u32,
-            size,
-            unit: Unit::Day,
-        })
+        Ok(Period::of(Unit::Day, first as u32, size))
     }
 
     /// So many days from that day of a month on, or from its last one where it is too short.
@@ -528,11 +588,7 @@ fn day_at(day: u32) -> Period
     requires to { day < end_day }
     ensures { result ≡ day_at day }
 {
-    Period {
-        first: day,
-        size: 1,
-        unit: Unit::Day,
-    }
+    Period::of(Unit::Day, day, 1)
 }
 
 fn month_at(month: u32) -> Period
@@ -540,11 +596,7 @@ fn month_at(month: u32) -> Period
     requires to { month < 120_000 }
     ensures { result ≡ month_at month }
 {
-    Period {
-        first: month,
-        size: 1,
-        unit: Unit::Month,
-    }
+    Period::of(Unit::Month, month, 1)
 }
 
 fn year_at(year: u32) -> Period
@@ -552,9 +604,5 @@ fn year_at(year: u32) -> Period
     requires to { year < 10_000 }
     ensures { result ≡ year_at year }
 {
-    Period {
-        first: 12 * year,
-        size: 1,
-        unit: Unit::Year,
-    }
+    Period::of(Unit::Year, 12 * year, 1)
 }

@@ -35,7 +35,8 @@ pub(crate) fn numeral(count: usize, text: &str) -> Option<u32>
     }
 }
 
-/// What stands before the first `separator` of a text, and after it.
+/// What stands before the first `separator` of a text, and after it. Inlined, so that each search is for one known byte.
+#[inline(always)]
 pub(crate) fn split(text: &str, separator: char) -> Option<(&str, &str)>
     requires { separator < 128 }
     ensures { MatchOption result (pieces separator text.now ≡ text.now ∷ [])

@@ -1,5 +1,5 @@
-ghost use Rattle.std.specs.Prelude.{◌≡◌};
-ghost use Rattle.fisca_time.specs.Unit.{months_in};
+ghost use Rattle.std.specs.Prelude.{◌≡◌, ◌≤◌};
+ghost use Rattle.fisca_time.specs.Unit.{months_in, unit_ranked};
 
 use std::cmp::Ordering;
 
@@ -51,14 +51,26 @@ impl PartialOrd for Unit {
     }
 }
 
+impl Unit {
+    /// The unit at that place among all, from 0 for the smallest.
+    pub(crate) fn ranked(rank: u8) -> Unit
+        requires { rank ≤ 3 }
+        ensures { result ≡ unit_ranked rank }
+    {
+        match rank {
+            0 => Unit::Day,
+            1 => Unit::Month,
+            2 => Unit::Year,
+            3 => Unit::Eternity,
+            _ => unreachable!(),
+        }
+    }
+}
+
 /// The months in one such unit; days and eternity are not counted in months and have 0.
 pub(crate) fn months_in(unit: Unit) -> u8
     ensures { result ≡ months_in unit }
 {
-    match unit {
-        Unit::Day => 0,
-        Unit::Month => 1,
-        Unit::Year => 12,
-        Unit::Eternity => 0,
-    }
+    const MONTHS: [u8; 4] = [0, 1, 12, 0];
+    MONTHS[unit as usize]
 }

@@ -40,15 +40,59 @@ go_to column levels =
 
 abbrev pub opens : Mark → Bool
 opens mark.Open = true
+opens mark.Close = false
 opens mark.OpenList = true
+opens mark.CloseList = false
 opens mark.OpenMap = true
-opens _ = false
+opens mark.CloseMap = false
+opens mark.Comma = false
+opens mark.Colon = false
+opens mark.Dot = false
+opens mark.Equal = false
+opens mark.EqualEqual = false
+opens mark.NotEqual = false
+opens mark.Less = false
+opens mark.LessEqual = false
+opens mark.Greater = false
+opens mark.GreaterEqual = false
+opens mark.Bar = false
+opens mark.Ampersand = false
+opens mark.Plus = false
+opens mark.Minus = false
+opens mark.Star = false
+opens mark.Slash = false
+opens mark.Tilde = false
+opens mark.Power = false
+opens mark.WholeDivision = false
+opens mark.Augmented = false
 
 abbrev pub closes : Mark → Bool
+closes mark.Open = false
 closes mark.Close = true
+closes mark.OpenList = false
 closes mark.CloseList = true
+closes mark.OpenMap = false
 closes mark.CloseMap = true
-closes _ = false
+closes mark.Comma = false
+closes mark.Colon = false
+closes mark.Dot = false
+closes mark.Equal = false
+closes mark.EqualEqual = false
+closes mark.NotEqual = false
+closes mark.Less = false
+closes mark.LessEqual = false
+closes mark.Greater = false
+closes mark.GreaterEqual = false
+closes mark.Bar = false
+closes mark.Ampersand = false
+closes mark.Plus = false
+closes mark.Minus = false
+closes mark.Star = false
+closes mark.Slash = false
+closes mark.Tilde = false
+closes mark.Power = false
+closes mark.WholeDivision = false
+closes mark.Augmented = false
 
 -- how many brackets are open behind a token; a closing one too many closes nothing
 abbrev pub depth_after : Class → ℕ → ℕ

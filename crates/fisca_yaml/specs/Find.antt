@@ -17,6 +17,18 @@ get name (scalar t q n) = None
 get name (list is) = None
 get name (map es) = get_entry name es
 
+-- the line of the entry of this name, where there is one, else the one given
+abbrev pub entry_line : List ℕ → ℕ → Entries → ℕ
+entry_line name given no_entries = given
+entry_line name given (entry key line n es) = if bytes_eq key name then line else entry_line name given es
+
+-- the same of a node
+abbrev pub line_at : List ℕ → ℕ → Node → ℕ
+line_at name given null = given
+line_at name given (scalar t q line) = given
+line_at name given (list is) = given
+line_at name given (map es) = entry_line name given es
+
 -- the text of any scalar
 abbrev pub as_text : Node → Option (List ℕ)
 as_text null = None

@@ -1,5 +1,6 @@
 -- Collections in brackets, on one line.
 use Rattle.std.specs.Prelude.{ℕ, zero, suc, List, [], ◌∷◌, length, Bool, true, false, not, ◌==◌, ◌||◌, ◌&&◌, if◌then◌else◌, Option, Some, None, option_map, option_and_then}
+use Rattle.fisca_yaml.specs.Characters.{hash, comma, colon, open_bracket, close_bracket, open_brace, close_brace}
 use Rattle.fisca_yaml.specs.Node.{Node, null, scalar, list, map, keys, repeats, Items, no_items, item, Entries, no_entries, entry}
 use Rattle.fisca_yaml.specs.Rows.{is_blank, begins, tail}
 use Rattle.fisca_yaml.specs.Scalars.{Read, quoted, is_quote, past_blanks, trim_end, may_begin, leaf, is_key, is_nil}
@@ -12,7 +13,7 @@ abbrev pub parse_map : {A B : Type 0} → (A → B) → Option (A × List ℕ) �
 parse_map f r = option_map (λ p. (f p.0, p.1)) r
 
 abbrev pub ends_value : ℕ → Bool
-ends_value b = (b == 44) || ((b == 93) || (b == 125))
+ends_value b = (b == comma) || ((b == close_bracket) || (b == close_brace))
 
 abbrev pub ends_key : List ℕ → Bool
 ends_key [] = true
@@ -20,7 +21,7 @@ ends_key (b ∷ bs) = is_blank b || ends_value b
 
 -- whether a plain scalar stops before b, with bs after it; the flag says that a blank came just before
 abbrev pub stops : Bool → ℕ → List ℕ → Bool
-stops after b bs = ends_value b || (((b == 58) && ends_key bs) || ((b == 35) && after))
+stops after b bs = ends_value b || (((b == colon) && ends_key bs) || ((b == hash) && after))
 
 abbrev pub word : Bool → List ℕ → List ℕ
 word after [] = []
@@ -41,7 +42,7 @@ flow_scalar number bs = if is_quote bs then parse_map (λ t. scalar t true numbe
 -- what follows a value: past the comma, or at the closing bracket
 abbrev pub separated : ℕ → List ℕ → Option (List ℕ)
 separated close [] = None
-separated close (b ∷ bs) = if b == 44 then Some (past_blanks false bs) else (if b == close then Some (b ∷ bs) else None)
+separated close (b ∷ bs) = if b == comma then Some (past_blanks false bs) else (if b == close then Some (b ∷ bs) else None)
 
 abbrev pub after_value : ℕ → List ℕ → Option (List ℕ)
 after_value close bs = separated close (past_blanks false bs)
@@ -60,12 +61,12 @@ series close none add element zero bs = None
 series close none add element (suc n) bs = series_step close none add element (series close none add element n) bs
 
 abbrev pub flow_items : Parse Node → ℕ → Parse Items
-flow_items value number bs = series 93 no_items (item number) value (length bs) bs
+flow_items value number bs = series close_bracket no_items (item number) value (length bs) bs
 
 -- a key, and what follows its colon and the blanks; a plain key's colon needs a blank or an end after it
 abbrev pub colon_then : Bool → List ℕ → List ℕ → Read
 colon_then loose k [] = None
-colon_then loose k (b ∷ bs) = if (b == 58) && ((loose || ends_key bs) && is_key k) then Some (k, past_blanks false bs) else None
+colon_then loose k (b ∷ bs) = if (b == colon) && ((loose || ends_key bs) && is_key k) then Some (k, past_blanks false bs) else None
 
 abbrev pub keyed_by : Bool → Read → Read
 keyed_by loose None = None
@@ -76,7 +77,7 @@ flow_key bs = if is_quote bs then keyed_by true (quoted bs) else keyed_by false 
 
 -- the value of an entry, or null where a comma or the bracket follows
 abbrev pub value_or_null : Parse Node → Parse Node
-value_or_null value bs = if begins 44 bs || begins 125 bs then Some (null, bs) else value bs
+value_or_null value bs = if begins comma bs || begins close_brace bs then Some (null, bs) else value bs
 
 abbrev pub beside_key : List ℕ → Option (Node × List ℕ) → Option ((List ℕ × Node) × List ℕ)
 beside_key k None = None
@@ -93,7 +94,7 @@ abbrev pub add_pair : ℕ → List ℕ × Node → Entries → Entries
 add_pair number p es = entry p.0 number p.1 es
 
 abbrev pub flow_entries : Parse Node → ℕ → Parse Entries
-flow_entries value number bs = series 125 no_entries (add_pair number) (flow_entry value) (length bs) bs
+flow_entries value number bs = series close_brace no_entries (add_pair number) (flow_entry value) (length bs) bs
 
 -- a map has no key twice
 abbrev pub map_apart : Option (Entries × List ℕ) → Option (Node × List ℕ)
@@ -102,8 +103,8 @@ map_apart (Some p) = if repeats (keys p.0) then None else Some (map p.0, p.1)
 
 abbrev pub flow_with : Parse Items → Parse Entries → ℕ → Parse Node
 flow_with items entries number bs =
-    if begins 91 bs then parse_map list (items (past_blanks false (tail bs)))
-    else (if begins 123 bs then map_apart (entries (past_blanks false (tail bs))) else flow_scalar number bs)
+    if begins open_bracket bs then parse_map list (items (past_blanks false (tail bs)))
+    else (if begins open_brace bs then map_apart (entries (past_blanks false (tail bs))) else flow_scalar number bs)
 
 -- one value, with lists and maps nested no deeper than the first number
 unfoldable pub flow_value : ℕ → ℕ → Parse Node

@@ -1,5 +1,6 @@
 -- The lines, grouped by their depth, and what they stand for.
 use Rattle.std.specs.Prelude.{◌≡◌, ◌≤◌, ◌^◌, ℕ, zero, suc, List, [], ◌∷◌, length, Bool, true, not, ◌==◌, ◌||◌, ◌&&◌, nat_le, nat_lt, if◌then◌else◌, Option, Some, None, option_map, is_some}
+use Rattle.fisca_yaml.specs.Characters.{tab, plus_sign, dash, greater, open_bracket, open_brace, bar}
 use Rattle.std.specs.List.{list_all}
 use Rattle.fisca_yaml.specs.Node.{Node, nested, keys, repeats, null, scalar, list, map, Items, no_items, item, Entries, no_entries}
 use Rattle.fisca_yaml.specs.Rows.{Row, begins, tail, begins_item, rank, following, after_dash, is_marker, text_rows}
@@ -54,7 +55,7 @@ alone [] o = o
 alone (l ∷ ls) o = None
 
 abbrev pub is_bracket : List ℕ → Bool
-is_bracket bs = begins 91 bs || begins 123 bs
+is_bracket bs = begins open_bracket bs || begins open_brace bs
 
 abbrev pub ended : Option (Node × List ℕ) → Option Node
 ended None = None
@@ -68,7 +69,7 @@ on_line d r =
 
 -- a sign or a digit
 abbrev pub is_sign : ℕ → Bool
-is_sign b = (b == 43) || ((b == 45) || (nat_le 48 b && nat_le b 57))
+is_sign b = (b == plus_sign) || ((b == dash) || (nat_le 48 b && nat_le b 57))
 
 -- what may follow `|` or `>`: signs, blanks and a comment
 abbrev pub is_header : List ℕ → Bool
@@ -77,7 +78,7 @@ is_header (b ∷ bs) = if is_sign b then is_header bs else ends_line (b ∷ bs)
 
 -- a line of a block text is deeper than the entry or item, and no tab stands among its leading blanks
 abbrev pub is_text_line : ℕ → Row → Bool
-is_text_line indent l = nat_lt indent l.indent && not (begins 9 l.content)
+is_text_line indent l = nat_lt indent l.indent && not (begins tab l.content)
 
 -- a block text, which is read as a quoted scalar without text
 abbrev pub text_block : ℕ → Row → List Row → Option Node
@@ -88,7 +89,7 @@ abbrev pub opens : Row → Bool
 opens r = begins_item r.content || is_some (entry_of r.content)
 
 abbrev pub begins_text : Row → Bool
-begins_text r = begins 124 r.content || begins 62 r.content
+begins_text r = begins bar r.content || begins greater r.content
 
 -- a value beside a key or a dash that stands at this indentation
 abbrev pub beside : ℕ → ℕ → Row → List Row → Option Node

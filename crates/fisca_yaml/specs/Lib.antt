@@ -1,3 +1,4 @@
+pub mod Characters
 pub mod Answers
 pub mod Faults
 pub mod Find

@@ -1,5 +1,6 @@
 -- Plain and quoted scalars, and the keys of entries.
 use Rattle.std.specs.Prelude.{ℕ, zero, suc, ◌+◌, ◌*◌, List, [], ◌∷◌, ◌++◌, Bool, true, false, not, ◌==◌, ◌||◌, ◌&&◌, if◌then◌else◌, nat_le, nat_lt, Option, Some, None, is_some, codes, encode_utf8}
+use Rattle.fisca_yaml.specs.Characters.{tab, line_feed, carriage_return, double_quote, hash, single_quote, dash, slash, colon, question_mark, backslash}
 use Rattle.std.specs.Char.{digit_value, is_digit}
 use Rattle.std.specs.List.{list_any}
 use Rattle.std.specs.Str.{bytes_eq}
@@ -18,8 +19,8 @@ prepend bytes (Some p) = Some (bytes ++ p.0, p.1)
 abbrev pub single : Bool → List ℕ → Read
 single pending [] = if pending then Some ([], []) else None
 single pending (b ∷ bs) =
-    if pending then (if b == 39 then prepend (39 ∷ []) (single false bs) else Some ([], b ∷ bs))
-    else (if b == 39 then single true bs else prepend (b ∷ []) (single false bs))
+    if pending then (if b == single_quote then prepend (single_quote ∷ []) (single false bs) else Some ([], b ∷ bs))
+    else (if b == single_quote then single true bs else prepend (b ∷ []) (single false bs))
 
 -- where a text in double quotes is: between escapes, behind a backslash, or in an escape by number, with so many hex digits to come after the next one
 pub data Escape : Type 0 where
@@ -30,8 +31,8 @@ pub data Escape : Type 0 where
 -- what the character behind a backslash stands for
 abbrev pub short_escape : ℕ → Option ℕ
 short_escape b =
-    if (b == 92) || ((b == 34) || (b == 47)) then Some b
-    else (if b == 110 then Some 10 else (if b == 114 then Some 13 else (if b == 116 then Some 9 else (if b == 48 then Some 0 else None))))
+    if (b == backslash) || ((b == double_quote) || (b == slash)) then Some b
+    else (if b == 110 then Some line_feed else (if b == 114 then Some carriage_return else (if b == 116 then Some tab else (if b == 48 then Some 0 else None))))
 
 abbrev pub is_surrogate : ℕ → Bool
 is_surrogate u = nat_le 0xd800 u && nat_lt u 0xe000
@@ -47,7 +48,7 @@ after_number u r = if is_surrogate u then None else prepend (encode_utf8 u) r
 -- the rest of a text in double quotes
 abbrev pub double : Escape → List ℕ → Read
 double none [] = None
-double none (b ∷ bs) = if b == 34 then Some ([], bs) else (if b == 92 then double begun bs else prepend (b ∷ []) (double none bs))
+double none (b ∷ bs) = if b == double_quote then Some ([], bs) else (if b == backslash then double begun bs else prepend (b ∷ []) (double none bs))
 double begun [] = None
 double begun (b ∷ bs) =
     if b == 120 then double (digits 1 0) bs else (if b == 117 then double (digits 3 0) bs else after_escape (short_escape b) (double none bs))
@@ -56,16 +57,16 @@ double (digits zero u) (b ∷ bs) = if is_digit b 16 then after_number (u * 16 +
 double (digits (suc n) u) (b ∷ bs) = if is_digit b 16 then double (digits n (u * 16 + digit_value b)) bs else None
 
 abbrev pub is_quote : List ℕ → Bool
-is_quote bs = begins 34 bs || begins 39 bs
+is_quote bs = begins double_quote bs || begins single_quote bs
 
 -- the quoted text in front, where a quote is
 abbrev pub quoted : List ℕ → Read
-quoted bs = if begins 34 bs then double none (tail bs) else (if begins 39 bs then single false (tail bs) else None)
+quoted bs = if begins double_quote bs then double none (tail bs) else (if begins single_quote bs then single false (tail bs) else None)
 
 -- what follows the blanks, and nothing where a comment does; the flag says that a blank came just before
 abbrev pub past_blanks : Bool → List ℕ → List ℕ
 past_blanks after [] = []
-past_blanks after (b ∷ bs) = if is_blank b then past_blanks true bs else (if (b == 35) && after then [] else b ∷ bs)
+past_blanks after (b ∷ bs) = if is_blank b then past_blanks true bs else (if (b == hash) && after then [] else b ∷ bs)
 
 abbrev pub is_nil : List ℕ → Bool
 is_nil [] = true
@@ -78,7 +79,7 @@ ends_line bs = is_nil (past_blanks false bs)
 -- the line up to a comment
 abbrev pub before_comment : Bool → List ℕ → List ℕ
 before_comment after [] = []
-before_comment after (b ∷ bs) = if (b == 35) && after then [] else b ∷ before_comment (is_blank b) bs
+before_comment after (b ∷ bs) = if (b == hash) && after then [] else b ∷ before_comment (is_blank b) bs
 
 abbrev pub in_front : ℕ → List ℕ → List ℕ
 in_front b [] = if is_blank b then [] else b ∷ []
@@ -95,7 +96,7 @@ is_reserved b = list_any (λ c. c == b) (codes "&*!%@`,]}\"'[{")
 -- what a plain scalar may begin with
 abbrev pub may_begin : List ℕ → Bool
 may_begin [] = false
-may_begin (b ∷ bs) = not (is_blank b || (is_reserved b || (((b == 63) || ((b == 58) || (b == 45))) && ends_mark bs)))
+may_begin (b ∷ bs) = not (is_blank b || (is_reserved b || (((b == question_mark) || ((b == colon) || (b == dash))) && ends_mark bs)))
 
 abbrev pub is_null_word : List ℕ → Bool
 is_null_word t = bytes_eq t (codes "~") || (bytes_eq t (codes "null") || (bytes_eq t (codes "Null") || bytes_eq t (codes "NULL")))
@@ -108,7 +109,7 @@ leaf number t = if is_null_word t then null else scalar t false number
 abbrev pub key_split : Bool → List ℕ → Read
 key_split after [] = None
 key_split after (b ∷ bs) =
-    if (b == 35) && after then None else (if (b == 58) && ends_mark bs then Some ([], bs) else prepend (b ∷ []) (key_split (is_blank b) bs))
+    if (b == hash) && after then None else (if (b == colon) && ends_mark bs then Some ([], bs) else prepend (b ∷ []) (key_split (is_blank b) bs))
 
 abbrev pub trimmed : Read → Read
 trimmed None = None
@@ -116,7 +117,7 @@ trimmed (Some p) = Some (trim_end p.0, p.1)
 
 abbrev pub colon_next : List ℕ → List ℕ → Read
 colon_next k [] = None
-colon_next k (b ∷ bs) = if (b == 58) && ends_mark bs then Some (k, bs) else None
+colon_next k (b ∷ bs) = if (b == colon) && ends_mark bs then Some (k, bs) else None
 
 abbrev pub after_quoted : Read → Read
 after_quoted None = None

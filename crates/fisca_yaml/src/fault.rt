@@ -1,3 +1,5 @@
+//! Why a text is refused.
+
 ghost use Rattle.std.specs.Prelude.{◌≡◌, ◌≢◌, ◌<◌, ◌↔◌};
 ghost use Rattle.fisca_yaml.specs.declared.fault.Kind.TheVariants as kinds;
 ghost use Rattle.fisca_yaml.specs.Faults.{name_of, number_of};

@@ -1,3 +1,5 @@
+//! Lists and maps in brackets.
+
 ghost use Rattle.std.specs.Prelude.{◌≡◌, ◌≢◌, ◌<◌, ◌≤◌, ◌-◌, ◌∷◌, Some, None, length, IsTrue, IfOk, OnOk, MatchOption, MatchResult, false, true, slice_index, drop, ◌+◌, take, [], option_map, IfErr};
 ghost use Rattle.std.specs.Bool.{OnTrue, OnFalse};
 ghost use Rattle.fisca_yaml.specs.Rows.{begins, tail};

@@ -1,3 +1,5 @@
+//! Keys that come a second time.
+
 ghost use Rattle.std.specs.Prelude.{◌≡◌, ◌≢◌, IfOk, is_some, IfSome, ◌<◌, ◌≤◌, max};
 ghost use Rattle.std.specs.List.{list_any};
 ghost use Rattle.std.specs.Str.{bytes_eq};

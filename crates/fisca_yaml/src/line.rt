@@ -1,3 +1,5 @@
+//! A line with content, and how it begins.
+
 ghost use Rattle.std.specs.Prelude.{◌≡◌, ◌+◌, ◌*◌, ◌<◌, ◌≤◌, ◌^◌, length, Option, Some, None, option_map, IsTrue, IfOk, IfSome, is_some, false};
 ghost use Rattle.fisca_yaml.specs.Rows.{begins_item, rank, indented, following, row_of, after_dash, is_start, is_marker, begins};
 ghost use Rattle.fisca_yaml.specs.Scalars.{entry_of, key_split, trimmed, after_quoted, quoted};

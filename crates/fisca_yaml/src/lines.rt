@@ -1,3 +1,5 @@
+//! The lines of a text that have content, one after another.
+
 ghost use Rattle.std.specs.Prelude.{◌≡◌, ◌+◌, ◌<◌, ◌≤◌, ◌^◌, [], ◌∷◌, length, IfNone, IfSome, MatchOption, drop};
 ghost use Rattle.std.specs.Str.Lines.{lines};
 ghost use Rattle.fisca_yaml.specs.Rows.{rank, rows, past_marker};

@@ -1,3 +1,5 @@
+//! The fault of a line that stands where none fits.
+
 ghost use Rattle.std.specs.Prelude.{◌≡◌, ◌&&◌, ◌==◌, nat_lt, ◌/◌, ◌-◌, IfErr};
 ghost use Rattle.fisca_yaml.specs.Answers.{IsTold};
 

@@ -1,3 +1,5 @@
+//! Plain scalars, and which texts are keys.
+
 ghost use Rattle.std.specs.Prelude.{◌≡◌, ◌≢◌, ◌+◌, ◌<◌, ◌≤◌, ◌&&◌, length, Some, None, MatchOption, slice_index, take, drop, option_map, is_some, true, false, ◌==◌};
 ghost use Rattle.fisca_yaml.specs.Rows.{ends_mark};
 ghost use Rattle.fisca_yaml.specs.Scalars.{key_split, before_comment, trim_end, is_null_word, is_key};

@@ -1,3 +1,5 @@
+//! Texts in quotes.
+
 ghost use Rattle.std.specs.Prelude.{◌≡◌, ◌≢◌, ◌<◌, ◌≤◌, ◌+◌, ◌⊎◌, ℕ, [], Some, None, length, take, drop, slice_index, MatchOption, IfOk, IfSome, IfNone, OnOk, option_map, string_bytes, false, true, encode_utf8};
 ghost use Rattle.std.specs.Char.{is_digit, digit_value};
 ghost use Rattle.fisca_yaml.specs.Scalars.{single, double, none, begun, digits, quoted, prepend, short_escape};

@@ -1,3 +1,5 @@
+//! Reading a text: its lines, grouped by how deep they stand.
+
 ghost use Rattle.std.specs.Prelude.{◌≡◌, ◌≢◌, ℕ, ◌^◌, length, ◌∷◌, ◌<◌, ◌-◌, Some, None, Ok, Err, IfOk, OnOk, IfErr, IsTrue, List, MatchResult, is_some, ◌≤◌, OnErr, IsErrAnd, ◌↔◌};
 ghost use Rattle.fisca_yaml.specs.Rows.{rank, begins_item, following, last_number};
 ghost use Rattle.std.specs.Str.Lines.{lines};

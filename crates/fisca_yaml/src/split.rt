@@ -1,3 +1,5 @@
+//! The key of an entry and what follows its colon.
+
 ghost use Rattle.std.specs.Prelude.{◌≡◌, ◌≢◌, ◌<◌, ◌≤◌, ℕ, ◌∷◌, length, slice_index, MatchOption};
 ghost use Rattle.std.specs.Str.Lines.{lines, strip_carriage_return};
 

@@ -1,8 +1,10 @@
-ghost use Rattle.std.specs.Prelude.{◌≡◌, string_bytes, option_map, Some, OnOk, IfErr, true, OnErr};
+//! What a text means.
+
+ghost use Rattle.std.specs.Prelude.{◌≡◌, ℕ, string_bytes, option_map, unwrap_or, Some, OnOk, IfErr, true, OnErr};
 ghost use Rattle.fisca_yaml.specs.Node.{scalar};
 ghost use Rattle.fisca_yaml.specs.Scalars.{leaf};
 ghost use Rattle.fisca_yaml.specs.Views.{node, entries_view, AddsItem, AddsEntry};
-ghost use Rattle.fisca_yaml.specs.Find.{get, get_entry, as_text, as_plain, as_bool, as_number, bool_of};
+ghost use Rattle.fisca_yaml.specs.Find.{get, get_entry, entry_line, line_at, as_text, as_plain, as_bool, as_number, bool_of};
 
 use crate::fault::{Kind, YamlFault};
 use crate::plain::is_null_word;
@@ -147,14 +149,23 @@ pub(crate) fn quoted_scalar(line: usize, text: Text<'_>) -> Tree<'_>
 }
 
 impl<'a> Tree<'a> {
-    /// The value at a key of a map. There is none in a list, a scalar or nothing.
-    pub fn get(&self, name: &str) -> Option<&Tree<'a>>
-        ensures { option_map (λ t. node t.now) result ≡ get name.now (node self.now) }
+    /// The entry at a key of a map, which has the line of the key. There is none in a list, a scalar or nothing.
+    pub fn entry(&self, name: &str) -> Option<&Entry<'a>>
+        ensures value { option_map (λ e. node e.now.value) result ≡ get name.now (node self.now) }
+        ensures line { (other : ℕ) → unwrap_or (option_map (λ e. e.now.line) result) other ≡ line_at name.now other (node self.now) }
     {
         match self {
             Tree::Map(entries) => find(entries, name),
             _ => None,
         }
+    }
+
+    /// The value at a key of a map. There is none in a list, a scalar or nothing.
+    pub fn get(&self, name: &str) -> Option<&Tree<'a>>
+        ensures { option_map (λ t. node t.now) result ≡ get name.now (node self.now) }
+    {
+        let entry = self.entry(name)?;
+        Some(&entry.value)
     }
 
     /// The text of a scalar, in quotes or not.
@@ -210,15 +221,16 @@ fn bool_of(word: &str) -> Option<bool>
     }
 }
 
-/// The value at a key.
-fn find<'t, 'a>(entries: &'t Vec<Entry<'a>>, name: &str) -> Option<&'t Tree<'a>>
-    ensures { option_map (λ t. node t.now) result ≡ get_entry name.now (entries_view entries.now.items) }
+/// The entry at a key.
+fn find<'t, 'a>(entries: &'t Vec<Entry<'a>>, name: &str) -> Option<&'t Entry<'a>>
+    ensures value { option_map (λ e. node e.now.value) result ≡ get_entry name.now (entries_view entries.now.items) }
+    ensures line { (other : ℕ) → unwrap_or (option_map (λ e. e.now.line) result) other ≡ entry_line name.now other (entries_view entries.now.items) }
 {
     let mut at = 0;
     'entries: while at < entries.len() {
         let entry = &entries[at];
         if entry.key.as_str() == name {
-            return Some(&entry.value);
+            return Some(entry);
         }
         at += 1;
     }

@@ -1,3 +1,5 @@
+//! Values beside a key or a dash.
+
 ghost use Rattle.std.specs.Prelude.{◌≡◌, ◌≢◌, ℕ, ◌∷◌, Some, None, Ok, Err, OnOk, IfOk, true, false, ◌||◌, IfErr};
 ghost use Rattle.std.specs.List.{list_all};
 ghost use Rattle.fisca_yaml.specs.Rows.{begins, tail, last_number};

@@ -1,6 +1,7 @@
 use super::*;
 use crate::tests::words_of;
 use clap::error::ErrorKind;
+use std::alloc::{AllocError, Global};
 
 #[test]
 fn a_command_line_without_a_task_has_its_kind(rt: HostRuntime) -> Result<(), AllocError> {
@@ -56,6 +57,43 @@ fn words_and_options_of_axes_are_read(rt: HostRuntime) -> Result<(), AllocError>
         }
         Ok(Task::Check { .. }) => assert!(rt; false, "axes are asked for"),
         Err(error) => assert!(rt; false, "{error}"),
+    }
+    Ok(())
+}
+
+/// What `clap` prints for a command line that asks for help.
+fn help(alloc: Global, line: &str) -> Result<String, AllocError> {
+    let words = words_of(alloc, line)?;
+    match read_task(alloc, words.as_slice()) {
+        Ok(_) => String::from_str(alloc, "a task"),
+        Err(error) => format!(in alloc; "{error}"),
+    }
+}
+
+#[test]
+fn help_says_what_the_commands_take_and_answer(rt: HostRuntime) -> Result<(), AllocError> {
+    let table = [
+        ("fisca --help", "Usage: fisca <COMMAND>"),
+        ("fisca --help", CHECK_ABOUT),
+        ("fisca --help", AXES_ABOUT),
+        ("fisca --help", STATUSES),
+        ("fisca --version", "fisca 0.1.0"),
+        ("fisca check --help", "Usage: fisca check <RULES>"),
+        ("fisca check --help", CHECK_LONG),
+        ("fisca check --help", RULES_HELP),
+        ("fisca check --help", CHECK_EXAMPLE),
+        ("fisca help check", CHECK_LONG),
+        ("fisca axes --help", "Usage: fisca axes [OPTIONS] <AXIS>..."),
+        ("fisca axes --help", AXES_LONG),
+        ("fisca axes --help", AXES_EXAMPLES),
+        ("fisca axes --help", "  --rows <N>"),
+        ("fisca axes -h", KEEP_HELP),
+        ("fisca axes -h", AXES_EXAMPLE),
+        ("fisca help axes", AXES_LONG),
+    ];
+    for (line, part) in table {
+        let text = help(rt.alloc(), line)?;
+        assert!(rt; text.as_str().contains(part), "{line} does not say: {part}");
     }
     Ok(())
 }

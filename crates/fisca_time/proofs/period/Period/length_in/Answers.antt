@@ -12,4 +12,4 @@ pub returns-in-Month-default : goal.returns-in-Month-default
 returns-in-Month-default c = rw c.in-Month-default.is-0 (c.month_count.ensures ∙ sym (length-months c.args.self))
 
 pub returns-in-Year-Year : goal.returns-in-Year-Year
-returns-in-Year-Year c = rw (← c.self.view_is, c.in-Year-Year.is-0, c.in-Year-Year.is-1) (c.from.ensures ∙ sym (length-years c.self.inside.first c.self.inside.size))
+returns-in-Year-Year c = rw (← c.parts-parts.ensures.span, c.in-Year-Year.is-0, c.in-Year-Year.is-1) (c.from.ensures ∙ sym (length-years c.parts-parts.result.first c.parts-parts.result.size))

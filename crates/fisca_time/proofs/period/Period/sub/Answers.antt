@@ -26,47 +26,44 @@ returns-in-Day c =
     let k : IsDaySub c.args.self c.args.i = day_sub c.args.self c.args.i c.start_day.ensures.period requires in
     rw (c.in-Day.is, c.day_at.ensures, c.start_day.ensures.value) k.at
 
-pub overflow_add-self-inside : goal.overflow_add-self-inside
-overflow_add-self-inside c =
-    let k : IsKept c.self.inside.unit c.self.inside.first c.self.inside.size c.args.self = kept_is c.self.inside.unit c.self.inside.first c.self.inside.size c.args.self c.self.invariant c.self.view_is in
+pub overflow_add-parts : goal.overflow_add-parts
+overflow_add-parts c =
+    let p = c.parts.result in
+    let k : IsKept p.unit p.first p.size c.args.self = kept_is p.unit p.first p.size c.args.self c.parts.ensures.kept c.parts.ensures.span in
     let m : IsMonthSub c.args.self c.args.i = month_sub c.args.self c.args.i k.period (rw c.in-Month.is at c.requires) in
     omega (arith, m.to, k.first)
 
-pub month_at-requires-clause-to : goal.month_at-requires-clause-to
-month_at-requires-clause-to c =
-    let k : IsKept c.self.inside.unit c.self.inside.first c.self.inside.size c.args.self = kept_is c.self.inside.unit c.self.inside.first c.self.inside.size c.args.self c.self.invariant c.self.view_is in
+pub month_at-requires : goal.month_at-requires
+month_at-requires c =
+    let p = c.parts.result in
+    let k : IsKept p.unit p.first p.size c.args.self = kept_is p.unit p.first p.size c.args.self c.parts.ensures.kept c.parts.ensures.span in
     let m : IsMonthSub c.args.self c.args.i = month_sub c.args.self c.args.i k.period (rw c.in-Month.is at c.requires) in
-    omega (arith, m.to, k.first)
-
-pub month_at-requires-clause-from : goal.month_at-requires-clause-from
-month_at-requires-clause-from c =
-    let k : IsKept c.self.inside.unit c.self.inside.first c.self.inside.size c.args.self = kept_is c.self.inside.unit c.self.inside.first c.self.inside.size c.args.self c.self.invariant c.self.view_is in
-    let m : IsMonthSub c.args.self c.args.i = month_sub c.args.self c.args.i k.period (rw c.in-Month.is at c.requires) in
-    omega (arith, m.from, k.first)
+    record { from = omega (arith, m.from, k.first); to = omega (arith, m.to, k.first) }
 
 pub returns-in-Month : goal.returns-in-Month
 returns-in-Month c =
-    let k : IsKept c.self.inside.unit c.self.inside.first c.self.inside.size c.args.self = kept_is c.self.inside.unit c.self.inside.first c.self.inside.size c.args.self c.self.invariant c.self.view_is in
+    let p = c.parts.result in
+    let k : IsKept p.unit p.first p.size c.args.self = kept_is p.unit p.first p.size c.args.self c.parts.ensures.kept c.parts.ensures.span in
     let m : IsMonthSub c.args.self c.args.i = month_sub c.args.self c.args.i k.period (rw c.in-Month.is at c.requires) in
     rw (c.in-Month.is, c.month_at.ensures, ← k.first) m.at
 
-pub overflow_add-self-inside-in-Year : goal.overflow_add-self-inside-in-Year
-overflow_add-self-inside-in-Year c =
-    let p = c.self-in-Year.inside in
-    let k : IsKept p.unit p.first p.size c.args.self = kept_is p.unit p.first p.size c.args.self c.self-in-Year.invariant c.self-in-Year.view_is in
+pub overflow_add-parts-in-Year : goal.overflow_add-parts-in-Year
+overflow_add-parts-in-Year c =
+    let p = c.parts-in-Year.result in
+    let k : IsKept p.unit p.first p.size c.args.self = kept_is p.unit p.first p.size c.args.self c.parts-in-Year.ensures.kept c.parts-in-Year.ensures.span in
     let y : IsYearSub c.args.self c.args.i = year_sub c.args.self c.args.i k.period (rw c.in-Year.is at c.requires) in
     omega (arith, y.to, k.first)
 
 pub year_at-requires : goal.year_at-requires
 year_at-requires c =
-    let p = c.self-in-Year.inside in
-    let k : IsKept p.unit p.first p.size c.args.self = kept_is p.unit p.first p.size c.args.self c.self-in-Year.invariant c.self-in-Year.view_is in
+    let p = c.parts-in-Year.result in
+    let k : IsKept p.unit p.first p.size c.args.self = kept_is p.unit p.first p.size c.args.self c.parts-in-Year.ensures.kept c.parts-in-Year.ensures.span in
     let y : IsYearSub c.args.self c.args.i = year_sub c.args.self c.args.i k.period (rw c.in-Year.is at c.requires) in
     record { from = omega (arith, y.from, k.first); to = omega (arith, y.to, k.first) }
 
 pub returns-in-Year : goal.returns-in-Year
 returns-in-Year c =
-    let p = c.self-in-Year.inside in
-    let k : IsKept p.unit p.first p.size c.args.self = kept_is p.unit p.first p.size c.args.self c.self-in-Year.invariant c.self-in-Year.view_is in
+    let p = c.parts-in-Year.result in
+    let k : IsKept p.unit p.first p.size c.args.self = kept_is p.unit p.first p.size c.args.self c.parts-in-Year.ensures.kept c.parts-in-Year.ensures.span in
     let y : IsYearSub c.args.self c.args.i = year_sub c.args.self c.args.i k.period (rw c.in-Year.is at c.requires) in
     rw (c.in-Year.is, c.year_at.ensures, ← k.first) y.at

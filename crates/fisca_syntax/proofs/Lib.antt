@@ -1,0 +1,12 @@
+pub mod Split
+pub mod ListedNames
+pub mod Turns
+pub mod Inverse
+pub mod Found
+pub mod Statements
+pub mod Declared
+pub mod Laws
+pub mod Spelled
+pub mod Complete
+pub mod Whole
+pub mod Worked

@@ -1,9 +1,9 @@
 //! Answers the cases on standard input: each names a public call of a library and its words, and behind it, or below it,
 //! stands what the call answers. So a row of a test costs the prover nothing.
 //!
-//! A case is a line `LAYER OPERATION WORD..`. A word has no blank, or stands in double quotes, with the escapes of
-//! Rust. Lines below it that begin with two blanks are the text that is its last word. Empty lines and lines with `#` are
-//! copied. `file PATH TEXT` adds a file to the rule set that later cases are about, and `rules` begins a new one.
+//! A case is a line `LAYER OPERATION WORD..`. A word has no blank, or stands in double quotes, with the escapes `\n`, `\r`,
+//! `\t`, `\"` and `\\`. Lines below it that begin with two blanks are the text that is its last word. Empty lines and lines
+//! with `#` are copied. `file PATH TEXT` adds a file to the rule set that later cases are about, and `rules` begins a new one.
 #![tactic(auto)]
 
 mod case;

@@ -1,0 +1,12 @@
+pub mod Asks
+pub mod Calls
+pub mod Names
+pub mod Nodes
+pub mod Operations
+pub mod Parameters
+pub mod Periods
+pub mod Tables
+pub mod Texts
+pub mod Things
+pub mod Types
+pub mod Typing

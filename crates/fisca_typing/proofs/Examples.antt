@@ -6,6 +6,7 @@ use Rattle.fisca_expressions.specs.Tree.{Tree, Series}
 use Rattle.fisca_expressions.specs.Tree as tree
 use Rattle.fisca_expressions.specs.declared.tree.Suffix.TheVariants as suffix
 use Rattle.fisca_expressions.specs.declared.tree.Bracket.TheVariants as bracket
+use Rattle.fisca_time.specs.declared.unit.Unit.TheVariants as unit
 use Rattle.fisca_typing.specs.declared.kinds.Level.{Level}
 use Rattle.fisca_typing.specs.declared.kinds.Level.TheVariants as level
 use Rattle.fisca_typing.specs.declared.kinds.ValueType.{ValueType}
@@ -42,7 +43,7 @@ abbrev choices : List ℕ → List (List ℕ) → Choices
 choices name members = record { name = name; members = members }
 
 abbrev variable : List ℕ → ℕ → ValueType → Variable
-variable name entity t = record { name = name; entity = entity; value_type = Some t }
+variable name entity t = record { name = name; entity = entity; value_type = Some t; definition_period = unit.Month }
 
 -- variables of persons, then of households: a number, a bool and a member of `Occupancy` each; then a date, and a number of `has_role`
 abbrev pub tables : Tables
@@ -51,7 +52,7 @@ tables = record {
   enums = choices (codes "Occupancy") (codes "tenant" ∷ codes "owner" ∷ []) ∷ choices (codes "Status") (codes "single" ∷ []) ∷ [];
   variables = variable (codes "salary") 1 vt.Number ∷ variable (codes "adult") 1 vt.Bool ∷ variable (codes "status") 1 (vt.Enum 1)
     ∷ variable (codes "rent") 0 vt.Number ∷ variable (codes "social") 0 vt.Bool ∷ variable (codes "occupancy") 0 (vt.Enum 0)
-    ∷ record { name = codes "birth"; entity = 1; value_type = None } ∷ variable (codes "fee") 3 vt.Number ∷ [];
+    ∷ record { name = codes "birth"; entity = 1; value_type = None; definition_period = unit.Month } ∷ variable (codes "fee") 3 vt.Number ∷ [];
   nodes = [];
 }
 

@@ -4,6 +4,7 @@ use Rattle.std.specs.List.{position_from}
 use Rattle.std.specs.Str.{bytes_eq}
 use Rattle.std.specs.Char.{to_ascii_uppercase}
 use Rattle.fisca_params.specs.Tree.{TreeNode}
+use Rattle.fisca_time.specs.declared.unit.Unit.{Unit}
 use Rattle.fisca_typing.specs.declared.kinds.ValueType.{ValueType}
 use Rattle.fisca_typing.specs.declared.asking.RolePlace.{RolePlace}
 
@@ -30,6 +31,7 @@ pub record Variable : Type 0 where
   pub name : List ℕ
   pub entity : ℕ
   pub value_type : Option ValueType
+  pub definition_period : Unit
 
 pub record Tables : Type 0 where
   pub entities : List Entity

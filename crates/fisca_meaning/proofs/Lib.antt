@@ -1,0 +1,5 @@
+mod Operands
+mod Parameters
+mod Questions
+mod Sound
+mod Totals

@@ -3,3 +3,4 @@ mod Parameters
 mod Questions
 mod Sound
 mod Totals
+pub mod WorkedMeaning

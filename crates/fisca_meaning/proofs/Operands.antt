@@ -1,6 +1,6 @@
 -- Operands of the right type.
-use Rattle.std.proofs.Common.{◌≡◌, ℕ, Bool, true, false, refl, sym, ap, ◌∙◌, subst, Option, Some, None}
-use Rattle.std.specs.Prelude.{nat_lt, length, ◌==◌, if◌then◌else◌, Result, Ok, Err}
+use Rattle.std.proofs.Common.{◌≡◌, ℕ, Bool, true, false, refl, subst}
+use Rattle.std.specs.Prelude.{nat_lt, length, Result, Ok, Err}
 use Rattle.std.proofs.lemmas.Bool.{eqb-true}
 use Rattle.fisca_num.specs.Number.{Number, zero_number, one_number}
 use Rattle.fisca_num.specs.declared.faults.NumFault.{NumFault}
@@ -11,7 +11,7 @@ use Rattle.fisca_typing.specs.declared.operations.Arithmetic.{Arithmetic}
 use Rattle.fisca_typing.specs.declared.operations.Logic.{Logic}
 use Rattle.fisca_typing.specs.Tables.{Tables, members_at}
 use Rattle.fisca_typing.specs.Types.{is_numeric}
-use Rattle.fisca_meaning.specs.Answers.{number_by, bool_by, holds, arithmetic_of, logic_of, comparison_of, same_of, negative_of, not_of}
+use Rattle.fisca_meaning.specs.Answers.{number_by, arithmetic_of, logic_of, comparison_of, same_of, negative_of, not_of}
 use Rattle.fisca_meaning.specs.Dialogues.{Value, Dialogue, number, bool, member, gives, fails, stuck, asks, ◌>>=◌, with_number, with_bool, with_member, computed}
 use Rattle.fisca_meaning.specs.Safe.{is_of, IsSafe}
 use Rattle.fisca_meaning.specs.Wellformed.{is_below}

@@ -5,7 +5,7 @@ use Rattle.std.specs.List.{list_all}
 use Rattle.fisca_num.specs.Number.{Number}
 use Rattle.fisca_time.specs.Instant.{CivilDate}
 use Rattle.fisca_params.specs.Dates.{value_at}
-use Rattle.fisca_params.specs.Lookup.{kind_of, value_in, sum_in}
+use Rattle.fisca_params.specs.Lookup.{kind_of, value_in}
 use Rattle.fisca_params.specs.Tree.{TreeNode, content_at}
 use Rattle.fisca_params.specs.declared.content.Content.{Content}
 use Rattle.fisca_params.specs.declared.content.Content.TheVariants as content
@@ -15,7 +15,6 @@ use Rattle.fisca_typing.specs.declared.kinds.ValueType.{ValueType}
 use Rattle.fisca_typing.specs.declared.kinds.ValueType.TheVariants as vt
 use Rattle.fisca_typing.specs.Parameters.{kinds_at}
 use Rattle.fisca_typing.specs.Tables.{Tables}
-use Rattle.fisca_meaning.specs.Dialogues.{Dialogue}
 use Rattle.fisca_meaning.specs.Meaning.{parameter_value, scale_value, at_place}
 use Rattle.fisca_meaning.specs.Safe.{IsSafe}
 use Rattle.fisca_meaning.specs.Wellformed.{has_kind}

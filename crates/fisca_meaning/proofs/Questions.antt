@@ -1,6 +1,6 @@
 -- What is asked for is answered by values of the right type.
-use Rattle.std.proofs.Common.{◌≡◌, ℕ, List, [], ◌∷◌, Bool, true, false, refl, sym, ap, ◌∙◌, subst, Option, Some, None}
-use Rattle.std.specs.Prelude.{⊤, nat_lt, length, slice_get, ◌&&◌, if◌then◌else◌, Result, Ok, Err}
+use Rattle.std.proofs.Common.{◌≡◌, ℕ, List, [], ◌∷◌, Bool, true, false, refl, sym, ◌∙◌, subst, Option, Some, None}
+use Rattle.std.specs.Prelude.{⊤, slice_get, ◌&&◌, if◌then◌else◌, Result, Ok, Err}
 use Rattle.fisca_num.specs.Number.{Number, zero_number}
 use Rattle.fisca_num.specs.Operations.{sum_of, quotient_of}
 use Rattle.fisca_time.specs.Instant.{CivilDate}
@@ -17,10 +17,10 @@ use Rattle.fisca_typing.specs.declared.kinds.ValueType.{ValueType}
 use Rattle.fisca_typing.specs.declared.kinds.ValueType.TheVariants as vt
 use Rattle.fisca_typing.specs.declared.moves.Move.{Move}
 use Rattle.fisca_typing.specs.Asks.{asked_type, numeric_only}
-use Rattle.fisca_typing.specs.Tables.{Tables, Variable, members_at}
+use Rattle.fisca_typing.specs.Tables.{Tables, Variable}
 use Rattle.fisca_typing.specs.Types.{is_numeric}
-use Rattle.fisca_meaning.specs.Dialogues.{Value, Key, Dialogue, number, bool, member, gives, fails, stuck, asks, ◌>>=◌, with_number, computed}
-use Rattle.fisca_meaning.specs.Questions.{Groups, Point, moved_all, in_range, at_period, on_start, at_start, fits, key, mismatch, ask_plain, ask_all, has_no_parts, ask_sum, ask_year, ask_part, ask_by, twelve, default_of, default_by, ask_first, ask_person, ask_of, persons_at, type_in, variable_type, ask_typed, ask_known}
+use Rattle.fisca_meaning.specs.Dialogues.{Dialogue, number, computed}
+use Rattle.fisca_meaning.specs.Questions.{Groups, Point, moved_all, in_range, at_period, on_start, at_start, fits, ask_plain, ask_all, has_no_parts, ask_sum, ask_year, ask_part, ask_by, twelve, default_of, default_by, ask_first, ask_person, ask_of, persons_at, type_in, variable_type, ask_typed, ask_known}
 use Rattle.fisca_meaning.specs.Safe.{is_of, IsSafe}
 use Rattle.fisca_meaning.specs.Wellformed.{HasMembers, IsAskable}
 use Rattle.fisca_meaning.proofs.Operands.{safe_then, on_number, computed-safe}
@@ -51,10 +51,13 @@ plain-safe c v s u m p known = if-safe c s (fits u p) _ _ (s, known, λ x is. is
 
 all-safe : (c : Tables) (v : ℕ) (s : ValueType) (m : ℕ) (ps : List Span) (sum : Number) → variable_type c v ≡ Some s → is_numeric s ≡ true → IsSafe c vt.Number (ask_all v m ps sum)
 all-safe c v s m [] sum known numeric = refl
-all-safe c v s m (p ∷ ps) sum known numeric =
-    (s, known, λ x is. on_number c s vt.Number x _ numeric is (λ n.
-    safe_then c vt.Number vt.Number (computed (sum_of sum n)) _ (computed-safe c (sum_of sum n)) (λ y it.
-    on_number c vt.Number vt.Number y _ refl it (λ r. all-safe c v s m ps r known numeric))))
+all-safe c v s m (p ∷ ps) sum known numeric = (
+  s,
+  known,
+  λ x is. on_number c s vt.Number x _ numeric is (λ n.
+      safe_then c vt.Number vt.Number (computed (sum_of sum n)) _ (computed-safe c (sum_of sum n)) (λ y it.
+      on_number c vt.Number vt.Number y _ refl it (λ r. all-safe c v s m ps r known numeric))),
+)
 
 sum-safe : (c : Tables) (v : ℕ) (s : ValueType) (u : Unit) (m : ℕ) (p : Span) → variable_type c v ≡ Some s → is_numeric s ≡ true → IsSafe c vt.Number (ask_sum v u m p)
 sum-safe c v s u m p known numeric = if-safe c vt.Number (has_no_parts u p) _ _ tt (all-safe c v s m (subs p u) zero_number known numeric)

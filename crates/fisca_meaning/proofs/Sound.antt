@@ -1,9 +1,8 @@
 -- Typed nodes are safe.
-use Rattle.std.proofs.Common.{◌≡◌, ℕ, zero, suc, ◌+◌, ◌*◌, ◌<◌, ◌≤◌, List, [], ◌∷◌, ◌++◌, length, Bool, true, false, refl, sym, ap, ◌∙◌, subst, arith, Option, Some, None}
+use Rattle.std.proofs.Common.{◌≡◌, ℕ, zero, suc, ◌+◌, ◌*◌, ◌<◌, ◌≤◌, List, [], ◌∷◌, ◌++◌, length, Bool, true, false, refl, sym, subst, arith, Option, Some}
 use Rattle.std.specs.Prelude.{slice_get, nat_lt}
 use Rattle.std.proofs.Math.Nat.{mul-le-mul_right}
 use Rattle.std.proofs.lemmas.Bool.{ltb-true}
-use Rattle.fisca_num.specs.Operations.{number_over}
 use Rattle.fisca_params.specs.Lookup.{sum_in}
 use Rattle.fisca_params.specs.Tree.{content_at}
 use Rattle.fisca_typing.specs.declared.kinds.ValueType.{ValueType}
@@ -12,10 +11,10 @@ use Rattle.fisca_typing.specs.Formulas.{Formula}
 use Rattle.fisca_typing.specs.Nodes.{Node, Indices, no_index, index}
 use Rattle.fisca_typing.specs.Nodes as node
 use Rattle.fisca_typing.specs.Tables.{Tables, members_at}
-use Rattle.fisca_meaning.specs.Dialogues.{Value, Dialogue, number, bool, member, gives, computed}
+use Rattle.fisca_meaning.specs.Dialogues.{Dialogue, number, bool, member, gives}
 use Rattle.fisca_meaning.specs.Meaning.{Locals, local_at, mean, at_index, at_person, mean_from, formula_means}
-use Rattle.fisca_meaning.specs.Questions.{Groups, Point, persons_at, counted, part_of, has as has_it}
-use Rattle.fisca_meaning.specs.Safe.{is_of, IsSafe}
+use Rattle.fisca_meaning.specs.Questions.{Groups, Point, persons_at, has as has_it}
+use Rattle.fisca_meaning.specs.Safe.{IsSafe}
 use Rattle.fisca_meaning.specs.Wellformed.{Sort, Within, IsTyped, AreIndices, IsTypedFrom, IsTypedFormula, HasMembers, choices_of}
 use Rattle.fisca_meaning.proofs.Operands.{safe_then, safe_below, on_number, on_bool, on_member, computed-safe, arithmetic-safe, comparison-safe, logic-safe, same-safe, negative-safe, not-safe}
 use Rattle.fisca_meaning.proofs.Parameters.{place-safe, scale-safe}
@@ -38,6 +37,7 @@ local-safe c (r ∷ G) [] i s p safe e has = absurd safe
 local-safe c (r ∷ G) (d ∷ ls) zero s p safe e has = at (same r s e) where
   same : (r s : Sort) → Some r ≡ Some s → r ≡ s
   same r s e = cc
+
   at : r ≡ s → IsSafe c s.value_type (d p)
   at q = subst (λ x. HasPerson x.of_persons p.person → IsSafe c x.value_type (d p)) q (safe.0 p) has
 local-safe c (r ∷ G) (d ∷ ls) (suc i) s p safe e has = local-safe c G ls i s p safe.1 e has

@@ -1,19 +1,18 @@
 -- What values of persons come to.
-use Rattle.std.proofs.Common.{◌≡◌, ℕ, List, [], ◌∷◌, Bool, true, false, refl, sym, subst}
-use Rattle.fisca_num.specs.Number.{Number, zero_number}
+use Rattle.std.proofs.Common.{◌≡◌, ℕ, List, [], ◌∷◌, true, false, refl, subst}
+use Rattle.fisca_num.specs.Number.{zero_number}
 use Rattle.fisca_typing.specs.declared.kinds.ValueType.{ValueType}
 use Rattle.fisca_typing.specs.declared.kinds.ValueType.TheVariants as vt
 use Rattle.fisca_typing.specs.declared.operations.Arithmetic.{Arithmetic}
 use Rattle.fisca_typing.specs.declared.operations.Arithmetic.TheVariants as arith
-use Rattle.fisca_typing.specs.declared.operations.Logic.{Logic}
 use Rattle.fisca_typing.specs.declared.operations.Logic.TheVariants as logic
 use Rattle.fisca_typing.specs.declared.operations.Total.{Total}
 use Rattle.fisca_typing.specs.declared.operations.Total.TheVariants as total
 use Rattle.fisca_typing.specs.Asks.{takes, gives as type_given}
 use Rattle.fisca_typing.specs.Tables.{Tables}
 use Rattle.fisca_typing.specs.Types.{is_numeric, is_bool}
-use Rattle.fisca_meaning.specs.Answers.{arithmetic_of, logic_of}
-use Rattle.fisca_meaning.specs.Dialogues.{Value, Dialogue, number, bool, ◌>>=◌, with_number}
+use Rattle.fisca_meaning.specs.Answers.{arithmetic_of}
+use Rattle.fisca_meaning.specs.Dialogues.{Value, Dialogue, number, bool}
 use Rattle.fisca_meaning.specs.Meaning.{in_turn, from_first, total_over}
 use Rattle.fisca_meaning.specs.Safe.{is_of, IsSafe}
 use Rattle.fisca_meaning.proofs.Operands.{safe_then, on_number, arithmetic-safe, logic-safe}

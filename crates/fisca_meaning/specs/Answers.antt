@@ -1,6 +1,6 @@
 -- What operations make of values.
-use Rattle.std.specs.Prelude.{ℕ, Bool, true, false, not, ◌&&◌, ◌||◌, ◌==◌, if◌then◌else◌, Result, Ok, Err}
-use Rattle.std.specs.Ordering.{is_lt, is_le, is_gt, is_ge, is_eq}
+use Rattle.std.specs.Prelude.{Bool, not, ◌&&◌, ◌||◌, ◌==◌, if◌then◌else◌, Result, Ok}
+use Rattle.std.specs.Ordering.{is_lt, is_gt, is_eq}
 use Rattle.fisca_num.specs.Number.{Number, number_cmp, opposite_of}
 use Rattle.fisca_num.specs.declared.faults.NumFault.{NumFault}
 use Rattle.fisca_num.specs.Operations.{sum_of, difference_of, product_of, quotient_of}
@@ -10,7 +10,7 @@ use Rattle.fisca_typing.specs.declared.operations.Arithmetic.{Arithmetic}
 use Rattle.fisca_typing.specs.declared.operations.Arithmetic.TheVariants as arith
 use Rattle.fisca_typing.specs.declared.operations.Logic.{Logic}
 use Rattle.fisca_typing.specs.declared.operations.Logic.TheVariants as logic
-use Rattle.fisca_meaning.specs.Dialogues.{Value, Dialogue, number, bool, member, gives, computed, with_number, with_bool, with_member}
+use Rattle.fisca_meaning.specs.Dialogues.{Value, Dialogue, number, bool, gives, computed, with_number, with_bool, with_member}
 
 abbrev pub lower : Number → Number → Number
 lower a b = if is_gt (number_cmp a b) then b else a

@@ -1,5 +1,5 @@
 -- A formula's meaning is a dialogue: it asks for the values of keys, one after another, and ends with a value or a fault.
-use Rattle.std.specs.Prelude.{ℕ, Bool, true, false, Option, Some, None, Result, Ok, Err}
+use Rattle.std.specs.Prelude.{ℕ, Bool, true, false, Result, Ok, Err}
 use Rattle.fisca_num.specs.Number.{Number, zero_number, one_number}
 use Rattle.fisca_num.specs.declared.faults.NumFault.{NumFault}
 use Rattle.fisca_num.specs.declared.faults.NumFault.TheVariants as num

@@ -1,5 +1,5 @@
 -- What typed formulas mean.
-use Rattle.std.specs.Prelude.{ℕ, ◌+◌, ◌*◌, List, [], ◌∷◌, ◌++◌, length, slice_get, Bool, true, false, if◌then◌else◌, Option, Some, None, Result, Ok, Err}
+use Rattle.std.specs.Prelude.{ℕ, ◌+◌, ◌*◌, List, [], ◌∷◌, ◌++◌, length, slice_get, true, false, if◌then◌else◌, Option, Some, None, Result, Ok, Err}
 use Rattle.fisca_num.specs.Number.{Number, zero_number}
 use Rattle.fisca_params.specs.Lookup.{value_in, sum_in}
 use Rattle.fisca_params.specs.Tree.{content_at}

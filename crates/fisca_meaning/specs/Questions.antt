@@ -1,11 +1,11 @@
 -- Periods of a formula, and what is asked for at them.
 use Rattle.std.proofs.Common.{lit<}
-use Rattle.std.specs.Prelude.{ℕ, pos, ◌==◌, ◌&&◌, ◌||◌, List, [], ◌∷◌, filter, length, Bool, true, false, nat_lt, if◌then◌else◌, slice_get, Option, Some, None, Result, Ok, Err}
+use Rattle.std.specs.Prelude.{ℕ, pos, ◌==◌, ◌&&◌, ◌||◌, List, [], ◌∷◌, filter, Bool, true, false, nat_lt, if◌then◌else◌, slice_get, Option, Some, None, Result, Ok, Err}
 use Rattle.fisca_num.specs.Number.{Number, zero_number, whole_number}
 use Rattle.fisca_num.specs.Operations.{sum_of, quotient_of, number_over}
 use Rattle.fisca_params.specs.Results.{and_then}
 use Rattle.fisca_time.specs.Instant.{CivilDate}
-use Rattle.fisca_time.specs.Period.{Span, eternity, months, days, moved_by, this_year_of, first_month_of, first_day_of, last_month_of, last_year_of, n_2_of, last_3_months_of, start_of, subs, unit_of, size_of}
+use Rattle.fisca_time.specs.Period.{Span, eternity, moved_by, this_year_of, first_month_of, first_day_of, last_month_of, last_year_of, n_2_of, last_3_months_of, start_of, subs, unit_of, size_of}
 use Rattle.fisca_time.specs.Unit.{rank, is_day, is_month, is_year}
 use Rattle.fisca_time.specs.declared.fault.TimeFault.{TimeFault}
 use Rattle.fisca_time.specs.declared.unit.Unit.{Unit}
@@ -22,7 +22,7 @@ use Rattle.fisca_typing.specs.declared.moves.DatePart.TheVariants as part
 use Rattle.fisca_typing.specs.declared.moves.Move.{Move}
 use Rattle.fisca_typing.specs.declared.moves.Move.TheVariants as step
 use Rattle.fisca_typing.specs.Tables.{Tables, Variable}
-use Rattle.fisca_meaning.specs.Dialogues.{Value, Key, Fault, Dialogue, number, bool, member, gives, fails, stuck, asks, ◌>>=◌, with_number, computed, period_mismatch, period_out_of_range}
+use Rattle.fisca_meaning.specs.Dialogues.{Value, Key, Dialogue, number, bool, member, gives, fails, stuck, asks, ◌>>=◌, with_number, computed, period_mismatch, period_out_of_range}
 
 -- how persons are grouped: the group of an entity that a person belongs to, the role there, and the persons of a group in order
 pub record Groups : Type 0 where

@@ -1,5 +1,5 @@
 -- Dialogues that are never stuck.
-use Rattle.std.specs.Prelude.{◌≡◌, ℕ, length, nat_lt, Bool, true, false, Option, Some}
+use Rattle.std.specs.Prelude.{◌≡◌, length, nat_lt, Bool, true, false, Some}
 use Rattle.fisca_typing.specs.declared.kinds.ValueType.{ValueType}
 use Rattle.fisca_typing.specs.declared.kinds.ValueType.TheVariants as vt
 use Rattle.fisca_typing.specs.Tables.{Tables, members_at}

@@ -1,8 +1,7 @@
 -- Typed nodes: which have which type, given those of the earlier locals.
-use Rattle.std.specs.Prelude.{◌≡◌, ⊤, ℕ, ◌*◌, List, [], ◌∷◌, ◌++◌, length, nat_lt, slice_get, Bool, true, false, ◌==◌, Option, Some, Result, Ok}
+use Rattle.std.specs.Prelude.{◌≡◌, ⊤, ℕ, ◌*◌, List, [], ◌∷◌, ◌++◌, length, nat_lt, slice_get, Bool, true, false, ◌==◌, Some, Ok}
 use Rattle.std.specs.List.{list_all}
 use Rattle.fisca_params.specs.declared.content.NodeKind.{NodeKind}
-use Rattle.fisca_typing.specs.declared.asking.Asking.{Asking}
 use Rattle.fisca_typing.specs.declared.asking.Whom.{Whom}
 use Rattle.fisca_typing.specs.declared.asking.Whom.TheVariants as whom
 use Rattle.fisca_typing.specs.declared.kinds.ValueType.{ValueType}

@@ -26,7 +26,10 @@ role_of_one key = record { key = key; plural = None; max = Some 1; subroles = []
 
 abbrev pub household : Entity
 household = record {
-  constant = codes "Household"; key = codes "household"; plural = codes "households"; is_person = false;
+  constant = codes "Household";
+  key = codes "household";
+  plural = codes "households";
+  is_person = false;
   roles = role (codes "parent") (codes "first_parent" ∷ codes "second_parent" ∷ []) ∷ role (codes "child") [] ∷ role_of_one (codes "sum") ∷ role_of_one (codes "members") ∷ [];
 }
 
@@ -51,8 +54,8 @@ tables = record {
   entities = household ∷ person ∷ club ∷ strange ∷ [];
   enums = choices (codes "Occupancy") (codes "tenant" ∷ codes "owner" ∷ []) ∷ choices (codes "Status") (codes "single" ∷ []) ∷ [];
   variables = variable (codes "salary") 1 vt.Number ∷ variable (codes "adult") 1 vt.Bool ∷ variable (codes "status") 1 (vt.Enum 1)
-    ∷ variable (codes "rent") 0 vt.Number ∷ variable (codes "social") 0 vt.Bool ∷ variable (codes "occupancy") 0 (vt.Enum 0)
-    ∷ record { name = codes "birth"; entity = 1; value_type = None; definition_period = unit.Month } ∷ variable (codes "fee") 3 vt.Number ∷ [];
+      ∷ variable (codes "rent") 0 vt.Number ∷ variable (codes "social") 0 vt.Bool ∷ variable (codes "occupancy") 0 (vt.Enum 0)
+      ∷ record { name = codes "birth"; entity = 1; value_type = None; definition_period = unit.Month } ∷ variable (codes "fee") 3 vt.Number ∷ [];
   nodes = [];
 }
 
@@ -70,7 +73,12 @@ locals =
 -- a formula of households: `def formula(household, period, parameters)`
 abbrev pub of_household : Names
 of_household = record {
-  tables = tables; entity = 0; asker_name = codes "household"; period_name = codes "period"; reader_name = Some (codes "parameters"); locals = locals;
+  tables = tables;
+  entity = 0;
+  asker_name = codes "household";
+  period_name = codes "period";
+  reader_name = Some (codes "parameters");
+  locals = locals;
 }
 
 -- a formula of persons: `def formula(person, period)`

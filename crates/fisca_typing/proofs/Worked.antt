@@ -1,6 +1,6 @@
 -- Operations beside their sentences.
-use Rattle.std.proofs.Common.{◌≡◌, ℕ, List, [], ◌∷◌, true, false, refl}
-use Rattle.std.specs.Prelude.{codes, Ok, Err, Result}
+use Rattle.std.proofs.Common.{◌≡◌, [], ◌∷◌, false, refl}
+use Rattle.std.specs.Prelude.{codes, Err, Result}
 use Rattle.fisca_num.specs.Number.{zero_number}
 use Rattle.fisca_expressions.specs.Tree.{Tree, binary, compare, prefixed}
 use Rattle.fisca_expressions.specs.declared.tree.Operator.TheVariants as op
@@ -9,11 +9,10 @@ use Rattle.fisca_expressions.specs.declared.tree.Prefix.TheVariants as pre
 use Rattle.fisca_tokens.specs.declared.fault.Kind.{Kind}
 use Rattle.fisca_tokens.specs.declared.fault.Kind.TheVariants as kind
 use Rattle.fisca_typing.specs.declared.kinds.Level.TheVariants as level
-use Rattle.fisca_typing.specs.declared.kinds.ValueType.TheVariants as vt
 use Rattle.fisca_typing.specs.declared.operations.Arithmetic.TheVariants as arith
 use Rattle.fisca_typing.specs.declared.operations.Logic.TheVariants as logic
 use Rattle.fisca_typing.specs.Names.{known_word, library_function}
-use Rattle.fisca_typing.specs.Nodes.{Node, local, truth, literal, negative, opposite, arithmetic, logic as both, comparison, same, choose, member}
+use Rattle.fisca_typing.specs.Nodes.{local, truth, literal, negative, opposite, arithmetic, logic as both, comparison, same, choose}
 use Rattle.fisca_typing.specs.Things.{Thing}
 use Rattle.fisca_typing.specs.Typing.{thing_of}
 use Rattle.fisca_typing.proofs.Examples.{of_household, k, q, d, n, b, e, s, m, t, o, nope, w, call, call_with, and_keyword, dot, list, group, number, bool, occupancy}

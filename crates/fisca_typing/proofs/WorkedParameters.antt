@@ -1,6 +1,6 @@
 -- Parameters beside their sentences.
-use Rattle.std.proofs.Common.{◌≡◌, ℕ, List, [], ◌∷◌, ◌++◌, true, false, refl}
-use Rattle.std.specs.Prelude.{codes, Ok, Err, Result, Some, None}
+use Rattle.std.proofs.Common.{◌≡◌, ℕ, List, [], ◌∷◌, ◌++◌, false, refl}
+use Rattle.std.specs.Prelude.{codes, Ok, Err, Result, None}
 use Rattle.fisca_params.specs.Tree.{TreeNode, child_node}
 use Rattle.fisca_params.specs.declared.content.Content.{Content}
 use Rattle.fisca_params.specs.declared.content.Content.TheVariants as content
@@ -8,17 +8,14 @@ use Rattle.fisca_expressions.specs.Tree.{Tree, binary}
 use Rattle.fisca_expressions.specs.declared.tree.Operator.TheVariants as op
 use Rattle.fisca_tokens.specs.declared.fault.Kind.{Kind}
 use Rattle.fisca_tokens.specs.declared.fault.Kind.TheVariants as kind
-use Rattle.fisca_typing.specs.declared.kinds.Level.{Level}
 use Rattle.fisca_typing.specs.declared.kinds.Level.TheVariants as level
-use Rattle.fisca_typing.specs.declared.kinds.ValueType.TheVariants as vt
-use Rattle.fisca_typing.specs.declared.moves.Move.{Move}
 use Rattle.fisca_typing.specs.declared.moves.Move.TheVariants as step
 use Rattle.fisca_typing.specs.Names.{Names, known_word}
-use Rattle.fisca_typing.specs.Nodes.{local, arithmetic, no_index, index, parameter, scale_sum}
+use Rattle.fisca_typing.specs.Nodes.{local, no_index, index, parameter, scale_sum}
 use Rattle.fisca_typing.specs.Periods.{period_attribute}
-use Rattle.fisca_typing.specs.Things.{Thing, nodes, scale, calculation}
+use Rattle.fisca_typing.specs.Things.{Thing, nodes, scale}
 use Rattle.fisca_typing.specs.Typing.{thing_of}
-use Rattle.fisca_typing.proofs.Examples.{of_household, tables, k, n, b, e, s, m, o, t, nope, w, at, call, dot, period, number, bool, by_position}
+use Rattle.fisca_typing.proofs.Examples.{of_household, tables, n, b, e, m, o, nope, w, at, call, dot, period, number, bool}
 
 -- A root with the node `benefits` (the number `basic`, the bool `open`, the unusable `words`, the scale `tax`), and nodes for each
 -- member of `Occupancy`: `heating` (numbers), `free` (bools), `mixed` (a number and a bool), `taxes` (scales), `half` (`tenant` alone),

@@ -1,5 +1,5 @@
 -- Periods, and names, beside their sentences.
-use Rattle.std.proofs.Common.{◌≡◌, ℕ, ℤ, pos, negsuc, List, [], ◌∷◌, true, false, refl, sym, lit<}
+use Rattle.std.proofs.Common.{◌≡◌, pos, negsuc, List, [], ◌∷◌, true, false, refl, sym, lit<}
 use Rattle.std.specs.Prelude.{codes, Ok, Err, Result, Some, None}
 use Rattle.fisca_num.specs.Literal.{number_of_literal, number_of_parts, digits_ratio}
 use Rattle.fisca_num.specs.Number.{one_number}
@@ -17,13 +17,13 @@ use Rattle.fisca_typing.specs.declared.kinds.ValueType.TheVariants as vt
 use Rattle.fisca_typing.specs.declared.moves.DatePart.TheVariants as part
 use Rattle.fisca_typing.specs.declared.moves.Move.{Move}
 use Rattle.fisca_typing.specs.declared.moves.Move.TheVariants as step
-use Rattle.fisca_typing.specs.Names.{Names, known_word}
+use Rattle.fisca_typing.specs.Names.{known_word}
 use Rattle.fisca_typing.specs.Nodes.{local, truth, date_part, member}
 use Rattle.fisca_typing.specs.Periods.{period_attribute, start_attribute, unit_named}
 use Rattle.fisca_typing.specs.Texts.{content, said_within}
-use Rattle.fisca_typing.specs.Things.{Thing, value, period as the_period, start, asker, reader, enumeration, choices, entity, role, option, text}
+use Rattle.fisca_typing.specs.Things.{Thing, period as the_period, asker, reader, enumeration, entity, option}
 use Rattle.fisca_typing.specs.Typing.{thing_of}
-use Rattle.fisca_typing.proofs.Examples.{of_household, of_person, a_local, k, n, b, e, s, nope, w, call, dot, group, period, number, bool, occupancy}
+use Rattle.fisca_typing.proofs.Examples.{of_household, of_person, a_local, k, n, b, e, nope, w, call, dot, group, period, number, bool, occupancy}
 
 abbrev is : Tree → Result Thing Kind
 is x = thing_of of_household x

@@ -1,6 +1,5 @@
 -- Calls of the formula's entity: variables, roles, and what the persons of a group come to.
-use Rattle.std.specs.Prelude.{ℕ, List, [], ◌∷◌, length, Bool, true, false, not, ◌==◌, if◌then◌else◌, Option, Some, None, option_map, ok_or, Result, Ok, Err, codes}
-use Rattle.std.specs.Str.{bytes_eq}
+use Rattle.std.specs.Prelude.{ℕ, List, [], ◌∷◌, length, Bool, true, false, ◌==◌, if◌then◌else◌, Option, Some, None, option_map, ok_or, Result, Ok, Err, codes}
 use Rattle.fisca_expressions.specs.Words.{is}
 use Rattle.fisca_params.specs.Results.{and_then}
 use Rattle.fisca_tokens.specs.declared.fault.Kind.{Kind}
@@ -8,22 +7,20 @@ use Rattle.fisca_tokens.specs.declared.fault.Kind.TheVariants as kind
 use Rattle.fisca_typing.specs.declared.asking.Asking.{Asking}
 use Rattle.fisca_typing.specs.declared.asking.Asking.TheVariants as asking
 use Rattle.fisca_typing.specs.declared.asking.RolePlace.{RolePlace}
-use Rattle.fisca_typing.specs.declared.asking.Whom.{Whom}
 use Rattle.fisca_typing.specs.declared.asking.Whom.TheVariants as whom
 use Rattle.fisca_typing.specs.declared.kinds.Level.{Level}
 use Rattle.fisca_typing.specs.declared.kinds.Level.TheVariants as level
 use Rattle.fisca_typing.specs.declared.kinds.ValueType.{ValueType}
 use Rattle.fisca_typing.specs.declared.kinds.ValueType.TheVariants as vt
-use Rattle.fisca_typing.specs.declared.moves.Move.{Move}
 use Rattle.fisca_typing.specs.declared.operations.Method.{Method}
 use Rattle.fisca_typing.specs.declared.operations.Method.TheVariants as method
 use Rattle.fisca_typing.specs.declared.operations.Total.{Total}
 use Rattle.fisca_typing.specs.declared.operations.Total.TheVariants as total
-use Rattle.fisca_typing.specs.Calls.{Given, Settled, Positions, by_position, and_keyword, more_keywords, alone, positions, settled}
+use Rattle.fisca_typing.specs.Calls.{Given, Positions, by_position, and_keyword, more_keywords, alone, positions, settled}
 use Rattle.fisca_typing.specs.Names.{Names, unknown_name}
 use Rattle.fisca_typing.specs.Nodes.{ask, has_role, count, total as total_node}
-use Rattle.fisca_typing.specs.Tables.{Tables, Variable, is_person, is_group_of, is_person_at, place_in, role_of_key, role_of_constant, roles_at, if_single, variable_named}
-use Rattle.fisca_typing.specs.Things.{Thing, Things, Typed, Relation, none, more, typed, text, value_of, text_of, things_of, period_of, option_of, role_of, method as method_thing}
+use Rattle.fisca_typing.specs.Tables.{Tables, Variable, is_person, is_group_of, is_person_at, place_in, role_of_key, roles_at, if_single, variable_named}
+use Rattle.fisca_typing.specs.Things.{Thing, Things, Relation, none, more, typed, value_of, text_of, things_of, period_of, option_of, role_of, method as method_thing}
 use Rattle.fisca_typing.specs.Types.{bad_type, bad_level, is_numeric, is_bool, is_of_members}
 
 -- Variables

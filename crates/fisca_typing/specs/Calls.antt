@@ -1,11 +1,10 @@
 -- Calls of functions, and what stands in their parentheses.
-use Rattle.std.specs.Prelude.{ℕ, zero, suc, pos, List, [], ◌∷◌, length, Bool, true, false, ◌==◌, ◌&&◌, nat_lt, if◌then◌else◌, Option, Some, None, Result, Ok, Err, codes}
+use Rattle.std.specs.Prelude.{ℕ, suc, List, [], ◌∷◌, length, Bool, true, false, ◌==◌, ◌&&◌, if◌then◌else◌, Option, Some, None, Result, Ok, codes}
 use Rattle.fisca_num.specs.Number.{zero_number}
 use Rattle.fisca_expressions.specs.Words.{is}
 use Rattle.fisca_expressions.specs.Tree.{Tree}
 use Rattle.fisca_params.specs.Results.{and_then}
 use Rattle.fisca_tokens.specs.declared.fault.Kind.{Kind}
-use Rattle.fisca_typing.specs.declared.kinds.Level.{Level}
 use Rattle.fisca_typing.specs.declared.kinds.Level.TheVariants as level
 use Rattle.fisca_typing.specs.declared.kinds.ValueType.{ValueType}
 use Rattle.fisca_typing.specs.declared.kinds.ValueType.TheVariants as vt
@@ -18,8 +17,8 @@ use Rattle.fisca_typing.specs.Operations.{operated, extreme, negated, numeric_of
 use Rattle.fisca_typing.specs.Parameters.{root_at}
 use Rattle.fisca_typing.specs.Periods.{offset_by, offset_by_unit}
 use Rattle.fisca_typing.specs.Tables.{Tables}
-use Rattle.fisca_typing.specs.Things.{Thing, Things, Typed, typed, value_of, things_of, instant_of, text_of}
-use Rattle.fisca_typing.specs.Types.{is_bool, is_numeric, bad_type, common, higher}
+use Rattle.fisca_typing.specs.Things.{Thing, Typed, typed, value_of, things_of, instant_of, text_of}
+use Rattle.fisca_typing.specs.Types.{is_bool, bad_type, common}
 
 -- an argument: its keyword if it has one, how it is written, and what it stands for
 pub record Given : Type 0 where

@@ -8,7 +8,7 @@ use Rattle.fisca_typing.specs.declared.kinds.Level.{Level}
 use Rattle.fisca_typing.specs.declared.kinds.Level.TheVariants as level
 use Rattle.fisca_typing.specs.declared.kinds.ValueType.{ValueType}
 use Rattle.fisca_typing.specs.declared.kinds.ValueType.TheVariants as vt
-use Rattle.fisca_typing.specs.Names.{Names, Local}
+use Rattle.fisca_typing.specs.Names.{Names}
 use Rattle.fisca_typing.specs.Nodes.{Node, local}
 use Rattle.fisca_typing.specs.Sizes.{Size, Sized, size_of, is_small}
 use Rattle.fisca_typing.specs.Things.{Thing, Typed, value, period, start, offset, reader, nodes, scale, calculation, enumeration, choices, entity, role, asker, method, library, function, option, text, listed, value_of}

@@ -7,10 +7,9 @@ use Rattle.fisca_tokens.specs.declared.fault.Kind.TheVariants as kind
 use Rattle.fisca_typing.specs.declared.asking.Asking.TheVariants as asking
 use Rattle.fisca_typing.specs.declared.kinds.Level.TheVariants as level
 use Rattle.fisca_typing.specs.declared.kinds.ValueType.TheVariants as vt
-use Rattle.fisca_typing.specs.declared.operations.Function.{Function}
 use Rattle.fisca_typing.specs.declared.operations.Function.TheVariants as function
 use Rattle.fisca_typing.specs.Nodes.{truth}
-use Rattle.fisca_typing.specs.Tables.{Tables, first_where, place_in, otherwise}
+use Rattle.fisca_typing.specs.Tables.{Tables, place_in, otherwise}
 use Rattle.fisca_typing.specs.Things.{Thing, value, period, reader, enumeration, entity, asker, library, function as called_function, option}
 
 pub record Local : Type 0 where

@@ -1,6 +1,5 @@
 -- Types and levels of operations.
-use Rattle.std.specs.Prelude.{ℕ, ℤ, List, [], ◌∷◌, Bool, true, false, ◌&&◌, ◌==◌, if◌then◌else◌, Option, Some, None, Result, Ok, Err}
-use Rattle.fisca_num.specs.Number.{Number, zero_number}
+use Rattle.std.specs.Prelude.{List, [], ◌∷◌, Bool, ◌&&◌, if◌then◌else◌, Result, Ok}
 use Rattle.fisca_params.specs.Results.{and_then}
 use Rattle.fisca_expressions.specs.declared.tree.Operator.{Operator}
 use Rattle.fisca_expressions.specs.declared.tree.Operator.TheVariants as operator
@@ -16,7 +15,7 @@ use Rattle.fisca_typing.specs.declared.operations.Arithmetic.{Arithmetic}
 use Rattle.fisca_typing.specs.declared.operations.Arithmetic.TheVariants as arith
 use Rattle.fisca_typing.specs.declared.operations.Logic.{Logic}
 use Rattle.fisca_typing.specs.declared.operations.Logic.TheVariants as logic
-use Rattle.fisca_typing.specs.Nodes.{Node, literal, truth, negative, opposite, arithmetic, logic as logic_node, comparison, same, choose}
+use Rattle.fisca_typing.specs.Nodes.{Node, negative, opposite, arithmetic, logic as logic_node, comparison, same, choose}
 use Rattle.fisca_typing.specs.Things.{Thing, Things, Typed, none, more, typed, value_of}
 use Rattle.fisca_typing.specs.Types.{is_numeric, is_bool, bad_type, common, higher}
 

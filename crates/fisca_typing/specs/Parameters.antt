@@ -1,5 +1,5 @@
 -- Parameters below `parameters(period)`.
-use Rattle.std.specs.Prelude.{ℕ, List, [], ◌∷◌, ◌++◌, map, length, Bool, true, false, if◌then◌else◌, Option, Some, None, ok_or, Result, Ok, Err, codes}
+use Rattle.std.specs.Prelude.{ℕ, List, [], ◌∷◌, ◌++◌, map, length, Bool, true, false, if◌then◌else◌, ok_or, Result, Ok, codes}
 use Rattle.std.specs.List.{list_all}
 use Rattle.fisca_expressions.specs.Words.{is}
 use Rattle.fisca_params.specs.Results.{and_then}
@@ -9,12 +9,11 @@ use Rattle.fisca_params.specs.declared.content.NodeKind.{NodeKind}
 use Rattle.fisca_params.specs.declared.content.NodeKind.TheVariants as node
 use Rattle.fisca_tokens.specs.declared.fault.Kind.{Kind}
 use Rattle.fisca_tokens.specs.declared.fault.Kind.TheVariants as kind
-use Rattle.fisca_typing.specs.declared.kinds.Level.{Level}
 use Rattle.fisca_typing.specs.declared.kinds.Level.TheVariants as level
 use Rattle.fisca_typing.specs.declared.kinds.ValueType.{ValueType}
 use Rattle.fisca_typing.specs.declared.kinds.ValueType.TheVariants as vt
 use Rattle.fisca_typing.specs.declared.moves.Move.{Move}
-use Rattle.fisca_typing.specs.Nodes.{Node, Indices, no_index, index, behind, parameter, scale_sum}
+use Rattle.fisca_typing.specs.Nodes.{Indices, no_index, behind, parameter}
 use Rattle.fisca_typing.specs.Tables.{Tables, members_at}
 use Rattle.fisca_typing.specs.Things.{Thing, Typed, Chosen, nodes, scale, calculation, typed}
 use Rattle.fisca_typing.specs.Types.{bad_type, higher}

@@ -1,5 +1,5 @@
 -- Periods and parts of their start.
-use Rattle.std.specs.Prelude.{ℕ, ℤ, pos, neg_ℤ, List, [], ◌∷◌, ◌++◌, Bool, true, false, ◌==◌, if◌then◌else◌, Option, Some, None, option_map, ok_or, Result, Ok, Err, codes}
+use Rattle.std.specs.Prelude.{ℕ, ℤ, neg_ℤ, List, [], ◌∷◌, ◌++◌, ◌==◌, if◌then◌else◌, Option, Some, None, option_map, ok_or, Result, Ok, Err, codes}
 use Rattle.fisca_num.specs.declared.faults.NumFault.{NumFault}
 use Rattle.fisca_num.specs.Number.{Number}
 use Rattle.fisca_num.specs.Literal.{number_of_literal}
@@ -24,7 +24,6 @@ use Rattle.fisca_typing.specs.declared.moves.Move.TheVariants as step
 use Rattle.fisca_typing.specs.Nodes.{date_part}
 use Rattle.fisca_typing.specs.Names.{unknown_name}
 use Rattle.fisca_typing.specs.Things.{Thing, period, start, offset, typed}
-use Rattle.fisca_typing.specs.Types.{bad_type}
 
 abbrev pub moved : List Move → Move → Result Thing Kind
 moved ms m = Ok (period (ms ++ m ∷ []))

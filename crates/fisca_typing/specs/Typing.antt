@@ -1,5 +1,5 @@
 -- What each expression of a formula stands for, or its first fault: operands from left to right, then the type, then the level.
-use Rattle.std.specs.Prelude.{ℕ, List, [], ◌∷◌, Bool, true, false, if◌then◌else◌, Option, Some, None, option_map, ok_or, Result, Ok, Err, codes}
+use Rattle.std.specs.Prelude.{ℕ, List, [], ◌∷◌, Bool, true, false, if◌then◌else◌, Option, Some, None, Result, Ok, Err, codes}
 use Rattle.fisca_num.specs.declared.faults.NumFault.{NumFault}
 use Rattle.fisca_num.specs.Number.{Number}
 use Rattle.fisca_num.specs.Literal.{number_of_literal}
@@ -25,7 +25,7 @@ use Rattle.fisca_typing.specs.Parameters.{node_attribute, scale_attribute, subsc
 use Rattle.fisca_typing.specs.Periods.{period_attribute, start_attribute}
 use Rattle.fisca_typing.specs.Tables.{Tables, member_named, role_of_constant, roles_at}
 use Rattle.fisca_typing.specs.Texts.{content}
-use Rattle.fisca_typing.specs.Things.{Thing, Things, Typed, typed, value, period, start, offset, reader, nodes, scale, calculation, enumeration, choices, entity, role, asker, method, library, function, option, text, listed, none, more, value_of, nodes_of}
+use Rattle.fisca_typing.specs.Things.{Thing, Things, typed, value, period, start, offset, reader, nodes, scale, calculation, enumeration, choices, entity, role, asker, method, library, function, option, text, listed, none, more, value_of, nodes_of}
 use Rattle.fisca_typing.specs.Types.{bad_type}
 
 -- no module has a number that is none

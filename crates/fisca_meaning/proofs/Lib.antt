@@ -1,0 +1,6 @@
+mod Operands
+mod Parameters
+mod Questions
+mod Sound
+mod Totals
+pub mod WorkedMeaning

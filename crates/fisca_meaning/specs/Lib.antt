@@ -1,0 +1,6 @@
+pub mod Answers
+pub mod Dialogues
+pub mod Meaning
+pub mod Questions
+pub mod Safe
+pub mod Wellformed

@@ -1,0 +1,14 @@
+pub mod Asks
+pub mod Calls
+pub mod Formulas
+pub mod Names
+pub mod Nodes
+pub mod Operations
+pub mod Parameters
+pub mod Periods
+pub mod Sizes
+pub mod Tables
+pub mod Texts
+pub mod Things
+pub mod Types
+pub mod Typing

@@ -1,0 +1,14 @@
+//! What the formulas of a rule set stand for: types, levels and resolved names. Definitions and laws, and no reader.
+#![tactic(auto)]
+
+mod asking;
+mod kinds;
+mod law;
+mod moves;
+mod operations;
+
+pub use asking::{Asking, RolePlace, Whom};
+pub use kinds::{Level, ValueType};
+pub use law::{counting_to_the_limits_decides_them, sizes_are_of_locals_put_in};
+pub use moves::{DatePart, Move};
+pub use operations::{Arithmetic, Function, Logic, Method, Total};

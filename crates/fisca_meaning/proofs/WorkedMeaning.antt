@@ -76,7 +76,7 @@ before_the_calendar = refl
 -- ADD asks for the subperiods in order of time; it is refused for an eternal variable and where the definition period is longer
 added : means (ask 0 whom.Own asking.Add []) (months unit.Month 24205 2)
     ≡ asks (key 0 3 february) (λ x. with_number x (λ n. computed (sum_of zero_number n) >>= λ y. with_number y (λ s.
-      asks (key 0 3 (months unit.Month 24206 1)) (λ z. with_number z (λ m. computed (sum_of s m) >>= λ u. with_number u (λ r. gives (number r)))))))
+    asks (key 0 3 (months unit.Month 24206 1)) (λ z. with_number z (λ m. computed (sum_of s m) >>= λ u. with_number u (λ r. gives (number r)))))))
 added = refl
 
 added_longer : means (ask 1 whom.Own asking.Add []) february ≡ fails (period_mismatch (key 1 3 february))

@@ -5,6 +5,7 @@ mod bodies;
 mod declarations;
 mod forms;
 mod heading;
+mod law;
 mod line;
 mod lines;
 mod module;
@@ -13,6 +14,7 @@ mod shape;
 mod start;
 mod statement;
 
+pub use law::each_text_has_one_module;
 pub use module::{
     Assignment, EnumClass, Formula, Item, Member, Module, Returned, Signature, Statement,
     VariableClass,

@@ -1,6 +1,10 @@
 //! What a failed write answers.
 
-use fisca_commands::{Ending, Refusal};
+use fisca_commands::{Ending, Refusal, Task, run_task};
+use fisca_grid::MemorySink;
+use fisca_params::SourceFile;
+use std::alloc::{AllocError, Global};
+use std::test::Fail;
 
 /// What a check of one parameter file tells on standard error, and its status.
 fn told_of(alloc: Global, text: &str) -> Result<(String, u8), AllocError> {

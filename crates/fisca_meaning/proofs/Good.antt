@@ -1,6 +1,6 @@
 -- What formulas stand for is typed.
-use Rattle.std.proofs.Common.{◌≡◌, ℕ, zero, suc, ◌+◌, ◌*◌, ◌<◌, List, [], ◌∷◌, ◌++◌, length, Bool, true, false, refl, sym, ap, ◌∙◌, subst, arith, Option, Some, None}
-use Rattle.std.specs.Prelude.{⊤, ◌==◌, nat_lt, if◌then◌else◌, slice_get, ok_or, Result, Ok, Err}
+use Rattle.std.proofs.Common.{◌≡◌, ℕ, List, length, Bool, true, false, refl, sym, subst, Option, Some, None}
+use Rattle.std.specs.Prelude.{⊤, ◌==◌, if◌then◌else◌, Result, Ok, Err}
 use Rattle.std.proofs.lemmas.Bool.{eqb-true}
 use Rattle.std.proofs.Common.{eq-eqb}
 use Rattle.fisca_params.specs.Results.{and_then}
@@ -20,13 +20,13 @@ use Rattle.fisca_typing.specs.declared.operations.Arithmetic.{Arithmetic}
 use Rattle.fisca_typing.specs.declared.operations.Arithmetic.TheVariants as arithm
 use Rattle.fisca_typing.specs.declared.operations.Logic.{Logic}
 use Rattle.fisca_typing.specs.declared.operations.Logic.TheVariants as logic
-use Rattle.fisca_typing.specs.Nodes.{Node, Indices, negative, opposite}
-use Rattle.fisca_typing.specs.Operations.{Operation, on_bools_or_numbers, with_numbers, with_bools, operation, extreme, compares, comparison_of_members, comparison_by, comparison_of, with_levels, operated, prefixed_by, prefixed_value, signed, negated, bool_of, numeric_of, typed_all, common_all, highest, where_of}
+use Rattle.fisca_typing.specs.Nodes.{Node, negative}
+use Rattle.fisca_typing.specs.Operations.{Operation, on_bools_or_numbers, with_numbers, with_bools, operation, extreme, comparison_of_members, comparison_by, comparison_of, with_levels, operated, prefixed_by, prefixed_value, signed, negated}
 use Rattle.fisca_typing.specs.Tables.{Tables}
 use Rattle.fisca_typing.specs.Things.{Thing, Things, Typed, Chosen, Relation, value, period, start, offset, reader, nodes, scale, calculation, enumeration, choices, entity, role, asker, method, library, function, option, text, listed, none, more, value_of, nodes_of, things_of}
-use Rattle.fisca_typing.specs.Types.{is_numeric, is_bool, common, higher, is_of_members}
+use Rattle.fisca_typing.specs.Types.{is_numeric, common, higher, is_of_members}
 use Rattle.fisca_meaning.specs.Wellformed.{Sort, Within, IsAskable, is_below, IsTyped, AreIndices, choices_of}
-use Rattle.fisca_meaning.proofs.Weaken.{weaken, weaken_all}
+use Rattle.fisca_meaning.proofs.Weaken.{weaken}
 
 -- what a result is, if it is none of the faults
 abbrev pub OkIs : {X : Type 0} → (X → Type 0) → Result X Kind → Type 0

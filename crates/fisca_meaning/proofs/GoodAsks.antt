@@ -1,19 +1,15 @@
 -- What is asked for, and parameters, are typed.
-use Rattle.std.proofs.Common.{◌≡◌, ℕ, zero, suc, ◌+◌, ◌*◌, List, [], ◌∷◌, ◌++◌, length, Bool, true, false, refl, sym, ap, ◌∙◌, subst, arith, Option, Some, None}
-use Rattle.std.specs.Prelude.{⊤, ◌==◌, if◌then◌else◌, slice_get, ok_or, option_map, Result, Ok, Err, codes}
+use Rattle.std.proofs.Common.{◌≡◌, ℕ, suc, ◌+◌, ◌*◌, List, [], ◌∷◌, ◌++◌, length, Bool, true, false, refl, sym, ap, ◌∙◌, subst, arith, Option, Some, None}
+use Rattle.std.specs.Prelude.{◌==◌, if◌then◌else◌, slice_get, ok_or, Result, Ok, Err}
 use Rattle.std.specs.List.{list_all}
 use Rattle.std.proofs.lemmas.List.{length-append}
 use Rattle.fisca_expressions.specs.Words.{is}
-use Rattle.fisca_params.specs.Results.{and_then}
 use Rattle.fisca_params.specs.Tree.{TreeNode}
 use Rattle.fisca_params.specs.declared.content.NodeKind.{NodeKind}
 use Rattle.fisca_params.specs.declared.content.NodeKind.TheVariants as found
 use Rattle.fisca_tokens.specs.declared.fault.Kind.{Kind}
 use Rattle.fisca_tokens.specs.declared.fault.Kind.TheVariants as kind
-use Rattle.fisca_typing.specs.declared.asking.Asking.{Asking}
 use Rattle.fisca_typing.specs.declared.asking.RolePlace.{RolePlace}
-use Rattle.fisca_typing.specs.declared.asking.Whom.{Whom}
-use Rattle.fisca_typing.specs.declared.asking.Whom.TheVariants as whom
 use Rattle.fisca_typing.specs.declared.kinds.Level.{Level}
 use Rattle.fisca_typing.specs.declared.kinds.Level.TheVariants as level
 use Rattle.fisca_typing.specs.declared.kinds.ValueType.{ValueType}
@@ -22,17 +18,17 @@ use Rattle.fisca_typing.specs.declared.moves.Move.{Move}
 use Rattle.fisca_typing.specs.declared.operations.Method.{Method}
 use Rattle.fisca_typing.specs.declared.operations.Method.TheVariants as method
 use Rattle.fisca_typing.specs.declared.operations.Total.{Total}
-use Rattle.fisca_typing.specs.Asks.{usable, variable_of, options_of, asked_type, asked, is_options, is_positional, asked_with, own_role, role_in, has_role_by, count_by, takes, gives, total_of, role_by, total_by, settled_positions, method_by, begins_with_text, method_called, to_self, to_person}
-use Rattle.fisca_typing.specs.Calls.{Given, Settled, Positions, by_position, and_keyword, more_keywords, alone, settled, positions, calculation_by}
+use Rattle.fisca_typing.specs.Asks.{usable, variable_of, options_of, asked_type, asked, is_options, is_positional, asked_with, role_in, has_role_by, count_by, takes, total_of, role_by, total_by, settled_positions, method_by, begins_with_text, method_called}
+use Rattle.fisca_typing.specs.Calls.{Given, Positions, by_position, and_keyword, more_keywords, alone, settled, positions, calculation_by}
 use Rattle.fisca_typing.specs.Names.{Names}
 use Rattle.fisca_typing.specs.Nodes.{Node, Indices, no_index, index, behind}
 use Rattle.fisca_typing.specs.Operations.{numeric_of}
-use Rattle.fisca_typing.specs.Parameters.{is_number, is_bool, is_node, kinds_at, parameter_of, of_one_kind, chosen_thing, thing_chosen, child_named, children_named, children_below, root_at, node_attribute, enum_by, subscripted}
+use Rattle.fisca_typing.specs.Parameters.{is_number, is_bool, is_node, kinds_at, of_one_kind, chosen_thing, thing_chosen, child_named, children_named, children_below, root_at, node_attribute, enum_by, subscripted}
 use Rattle.fisca_typing.specs.Tables.{Tables, Variable, first_where, variable_named, members_at}
 use Rattle.fisca_typing.specs.Things.{Thing, Typed, Chosen, Relation, value_of, text_of, period_of, role_of}
 use Rattle.fisca_typing.specs.Types.{is_numeric, is_of_members, higher}
 use Rattle.fisca_meaning.specs.Questions.{variable_type, type_in}
-use Rattle.fisca_meaning.specs.Wellformed.{Sort, Within, IsAskable, IsTyped, AreIndices, choices_of, has_kind}
+use Rattle.fisca_meaning.specs.Wellformed.{Sort, IsAskable, IsTyped, AreIndices, choices_of}
 use Rattle.fisca_meaning.proofs.Good.{OkIs, then_is, then_any, then_eq, if_is, IsGood, IsGoodRelation, IsGoodValue, AreGoodNodes, value-good, higher-left, higher-right, raised}
 use Rattle.fisca_meaning.proofs.GoodCalls.{ok, AllGiven, GoodPositions, IsSettled, settled-good, positions-good, alone-good}
 use Rattle.fisca_meaning.proofs.Weaken.{weaken_all}
@@ -106,10 +102,11 @@ pub subscripted-good : (c : Tables) (G : List Sort) (k : Chosen) (i : Typed) →
 subscripted-good c G k i good typed =
     then_eq (IsGood c G) (enum_by i.value_type) _ (λ e h. then_eq (IsGood c G) (higher k.level i.level) _ (λ l u.
     then_is (HasLength (length k.places * length (members_at c e))) (IsGood c G) (children_below c.nodes k.places (members_at c e)) _ (below-length c.nodes k.places (members_at c e)) (λ ps n.
-    thing_chosen-good c G _
-    ( behind-good c G k.indices i.node e (is_of_members l) (weaken_all c G G (λ j s q. q) k.indices _ _ (higher-left k.level i.level l u) good.0)
-        (subst (λ x. IsTyped c G i.node x (is_of_members l)) (enum-is i.value_type e h) (raised c G i l (higher-right k.level i.level l u) typed))
-    , n ∙ (ap (λ x. x * length (members_at c e)) good.1 ∙ sym (behind-choices k.indices i.node (length (members_at c e))))))))
+    thing_chosen-good c G _ (
+      behind-good c G k.indices i.node e (is_of_members l) (weaken_all c G G (λ j s q. q) k.indices _ _ (higher-left k.level i.level l u) good.0)
+          (subst (λ x. IsTyped c G i.node x (is_of_members l)) (enum-is i.value_type e h) (raised c G i l (higher-right k.level i.level l u) typed)),
+      n ∙ (ap (λ x. x * length (members_at c e)) good.1 ∙ sym (behind-choices k.indices i.node (length (members_at c e)))),
+    ))))
 
 -- Variables
 

@@ -1,5 +1,5 @@
 -- What functions give is typed.
-use Rattle.std.proofs.Common.{◌≡◌, ℕ, zero, suc, List, [], ◌∷◌, length, Bool, true, false, refl, sym, subst, arith, Option, Some, None}
+use Rattle.std.proofs.Common.{◌≡◌, ℕ, suc, List, [], ◌∷◌, length, Bool, true, false, refl, sym, subst, arith, Option, Some, None}
 use Rattle.std.specs.Prelude.{⊤, ◌==◌, ◌&&◌, if◌then◌else◌, Result, Ok, Err, codes}
 use Rattle.std.proofs.lemmas.Bool.{eqb-true}
 use Rattle.fisca_expressions.specs.Words.{is}
@@ -13,14 +13,14 @@ use Rattle.fisca_typing.specs.declared.kinds.ValueType.TheVariants as vt
 use Rattle.fisca_typing.specs.declared.operations.Arithmetic.TheVariants as arithm
 use Rattle.fisca_typing.specs.declared.operations.Function.{Function}
 use Rattle.fisca_typing.specs.declared.operations.Function.TheVariants as function
-use Rattle.fisca_typing.specs.Calls.{Given, Settled, Positions, by_position, and_keyword, more_keywords, before_keyword, in_front, put, settled, positions, all_bools, selected, nothing_selected, select_typed, select_default, select_values, select_of, default_in, where_by, select_by, alone, two, function_by}
-use Rattle.fisca_typing.specs.Nodes.{Node, choose}
-use Rattle.fisca_typing.specs.Operations.{extreme, operated, negated, typed_all, common_all, highest, where_of}
+use Rattle.fisca_typing.specs.Calls.{Given, Settled, Positions, by_position, and_keyword, more_keywords, before_keyword, in_front, put, settled, positions, all_bools, selected, select_typed, select_default, select_values, select_of, default_in, where_by, select_by, alone, two, function_by}
+use Rattle.fisca_typing.specs.Nodes.{Node}
+use Rattle.fisca_typing.specs.Operations.{extreme, typed_all, common_all, highest, where_of}
 use Rattle.fisca_typing.specs.Tables.{Tables}
 use Rattle.fisca_typing.specs.Things.{Thing, Things, Typed, none, more, value_of, things_of}
 use Rattle.fisca_typing.specs.Types.{is_bool, common, higher, is_of_members}
 use Rattle.fisca_meaning.specs.Wellformed.{Sort, Within, is_below, IsTyped}
-use Rattle.fisca_meaning.proofs.Good.{OkIs, then_is, then_any, then_eq, if_is, IsGood, AreGood, IsGoodValue, value-good, things-good, higher-left, higher-right, raised, operated-good, extreme-good, negated-good, below-self, common-below, fine}
+use Rattle.fisca_meaning.proofs.Good.{OkIs, then_is, then_eq, if_is, IsGood, AreGood, IsGoodValue, value-good, things-good, higher-left, higher-right, raised, operated-good, extreme-good, negated-good, below-self, common-below, fine}
 use Rattle.fisca_meaning.proofs.Totals.{bool-is}
 use Rattle.fisca_meaning.proofs.Weaken.{weaken}
 

@@ -1,6 +1,6 @@
 -- Formulas with locals are typed.
-use Rattle.std.proofs.Common.{◌≡◌, ℕ, zero, suc, ◌+◌, List, [], ◌∷◌, ◌++◌, length, Bool, true, false, refl, sym, ap, ◌∙◌, subst, eq-eqb, eqb-true, arith, Option, Some, None}
-use Rattle.std.specs.Prelude.{⊤, slice_get, if◌then◌else◌, Result, Ok, Err}
+use Rattle.std.proofs.Common.{◌≡◌, ℕ, zero, suc, ◌+◌, List, [], ◌∷◌, ◌++◌, length, true, refl, sym, ap, ◌∙◌, subst, eq-eqb, eqb-true, arith, Some}
+use Rattle.std.specs.Prelude.{slice_get, Result, Ok, Err}
 use Rattle.fisca_expressions.specs.Tree.{Tree}
 use Rattle.fisca_params.specs.Results.{and_then}
 use Rattle.fisca_tokens.specs.declared.fault.Kind.{Kind}
@@ -10,14 +10,14 @@ use Rattle.fisca_typing.specs.declared.kinds.ValueType.{ValueType}
 use Rattle.fisca_typing.specs.declared.kinds.ValueType.TheVariants as vt
 use Rattle.fisca_typing.specs.Formulas.{Scope, start_of, Kept, kept, if_small, with_local, behind_local, returns, of_type, of_entity, returned, Assigned, Formula, Refusal, at, formula_from, formula_of}
 use Rattle.fisca_typing.specs.Names.{Names, Local}
-use Rattle.fisca_typing.specs.Nodes.{Node, local}
+use Rattle.fisca_typing.specs.Nodes.{Node}
 use Rattle.fisca_typing.specs.Sizes.{Size, size_of, is_small}
 use Rattle.fisca_typing.specs.Tables.{Tables}
 use Rattle.fisca_typing.specs.Things.{Thing, Things, Typed, value, period, start, offset, reader, nodes, scale, calculation, enumeration, choices, entity, role, asker, method, library, function, option, text, listed, none, more, value_of}
 use Rattle.fisca_typing.specs.Types.{is_of_members}
 use Rattle.fisca_typing.specs.Typing.{thing_of}
 use Rattle.fisca_meaning.specs.Wellformed.{Sort, is_below, before_cast, IsTyped, IsTypedFrom, IsTypedFormula}
-use Rattle.fisca_meaning.proofs.Good.{OkIs, then_is, then_any, then_eq, if_is, IsGood, AreGood, IsGoodValue, value-good, below-self}
+use Rattle.fisca_meaning.proofs.Good.{OkIs, then_is, if_is, IsGood, AreGood, IsGoodValue, value-good}
 use Rattle.fisca_meaning.proofs.GoodThings.{LocalsGood, thing-good}
 use Rattle.fisca_meaning.proofs.Weaken.{Extends, extended, weaken, weaken_all}
 

@@ -1,6 +1,6 @@
 -- Formulas that have a type are typed.
-use Rattle.std.proofs.Common.{◌≡◌, ℕ, zero, suc, ◌+◌, ◌<◌, List, [], ◌∷◌, ◌++◌, length, Bool, true, false, refl, sym, ap, ◌∙◌, subst, arith, lt-ltb, Option, Some, None}
-use Rattle.std.specs.Prelude.{⊤, nat_lt, if◌then◌else◌, slice_get, ok_or, option_map, Result, Ok, Err, codes}
+use Rattle.std.proofs.Common.{◌≡◌, ℕ, suc, ◌+◌, ◌<◌, List, [], ◌∷◌, length, Bool, true, false, refl, arith, lt-ltb, Option, Some, None}
+use Rattle.std.specs.Prelude.{⊤, if◌then◌else◌, ok_or, option_map, Result, Ok, Err, codes}
 use Rattle.std.specs.List.{position_from}
 use Rattle.std.specs.Str.{bytes_eq}
 use Rattle.fisca_num.specs.declared.faults.NumFault.{NumFault}
@@ -13,30 +13,26 @@ use Rattle.fisca_expressions.specs.declared.tree.Bracket.{Bracket}
 use Rattle.fisca_expressions.specs.declared.tree.Bracket.TheVariants as bracket
 use Rattle.fisca_expressions.specs.declared.tree.Suffix.{Suffix}
 use Rattle.fisca_expressions.specs.declared.tree.Suffix.TheVariants as suffix
-use Rattle.fisca_params.specs.Results.{and_then}
 use Rattle.fisca_tokens.specs.declared.fault.Kind.{Kind}
 use Rattle.fisca_tokens.specs.declared.fault.Kind.TheVariants as kind
 use Rattle.fisca_typing.specs.declared.asking.RolePlace.{RolePlace}
-use Rattle.fisca_typing.specs.declared.kinds.Level.{Level}
 use Rattle.fisca_typing.specs.declared.kinds.Level.TheVariants as level
 use Rattle.fisca_typing.specs.declared.kinds.ValueType.{ValueType}
 use Rattle.fisca_typing.specs.declared.kinds.ValueType.TheVariants as vt
 use Rattle.fisca_typing.specs.declared.moves.Move.{Move}
 use Rattle.fisca_typing.specs.declared.operations.Method.{Method}
-use Rattle.fisca_typing.specs.Asks.{asker_attribute, some_method, method_named, relation_named, to_group, to_holder, to_self}
+use Rattle.fisca_typing.specs.Asks.{some_method, method_named, relation_named, to_group, to_holder, to_self}
 use Rattle.fisca_typing.specs.Calls.{Given, Positions, by_position, and_keyword, more_keywords, alone, offset_of, reader_by}
 use Rattle.fisca_typing.specs.Names.{Names, Local, named, local_named, argument_named, has_name, known_word, declared, library_function}
-use Rattle.fisca_typing.specs.Nodes.{Node, local}
-use Rattle.fisca_typing.specs.Operations.{operation, comparison_of, operated, prefixed_value}
+use Rattle.fisca_typing.specs.Operations.{operation, comparison_of}
 use Rattle.fisca_typing.specs.Periods.{period_attribute, start_attribute, whole, unit_named}
-use Rattle.fisca_typing.specs.Tables.{Tables, otherwise, place_in, members_at, member_named, role_of_constant, roles_at, is_person_at, if_single, role_of_key}
-use Rattle.fisca_typing.specs.Things.{Thing, Things, Typed, Relation, value, period, start, offset, reader, nodes, scale, calculation, enumeration, choices, entity, role, asker, method, library, function, option, text, listed, none, more, value_of, nodes_of, text_of, instant_of}
-use Rattle.fisca_typing.specs.Types.{is_of_members}
-use Rattle.fisca_typing.specs.Typing.{number_thing, value_attribute, member_at, role_at, attribute_of, not_called, called, is_positional, elements, only, in_brackets, subscript_of, with_suffix, thing_of, all_given, given_of}
-use Rattle.fisca_meaning.specs.Wellformed.{Sort, IsTyped}
+use Rattle.fisca_typing.specs.Tables.{Tables, otherwise, place_in, members_at, member_named, role_of_constant, roles_at, is_person_at}
+use Rattle.fisca_typing.specs.Things.{Thing, Relation, value, period, start, offset, reader, nodes, scale, calculation, enumeration, choices, entity, role, asker, method, library, function, option, text, listed, value_of, nodes_of, text_of, instant_of}
+use Rattle.fisca_typing.specs.Typing.{number_thing, value_attribute, member_at, role_at, attribute_of, not_called, called, is_positional, elements, only, in_brackets, with_suffix, thing_of, all_given, given_of}
+use Rattle.fisca_meaning.specs.Wellformed.{Sort}
 use Rattle.fisca_meaning.proofs.Good.{OkIs, then_is, then_any, if_is, IsGood, AreGood, IsGoodValue, AreGoodNodes, IsGoodRelation, value-good, nodes-good, operated-good, operation-good, comparison-good, prefixed-good}
 use Rattle.fisca_meaning.proofs.GoodAsks.{root-good, node_attribute-good, subscripted-good, asked_with-good, settled_positions-good, method_called-good, calculation-good}
-use Rattle.fisca_meaning.proofs.GoodCalls.{AllGiven, GoodPositions, function-good}
+use Rattle.fisca_meaning.proofs.GoodCalls.{AllGiven, function-good}
 
 abbrev pub LocalsGood : Tables → List Sort → List Local → Type 0
 LocalsGood c G [] = ⊤

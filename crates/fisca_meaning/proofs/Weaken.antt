@@ -1,6 +1,6 @@
 -- What is typed stays so with more locals, and where persons are.
-use Rattle.std.proofs.Common.{◌≡◌, ℕ, zero, suc, List, [], ◌∷◌, ◌++◌, Bool, true, false, refl, Option, Some}
-use Rattle.std.specs.Prelude.{⊤, slice_get}
+use Rattle.std.proofs.Common.{◌≡◌, ℕ, zero, suc, List, [], ◌∷◌, ◌++◌, Bool, true, Some}
+use Rattle.std.specs.Prelude.{slice_get}
 use Rattle.fisca_typing.specs.declared.asking.Whom.{Whom}
 use Rattle.fisca_typing.specs.declared.asking.Whom.TheVariants as whom
 use Rattle.fisca_typing.specs.declared.kinds.ValueType.{ValueType}

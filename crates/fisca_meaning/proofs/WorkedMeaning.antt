@@ -1,12 +1,11 @@
 -- The meaning of formulas beside its sentences.
-use Rattle.std.proofs.Common.{◌≡◌, ℕ, List, [], ◌∷◌, Bool, true, false, refl}
+use Rattle.std.proofs.Common.{◌≡◌, ℕ, [], ◌∷◌, true, false, refl}
 use Rattle.std.specs.Prelude.{Some, None, codes, ◌==◌, if◌then◌else◌}
 use Rattle.fisca_num.specs.Number.{zero_number, one_number}
 use Rattle.fisca_num.specs.Operations.{sum_of, quotient_of}
 use Rattle.fisca_time.specs.Period.{Span, eternity, months, days}
 use Rattle.fisca_time.specs.declared.unit.Unit.{Unit}
 use Rattle.fisca_time.specs.declared.unit.Unit.TheVariants as unit
-use Rattle.fisca_params.specs.Tree.{TreeNode}
 use Rattle.fisca_params.specs.declared.content.Content.TheVariants as content
 use Rattle.fisca_typing.specs.declared.asking.Asking.TheVariants as asking
 use Rattle.fisca_typing.specs.declared.asking.RolePlace.{RolePlace}
@@ -18,7 +17,7 @@ use Rattle.fisca_typing.specs.declared.operations.Logic.TheVariants as logic
 use Rattle.fisca_typing.specs.declared.operations.Total.TheVariants as total
 use Rattle.fisca_typing.specs.Nodes.{Node, truth, member, local, ask, has_role, total as of_all, opposite, logic as both_of, same, choose, parameter, no_index, index, literal}
 use Rattle.fisca_typing.specs.Tables.{Tables, Variable, whole_role, subrole_of}
-use Rattle.fisca_meaning.specs.Dialogues.{Value, Key, Dialogue, number, bool, member as member_value, gives, fails, stuck, asks, ◌>>=◌, with_number, computed, period_mismatch, period_out_of_range, no_member, parameter_undefined}
+use Rattle.fisca_meaning.specs.Dialogues.{Dialogue, number, bool, member as member_value, gives, fails, stuck, asks, ◌>>=◌, with_number, computed, period_mismatch, period_out_of_range, no_member, parameter_undefined}
 use Rattle.fisca_meaning.specs.Meaning.{mean, mean_from}
 use Rattle.fisca_meaning.specs.Questions.{Groups, Point, key, twelve}
 
@@ -76,7 +75,7 @@ before_the_calendar = refl
 -- ADD asks for the subperiods in order of time; it is refused for an eternal variable and where the definition period is longer
 added : means (ask 0 whom.Own asking.Add []) (months unit.Month 24205 2)
     ≡ asks (key 0 3 february) (λ x. with_number x (λ n. computed (sum_of zero_number n) >>= λ y. with_number y (λ s.
-      asks (key 0 3 (months unit.Month 24206 1)) (λ z. with_number z (λ m. computed (sum_of s m) >>= λ u. with_number u (λ r. gives (number r)))))))
+    asks (key 0 3 (months unit.Month 24206 1)) (λ z. with_number z (λ m. computed (sum_of s m) >>= λ u. with_number u (λ r. gives (number r)))))))
 added = refl
 
 added_longer : means (ask 1 whom.Own asking.Add []) february ≡ fails (period_mismatch (key 1 3 february))

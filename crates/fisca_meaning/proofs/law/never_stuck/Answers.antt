@@ -1,4 +1,3 @@
-use Rattle.fisca_typing.specs.Names.{Names}
 use Rattle.fisca_meaning.specs.Wellformed.{before_cast}
 use Rattle.fisca_meaning.proofs.GoodFormulas.{formula-typed}
 use Rattle.fisca_meaning.proofs.Sound.{formula-safe}

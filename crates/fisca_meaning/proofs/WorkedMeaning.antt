@@ -1,12 +1,11 @@
 -- The meaning of formulas beside its sentences.
-use Rattle.std.proofs.Common.{◌≡◌, ℕ, List, [], ◌∷◌, Bool, true, false, refl}
+use Rattle.std.proofs.Common.{◌≡◌, ℕ, [], ◌∷◌, true, false, refl}
 use Rattle.std.specs.Prelude.{Some, None, codes, ◌==◌, if◌then◌else◌}
 use Rattle.fisca_num.specs.Number.{zero_number, one_number}
 use Rattle.fisca_num.specs.Operations.{sum_of, quotient_of}
 use Rattle.fisca_time.specs.Period.{Span, eternity, months, days}
 use Rattle.fisca_time.specs.declared.unit.Unit.{Unit}
 use Rattle.fisca_time.specs.declared.unit.Unit.TheVariants as unit
-use Rattle.fisca_params.specs.Tree.{TreeNode}
 use Rattle.fisca_params.specs.declared.content.Content.TheVariants as content
 use Rattle.fisca_typing.specs.declared.asking.Asking.TheVariants as asking
 use Rattle.fisca_typing.specs.declared.asking.RolePlace.{RolePlace}
@@ -18,7 +17,7 @@ use Rattle.fisca_typing.specs.declared.operations.Logic.TheVariants as logic
 use Rattle.fisca_typing.specs.declared.operations.Total.TheVariants as total
 use Rattle.fisca_typing.specs.Nodes.{Node, truth, member, local, ask, has_role, total as of_all, opposite, logic as both_of, same, choose, parameter, no_index, index, literal}
 use Rattle.fisca_typing.specs.Tables.{Tables, Variable, whole_role, subrole_of}
-use Rattle.fisca_meaning.specs.Dialogues.{Value, Key, Dialogue, number, bool, member as member_value, gives, fails, stuck, asks, ◌>>=◌, with_number, computed, period_mismatch, period_out_of_range, no_member, parameter_undefined}
+use Rattle.fisca_meaning.specs.Dialogues.{Dialogue, number, bool, member as member_value, gives, fails, stuck, asks, ◌>>=◌, with_number, computed, period_mismatch, period_out_of_range, no_member, parameter_undefined}
 use Rattle.fisca_meaning.specs.Meaning.{mean, mean_from}
 use Rattle.fisca_meaning.specs.Questions.{Groups, Point, key, twelve}
 

@@ -95,3 +95,9 @@ IsTypedFormula c f t = IsTypedFrom c [] f.values f.result t
 -- an Enum that a variable has has a member
 abbrev pub HasMembers : Tables → Type 0
 HasMembers c = (v e : ℕ) → variable_type c v ≡ Some (vt.Enum e) → nat_lt 0 (length (members_at c e)) ≡ true
+
+-- what a formula gives before it is cast to the type of its variable: for a bool a number serves as well
+abbrev pub before_cast : ValueType → ValueType
+before_cast vt.Number = vt.Number
+before_cast vt.Bool = vt.Number
+before_cast (vt.Enum e) = vt.Enum e

@@ -35,22 +35,24 @@ number_thing (Err e) = bad_type
 
 -- Names behind a point
 
+abbrev pub member_at : ℕ → Option ℕ → Result Thing Kind
+member_at e None = unknown_name
+member_at e (Some i) = typed (vt.Enum e) level.Constant (member e i)
+
 abbrev pub member_thing : Tables → ℕ → List ℕ → Result Thing Kind
-member_thing c e t = place (member_named c e t) where
-  place : Option ℕ → Result Thing Kind
-  place None = unknown_name
-  place (Some i) = typed (vt.Enum e) level.Constant (member e i)
+member_thing c e t = member_at e (member_named c e t)
 
 abbrev pub value_attribute : List ℕ → ValueType → Result Thing Kind
 value_attribute t vt.Number = bad_type
 value_attribute t vt.Bool = bad_type
 value_attribute t (vt.Enum e) = if is t (codes "possible_values") then Ok (choices e) else unknown_name
 
+abbrev pub role_at : ℕ → Option RolePlace → Result Thing Kind
+role_at g None = unknown_name
+role_at g (Some r) = Ok (role g r)
+
 abbrev pub role_thing : Tables → ℕ → List ℕ → Result Thing Kind
-role_thing c g t = place (role_of_constant (roles_at c g) t) where
-  place : Option RolePlace → Result Thing Kind
-  place None = unknown_name
-  place (Some r) = Ok (role g r)
+role_thing c g t = role_at g (role_of_constant (roles_at c g) t)
 
 abbrev pub attribute_of : Names → List ℕ → Thing → Result Thing Kind
 attribute_of c t (value v) = value_attribute t v.value_type

@@ -40,7 +40,7 @@ fn told(alloc: Global, files: &[(&str, &str)]) -> Result<String, AllocError> {
 /// So many files, of which all but the first are refused.
 fn files(alloc: Global, count: u32) -> Result<Vec<SourceFile>, AllocError> {
     let mut files = Vec::new(alloc);
-    files.push(file(alloc, "variables/a.py", "")?)?;
+    files.push(file(alloc, "variables/a.txt", "")?)?;
     for _file in 1..count {
         files.push(file(alloc, "parameters/a.yaml", "[")?)?;
     }

@@ -8,6 +8,7 @@ use fisca_grid::{MemorySink, RunEnd};
 use fisca_params::SourceFile;
 use std::alloc::{AllocError, Global};
 
+/// The answer to a case of commands: what the call of this name gives for these words.
 pub fn answer(
     alloc: Global,
     operation: &str,

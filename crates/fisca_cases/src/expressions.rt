@@ -13,6 +13,7 @@ use std::alloc::Global;
 /// How high an expression may be.
 const HEIGHT: usize = 120;
 
+/// The answer to a case of expressions: what the call of this name gives for these words.
 pub fn answer(alloc: Global, operation: &str, words: &[String]) -> Result<String, Fault> {
     match operation {
         "formula" => read(alloc, one(words)?, Mode::Formula),

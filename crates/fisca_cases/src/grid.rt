@@ -8,6 +8,7 @@ use fisca_num::Fraction;
 use std::alloc::Global;
 use std::cmp::Ordering;
 
+/// The answer to a case of axes: what the call of this name gives for these words.
 pub fn answer(alloc: Global, operation: &str, words: &[String]) -> Result<String, Fault> {
     match operation {
         "no_groups" => size(alloc, Axes::build(alloc, &[], &[])),

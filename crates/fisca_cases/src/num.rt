@@ -6,6 +6,7 @@ use fisca_num::{Fraction, NumFault};
 use std::alloc::Global;
 use std::cmp::Ordering;
 
+/// The answer to a case of numbers: what the call of this name gives for these words.
 pub fn answer(alloc: Global, operation: &str, words: &[String]) -> Result<String, Fault> {
     match operation {
         "read" => read(alloc, words),

@@ -9,6 +9,7 @@ use fisca_params::{NodeId, NodeKind, ParamTree, ParamValue, SourceFile};
 use fisca_time::Instant;
 use std::alloc::Global;
 
+/// The answer to a case of parameters: what the call of this name gives for these words.
 pub fn answer(
     alloc: Global,
     operation: &str,

@@ -6,6 +6,7 @@ use crate::written::Written;
 use fisca_time::{Instant, Period, TimeFault, Unit};
 use std::alloc::Global;
 
+/// The answer to a case of periods and instants: what the call of this name gives for these words.
 pub fn answer(alloc: Global, operation: &str, words: &[String]) -> Result<String, Fault> {
     match operation {
         "period" => shown(alloc, Period::read(one(words)?)),

@@ -6,6 +6,7 @@ use crate::written::Written;
 use fisca_tokens::{Token, tokens};
 use std::alloc::{AllocError, Global};
 
+/// The answer to a case of tokens: what the call of this name gives for these words.
 pub fn answer(alloc: Global, operation: &str, words: &[String]) -> Result<String, Fault> {
     match operation {
         "list" => list(alloc, words),

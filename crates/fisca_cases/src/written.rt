@@ -11,6 +11,7 @@ pub struct Written {
 }
 
 impl Written {
+    /// Nothing is written yet.
     pub fn new(alloc: Global) -> Written {
         Written {
             text: String::new(alloc),
@@ -18,18 +19,21 @@ impl Written {
         }
     }
 
+    /// Writes a piece.
     pub fn push(&mut self, piece: &str) {
         if self.text.push_str(piece).is_err() {
             self.is_whole = false;
         }
     }
 
+    /// Writes a number in decimal digits.
     pub fn push_number(&mut self, number: u64) {
         if write!(self.text, "{number}").is_err() {
             self.is_whole = false;
         }
     }
 
+    /// Writes a value as it shows itself.
     pub fn push_shown(&mut self, value: &impl Display) {
         if write!(self.text, "{value}").is_err() {
             self.is_whole = false;

@@ -6,6 +6,7 @@ use crate::written::Written;
 use fisca_yaml::{Entry, Item, Tree, read};
 use std::alloc::{AllocError, Global};
 
+/// The answer to a case of YAML texts: what the call of this name gives for these words.
 pub fn answer(alloc: Global, operation: &str, words: &[String]) -> Result<String, Fault> {
     match operation {
         "tree" => tree(alloc, words),

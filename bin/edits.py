@@ -2,7 +2,7 @@
 """bin/edits.py [NAME..]: tries the must-fail edits of these crates, or of all.
 
 A must-fail edit, crates/NAME/must-fail/*.edit, puts a wrong body in place of a right one, and the prover has to refuse the crate
-with it, since a clause of a contract fails. First every crate is checked as it stands, over what earlier checks of this checkout
+with it, since a clause of a contract fails. First these crates are checked as they stand, over what earlier checks of this checkout
 keep in out/. Then the edits are tried in copies of their crates, over that work, several side by side: so each costs what it
 changes, and not a proof from nothing. A line tells of each edit, and the last one counts them.
 """
@@ -19,7 +19,7 @@ import time
 TOP = pathlib.Path(__file__).resolve().parent.parent
 PROVED = ("src", "specs", "proofs")
 # the edits of a crate that are tried one after another in one copy of it
-AT_ONCE = 6
+AT_ONCE = 9
 # what a proof file says that only names what an edit took away
 NAMES_ALONE = re.compile(r"(\./)?proofs/.*(has no field|is not in scope|has no `|was not admitted)")
 SAID = re.compile(r"(note: )?\S+:\d+:\d+:")
@@ -71,20 +71,20 @@ def edited(edit, folder):
     return texts
 
 
-def copied(name, known, room):
+def copied(name, known, top, room):
     """Copies a crate, with what its checks keep, and the built libraries that it stands on into a room. Answers its folder."""
     lower = below(name, known)
     for it in [name, *lower]:
         for part in PROVED:
-            if (TOP / "crates" / it / part).is_dir():
-                shutil.copytree(TOP / "crates" / it / part, room / "crates" / it / part)
+            if (top / "crates" / it / part).is_dir():
+                shutil.copytree(top / "crates" / it / part, room / "crates" / it / part)
     for it in lower:
         # (a built library is read here, and a new one is never written into the old files)
-        shutil.copytree(TOP / "crates" / it / "out" / "rlib", room / "crates" / it / "out" / "rlib", copy_function=os.link)
+        shutil.copytree(top / "crates" / it / "out" / "rlib", room / "crates" / it / "out" / "rlib", copy_function=os.link)
     folder = room / "crates" / name
-    shutil.copytree(TOP / "crates" / name / "out" / "incremental", folder / "out" / "incremental", symlinks=True)
+    shutil.copytree(top / "crates" / name / "out" / "incremental", folder / "out" / "incremental", symlinks=True)
     (room / "crates.txt").write_text("".join(f"{known[it][1]}\n" for it in known if it in lower or it == name))
-    shutil.copy(TOP / "HANDLES", room / "HANDLES")
+    shutil.copy(top / "HANDLES", room / "HANDLES")
     return folder
 
 
@@ -123,11 +123,11 @@ def attempt(folder, edit):
             (folder / path).write_text(text)
 
 
-def attempts(name, edits, known, tell):
+def attempts(name, edits, known, top, tell):
     """Tries some edits of a crate in one copy of it, which is proved as it stands. Answers those that were refused."""
     refused = []
     with tempfile.TemporaryDirectory(prefix="fisca-edits-") as room:
-        folder = copied(name, known, pathlib.Path(room))
+        folder = copied(name, known, top, pathlib.Path(room))
         status, lines = check(folder)
         if status:
             tell(f"must-fail {name}: the crate itself is not proved in a copy: {(lines or [''])[-1][:160]}")
@@ -140,22 +140,35 @@ def attempts(name, edits, known, tell):
     return refused
 
 
-def try_edits(names, workers, tell=print):
-    """Tries the edits of these crates. Answers for each crate the names of the edits that were refused, or None where the
-    crates are not proved as they stand."""
+def check_all(names, workers, top, tell):
+    """Whether these crates are proved as they stand, over what earlier checks below this folder keep."""
+    def proved(name):
+        checked = subprocess.run(["rt", "check", "--jobs", "1"], cwd=top / "crates" / name, stdin=subprocess.DEVNULL, stdout=subprocess.PIPE, stderr=subprocess.STDOUT, text=True, errors="replace")
+        if checked.returncode:
+            tell(f"{name} is not proved as it stands: {(checked.stdout.splitlines() or [''])[-1]}")
+        return not checked.returncode
+
+    with concurrent.futures.ThreadPoolExecutor(workers) as pool:
+        return all(list(pool.map(proved, names)))
+
+
+def try_edits(names, workers, tell=print, top=TOP):
+    """Tries the edits of these crates, which are proved as they stand below this folder. Answers for each crate the names of
+    the edits that were refused."""
     known = crates()
-    checked = subprocess.run(["rt", "all", "check", "--jobs", str(workers)], cwd=TOP, stdin=subprocess.DEVNULL, stdout=subprocess.PIPE, stderr=subprocess.STDOUT, text=True, errors="replace")
-    if checked.returncode:
-        tell(f"the crates are not proved as they stand: {(checked.stdout.splitlines() or [''])[-1]}")
-        return None
     groups = [(name, edits_of(name)[at : at + AT_ONCE]) for name in names for at in range(0, len(edits_of(name)), AT_ONCE)]
     # those of the crates that stand on most take longest
     groups.sort(key=lambda it: -len(below(it[0], known)) * len(it[1]))
     refused = {name: [] for name in names}
     with concurrent.futures.ThreadPoolExecutor(workers) as pool:
-        for (name, _), some in zip(groups, pool.map(lambda it: attempts(*it, known, tell), groups)):
+        for (name, _), some in zip(groups, pool.map(lambda it: attempts(*it, known, top, tell), groups)):
             refused[name] += some
     return refused
+
+
+def say(line):
+    """Prints a line at once."""
+    print(line, flush=True)
 
 
 def main(words):
@@ -164,9 +177,10 @@ def main(words):
     if unknown:
         print(f"bin/edits.py: no crate {unknown[0]}", file=sys.stderr)
         return 2
-    refused = try_edits(names, os.cpu_count() or 1, lambda line: print(line, flush=True))
-    if refused is None:
+    workers = os.cpu_count() or 1
+    if not check_all(names, workers, TOP, say):
         return 1
+    refused = try_edits(names, workers, say)
     wanted = sum(len(edits_of(name)) for name in names)
     count = sum(map(len, refused.values()))
     print(f"{count} edits refused, {wanted - count} not")

@@ -7,7 +7,7 @@ ghost use Rattle.clap.specs.Walk.{rows_of, rule_of};
 ghost use Rattle.clap.specs.Simple.{app_of, subcommand_of};
 ghost use Rattle.clap.specs.Faults.{fault_of};
 ghost use Rattle.clap.specs.Kinds.{FailsBy};
-ghost use Rattle.fisca.specs.CommandLine.{axis_rule, option_rule, number_rule, axes_app, check_app, fisca_app, IsAxesTask, IsCheckTask, IsTaskOf};
+ghost use Rattle.fisca.specs.CommandLine.{axis_rule, option_rule, number_rule, required_rule, axes_app, check_app, fisca_app, IsAxesTask, IsCheckTask, IsTaskOf};
 
 use clap::{Arg, ArgAction, ArgMatches, Command, Error, value_parser};
 use fisca_commands::Task;
@@ -105,16 +105,22 @@ fn number<'a>(alloc: Global, id: &'a str, value: &'a str, help: &'a str) -> Arg<
         .help(help)
 }
 
+/// An argument that has to be given.
+fn required<'a>(alloc: Global, id: &'a str, help: &'a str) -> Arg<'a>
+    ensures rule { rule_of result ≡ required_rule id.entry.now }
+    ensures local { result.global ≡ false }
+{
+    Arg::new(alloc, id).required(true).help(help)
+}
+
 /// The axes of `axes`.
 fn axis_argument<'a>(alloc: Global) -> Arg<'a>
     ensures rule { rule_of result ≡ axis_rule }
     ensures local { result.global ≡ false }
 {
-    Arg::new(alloc, "AXIS")
-        .required(true)
+    required(alloc, "AXIS", AXIS_HELP)
         .action(ArgAction::Append)
         .num_args(1..)
-        .help(AXIS_HELP)
         .long_help(AXIS_LONG)
 }
 
@@ -155,7 +161,7 @@ fn check_command<'a>(alloc: Global) -> Result<Command<'a>, AllocError>
     ensures app { IfOk result (λ command. app_of command ≡ check_app) }
     ensures local { IfOk result (λ command. (out-Command command).has_globals ≡ false) }
 {
-    let rules = Arg::new(alloc, "RULES").required(true).help(RULES_HELP);
+    let rules = required(alloc, "RULES", RULES_HELP);
     Command::new(alloc, "check")
         .about(CHECK_ABOUT)
         .long_about(CHECK_LONG)

@@ -24,8 +24,8 @@ pub fn answer(alloc: Global, operation: &str, words: &[String]) -> Result<String
 
 /// The expression that a text is.
 fn read(alloc: Global, source: &str, mode: Mode) -> Result<String, Fault> {
-    let pieces = tokens(alloc, source)?;
-    let found = join_texts(alloc, &pieces)?;
+    let mut found = tokens(alloc, source)?;
+    join_texts(&mut found);
     let expr = read_expression(alloc, source, &found, mode, HEIGHT)?;
     let mut shown = Written::new(alloc);
     show(&mut shown, &expr);

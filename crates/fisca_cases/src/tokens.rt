@@ -33,11 +33,15 @@ fn show(alloc: Global, source: &str, tokens: &[Token]) -> Result<String, AllocEr
 }
 
 fn push(shown: &mut Written, source: &str, token: &Token) {
-    shown.push(source.get(token.start..token.end).unwrap_or("?"));
+    shown.push(
+        source
+            .get(token.start as usize..token.end as usize)
+            .unwrap_or("?"),
+    );
     shown.push("@");
-    shown.push_number(token.line as u64);
+    shown.push_number(u64::from(token.line));
     if let Some(column) = token.indent {
         shown.push(">");
-        shown.push_number(column as u64);
+        shown.push_number(u64::from(column));
     }
 }

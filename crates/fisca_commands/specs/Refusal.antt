@@ -56,8 +56,8 @@ reason_of TooManyFiles = codes "TooManyFiles"
 
 -- where the fault of a rule file stands
 abbrev pub place_of : Refusal → List ℕ
-place_of (Params path line fault) = shown (string_bytes path) ++ (58 ∷ (decimal line ++ codes ": "))
-place_of (Formula path line kind) = shown (string_bytes path) ++ (58 ∷ (decimal line ++ codes ": "))
+place_of (Params path line fault) = shown (string_bytes path) ++ (codes ":" ++ (decimal line ++ codes ": "))
+place_of (Formula path line kind) = shown (string_bytes path) ++ (codes ":" ++ (decimal line ++ codes ": "))
 place_of (Axes fault) = []
 place_of BadWord = []
 place_of BadCondition = []

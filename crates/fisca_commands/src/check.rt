@@ -1,6 +1,6 @@
 //! `fisca check`: whether the files of a rule set are accepted, and what they hold.
 
-ghost use Rattle.std.specs.Prelude.{◌≡◌, ℕ, ◌<◌, cond, IfOk, IfSome, OnOk, IsTrue, ◌↔◌, string_bytes, length};
+ghost use Rattle.std.specs.Prelude.{◌≡◌, nat_lt, ℕ, ◌<◌, cond, IfOk, IfSome, OnOk, IsTrue, ◌↔◌, string_bytes, length};
 ghost use Rattle.fisca_grid.specs.Sink.{CountsFailure};
 ghost use Rattle.fisca_params.specs.Answers.{file_of, Refuses};
 ghost use Rattle.fisca_params.specs.Files.{tree_of};
@@ -23,6 +23,13 @@ fn count_files(files: &[SourceFile]) -> usize
         .iter()
         .filter(|file| is_rule_path(file.path()))
         .count()
+}
+
+/// Whether a rule set has more files than are read.
+fn are_too_many(files: &[SourceFile]) -> bool
+    ensures { result ≡ nat_lt 1000 (count_of_files files.now) }
+{
+    count_files(files) > MOST_FILES
 }
 
 /// The line that `fisca check` prints of so many parameters and scales.
@@ -82,7 +89,7 @@ pub fn check_rules<S: RowSink>(
     ensures answer { IsCheck files.now (S.taken sink.old) (S.taken sink.new) result }
     ensures failures { CountsFailure (is_check_write result) (S.failures sink.old) (S.failures sink.new) }
 {
-    if count_files(files) > MOST_FILES {
+    if are_too_many(files) {
         return Err(Refusal::TooManyFiles);
     }
     let tree = match ParamTree::read(alloc, files) {

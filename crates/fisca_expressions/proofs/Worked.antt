@@ -14,6 +14,7 @@ use Rattle.fisca_expressions.specs.declared.tree.Suffix.TheVariants as suffix
 use Rattle.fisca_expressions.specs.declared.tree.Mode.TheVariants as mode
 use Rattle.fisca_expressions.specs.Tree.{Tree, name, number, bracketed, attribute, applied, prefixed, binary, compare, nothing, last, next, positional, keyword, entry, height}
 use Rattle.fisca_expressions.specs.Marks.{same_mark}
+use Rattle.fisca_expressions.specs.Groups.{bare}
 use Rattle.fisca_expressions.specs.Words.{is_keyword, is_atom, is_left_out}
 use Rattle.fisca_expressions.specs.Spelling.{fits, IsExpression}
 use Rattle.fisca_expressions.specs.Reading.{reads, climb, operand, joined, compared, series, argument, enclosed}
@@ -132,3 +133,20 @@ parentheses = refl
 too_deep : reads mode.Formula 1 0 (n ∷ m mark.Plus ∷ []) ≡ Err (record { left = 1; kind = kind.TooDeep })
 unfolding reads climb operand joined compared
 too_deep = refl
+
+-- Parentheses around one expression group, however many; a tuple, an empty pair and a list stay as they are.
+
+abbrev grouped : Tree → Tree
+grouped e = bracketed bracket.Round (last (positional e))
+
+grouped_name : bare (grouped (grouped a)) ≡ a
+grouped_name = refl
+
+tuple_of_one : bare (bracketed bracket.Round (next (positional a) nothing)) ≡ bracketed bracket.Round (next (positional a) nothing)
+tuple_of_one = refl
+
+empty_pair : bare (bracketed bracket.Round nothing) ≡ bracketed bracket.Round nothing
+empty_pair = refl
+
+grouped_list : bare (grouped (bracketed bracket.Square (last (positional (grouped a))))) ≡ bracketed bracket.Square (last (positional (grouped a)))
+grouped_list = refl

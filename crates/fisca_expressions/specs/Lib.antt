@@ -1,3 +1,4 @@
+pub mod Groups
 pub mod Marks
 pub mod Reading
 pub mod Signs

@@ -41,7 +41,7 @@ arguments_step xs = series_of xs.comma xs.items.items
 abbrev pub argument_step : Argument-F Argument Tree Series → Argument
 argument_step (Argument-F.Positional e) = positional e
 argument_step (Argument-F.Keyword k e) = keyword k e
-argument_step (Argument-F.Entry k e) = entry k e
+argument_step (Argument-F.Entry k e) = entry k.value e.value
 
 abbrev pub tree : Expr → Tree
 tree = fold-Expr Argument Tree Series argument_step expr_step arguments_step

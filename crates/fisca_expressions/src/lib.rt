@@ -2,6 +2,7 @@
 #![tactic(auto)]
 
 mod cursor;
+mod groups;
 mod law;
 mod made;
 mod marks;
@@ -14,6 +15,7 @@ mod tree;
 mod words;
 
 pub use cursor::Cursor;
+pub use groups::bare;
 pub use law::each_list_of_tokens_has_one_tree;
 pub use reader::{read_all, read_expression};
 pub use refusal::Refusal;

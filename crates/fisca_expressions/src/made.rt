@@ -187,15 +187,19 @@ pub(crate) fn keyword<'a>(key: Slice<'a>, value: Measured<'a>) -> MeasuredArgume
 }
 
 /// An entry of a map.
-pub(crate) fn entry<'a>(key: Measured<'a>, value: Measured<'a>) -> MeasuredArgument<'a>
-    ensures value { argument_view result.argument ≡ spec.entry (tree key.entry.expr) (tree value.entry.expr) }
-    ensures low { result.height ≡ max key.entry.height value.entry.height }
+pub(crate) fn entry<'a>(
+    alloc: Global,
+    key: Measured<'a>,
+    value: Measured<'a>,
+) -> Result<MeasuredArgument<'a>, AllocError>
+    ensures value { IfOk result (λ m. argument_view m.argument ≡ spec.entry (tree key.entry.expr) (tree value.entry.expr)) }
+    ensures low { IfOk result (λ m. m.height ≡ max key.entry.height value.entry.height) }
 {
     let height = key.height.max(value.height);
-    MeasuredArgument {
-        argument: Argument::Entry(key.expr, value.expr),
+    Ok(MeasuredArgument {
+        argument: Argument::Entry(Box::new(alloc, key.expr)?, Box::new(alloc, value.expr)?),
         height,
-    }
+    })
 }
 
 /// Puts an argument at the end.
@@ -223,7 +227,8 @@ pub(crate) fn all_with_commas<'a>(items: Vec<Argument<'a>>, height: usize) -> Me
     }
 }
 
-/// These arguments, each with a comma, and a last one.
+/// These arguments, each with a comma, and a last one. A growth for it alone makes room for no more: most brackets hold one
+/// argument.
 #[tactic(auto, using(crate::proofs::Pushed::last_view, crate::proofs::Pushed::last_height))]
 pub(crate) fn all_with_last<'a>(
     mut items: Vec<Argument<'a>>,
@@ -235,6 +240,7 @@ pub(crate) fn all_with_last<'a>(
     ensures low { IfOk result (λ m. m.height ≡ max height argument.entry.height) }
 {
     let height = height.max(argument.height);
+    items.reserve_exact(1)?;
     items.push(argument.argument)?;
     Ok(MeasuredArguments {
         arguments: Arguments {

@@ -5,7 +5,7 @@ use crate::tree::{Bracket, Comparison, Operator, Prefix, Suffix};
 use fisca_tokens::Mark;
 
 /// What a mark behind an expression does.
-#[derive(Clone, Copy, Debug, PartialEq, Eq)]
+#[derive(Clone, Copy, PartialEq, Eq)]
 pub(crate) enum Joint {
     /// A name follows.
     Access,
@@ -18,7 +18,7 @@ pub(crate) enum Joint {
 }
 
 /// What a mark begins.
-#[derive(Clone, Copy, Debug, PartialEq, Eq)]
+#[derive(Clone, Copy, PartialEq, Eq)]
 pub(crate) enum Beginning {
     /// An expression in brackets.
     Opens(Bracket),

@@ -165,7 +165,7 @@ fn read_entry<'a>(
     let key = read(alloc, cursor, mode, depth, 0)?;
     cursor.expect(Mark::Colon)?;
     let value = read(alloc, cursor, mode, depth, 0)?;
-    Ok(entry(key, value))
+    Ok(entry(alloc, key, value)?)
 }
 
 /// What stands behind an expression, past the mark that joins.
@@ -400,9 +400,9 @@ fn line_of(tokens: &[Token], left: usize) -> usize
     ensures { result ≡ line_in tokens.now left }
 {
     match tokens.get(tokens.len().saturating_sub(left)) {
-        Some(token) => token.line,
+        Some(token) => token.line as usize,
         None => match tokens.last() {
-            Some(token) => token.line,
+            Some(token) => token.line as usize,
             None => 1,
         },
     }

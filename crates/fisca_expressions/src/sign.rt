@@ -61,7 +61,7 @@ fn piece(text: &[u8], start: usize, end: usize) -> &[u8]
 pub(crate) fn sign_of<'a>(text: &'a [u8], token: &Token) -> Sign<'a>
     ensures { result ≡ spec.sign_of text.now token.now }
 {
-    let slice = Slice::new(piece(text, token.start, token.end));
+    let slice = Slice::new(piece(text, token.start as usize, token.end as usize));
     match token.class {
         Class::Word => Sign::Word(slice),
         Class::Number => Sign::Number(slice),

@@ -116,8 +116,8 @@ pub enum Argument<'a> {
     Positional(Expr<'a>),
     /// `NAME=expression`
     Keyword(Slice<'a>, Expr<'a>),
-    /// `expression: expression`, in a map.
-    Entry(Expr<'a>, Expr<'a>),
+    /// `expression: expression`, in a map. In boxes, since it is rare: so the others take less room.
+    Entry(Box<Expr<'a>>, Box<Expr<'a>>),
 }
 
 /// Which arguments may stand here.

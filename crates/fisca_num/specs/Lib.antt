@@ -1,4 +1,5 @@
 pub mod Answer
+pub mod Characters
 pub mod Digits
 pub mod Faults
 pub mod Halves

@@ -5,18 +5,19 @@ use Rattle.std.specs.List.{before_first, after_first, list_all}
 use Rattle.std.specs.Str.Parse.{digits_value}
 use Rattle.fisca_num.specs.declared.faults.NumFault.{NumFault}
 use Rattle.fisca_num.specs.declared.faults.NumFault.TheVariants.{TooWide, NotANumber}
+use Rattle.fisca_num.specs.Characters.{plus, minus, point, zero_digit, underscore}
 use Rattle.fisca_num.specs.Rational.{Ratio, signed}
 use Rattle.fisca_num.specs.Number.{Number}
 use Rattle.fisca_num.specs.Operations.{number_of}
 
 abbrev pub is_point : ℕ → Bool
-is_point c = c == 46
+is_point c = c == point
 
 abbrev pub is_minus : ℕ → Bool
-is_minus c = c == 45
+is_minus c = c == minus
 
 abbrev pub is_zero_digit : ℕ → Bool
-is_zero_digit c = c == 48
+is_zero_digit c = c == zero_digit
 
 -- the text begins with `-`
 abbrev pub is_negative : List ℕ → Bool
@@ -26,7 +27,7 @@ is_negative (c ∷ cs) = is_minus c
 -- the text without its sign
 abbrev pub unsigned_part : List ℕ → List ℕ
 unsigned_part [] = []
-unsigned_part (c ∷ cs) = if is_minus c || (c == 43) then cs else c ∷ cs
+unsigned_part (c ∷ cs) = if is_minus c || (c == plus) then cs else c ∷ cs
 
 -- what stands before the point, and after it
 abbrev pub whole_part : List ℕ → List ℕ
@@ -44,7 +45,7 @@ abbrev mutual
   -- nothing, more digits, or `_` and more digits
   pub may_follow_digit : List ℕ → Bool
   may_follow_digit [] = true
-  may_follow_digit (c ∷ cs) = (is_ascii_digit c && may_follow_digit cs) || ((c == 95) && are_digits cs)
+  may_follow_digit (c ∷ cs) = (is_ascii_digit c && may_follow_digit cs) || ((c == underscore) && are_digits cs)
 
 -- the same, or nothing
 abbrev pub are_digits_or_none : List ℕ → Bool

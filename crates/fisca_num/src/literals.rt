@@ -47,12 +47,18 @@ impl Fraction {
     ///
     /// `NotANumber` where the text has not this form. Else `TooWide` where more than 18 digits stand after the point,
     /// zeros at the end aside, or the value is outside the limits.
-    #[tactic(auto, unfolding(crate::specs::Literal::number_of_literal))]
     pub fn from_decimal(text: &str) -> Result<Fraction, NumFault>
         ensures { result ≡ number_of_literal text.now }
     {
-        let bytes = text.as_bytes();
-        value_of_unsigned(begins_with_minus(bytes), without_sign(bytes))
+        Fraction::from_literal(text.as_bytes())
+    }
+
+    /// The same of the bytes of a text.
+    #[tactic(auto, unfolding(crate::specs::Literal::number_of_literal))]
+    pub fn from_literal(text: &[u8]) -> Result<Fraction, NumFault>
+        ensures { result ≡ number_of_literal text.now }
+    {
+        value_of_unsigned(begins_with_minus(text), without_sign(text))
     }
 }
 

@@ -2,7 +2,7 @@
 use Rattle.std.proofs.Common.{◌≡◌, ℕ, ◌+◌, ◌*◌, ◌/◌, ◌%◌, ◌<◌, refl, sym, ◌∙◌, ap, arith}
 use Rattle.std.proofs.Math.Dec.{leb, ltb}
 use Rattle.std.proofs.lemmas.Bool.Decides.{leb_tells}
-use Rattle.std.specs.Cmp.{ranks}
+use Rattle.std.specs.Cmp.{ranks, nat_cmp_is}
 use Rattle.std.specs.Ordering.{MatchOrdering, nat_cmp, ordering_then, is_le, is_lt}
 use Rattle.std.specs.declared.cmp.Ordering.{Ordering}
 use Rattle.std.specs.declared.cmp.Ordering.TheVariants.{Less, Equal, Greater}
@@ -66,3 +66,9 @@ reached_by_number n b m d =
     let date = date_of_number n in
     ap (λ k. leb k (day_number b)) (sym (number-date n))
     ∙ le_by_rank (date_cmp date b) (day_number date) (day_number b) (days-rank date b (omega arith) (omega arith) m d)
+
+pub days_cmp : (m n : ℕ) → date_cmp (date_of_number m) (date_of_number n) ≡ nat_cmp m n
+days_cmp m n =
+    let a = date_of_number m in
+    let b = date_of_number n in
+    nat_cmp_is m n (date_cmp a b) (rw (number-date m, number-date n) at (days-rank a b (omega arith) (omega arith) (omega arith) (omega arith)))

@@ -10,7 +10,7 @@ use Rattle.std.specs.Ordering.{is_lt, is_le, ordering_reverse}
 use Rattle.std.specs.List.Sorted.{IsPartitionedBy}
 use Rattle.fisca_time.specs.Instant.{CivilDate, date_cmp}
 use Rattle.fisca_params.specs.Dates.{Dated}
-use Rattle.fisca_params.specs.Dates.{is_before, latest, is_in_order, put_in_time, IsBehind}
+use Rattle.fisca_params.specs.Dates.{is_before, latest, is_in_order, put_in_time}
 
 pub date_total : IsTotalOrder date_cmp
 date_total = then_total (on_total (λ d. d.year) nat_cmp_total) (then_total (on_total (λ d. d.month) nat_cmp_total) (on_total (λ d. d.day) nat_cmp_total))
@@ -53,12 +53,12 @@ not_so : (b : Bool) → (b ≡ true → ⊥) → not b ≡ true
 not_so true h = absurd (h refl)
 not_so false h = refl
 
-tail_in_order : {V : Type 0} (d : Dated V) (ds : List (Dated V)) → is_in_order (d ∷ ds) ≡ true → is_in_order ds ≡ true
+pub tail_in_order : {V : Type 0} (d : Dated V) (ds : List (Dated V)) → is_in_order (d ∷ ds) ≡ true → is_in_order ds ≡ true
 tail_in_order d [] h = refl
 tail_in_order d (e ∷ es) h = (both_of (is_before d.date e.date) (is_in_order (e ∷ es)) h).1
 
 -- the first member is before all others
-first_before : {V : Type 0} (d : Dated V) (ds : List (Dated V)) → is_in_order (d ∷ ds) ≡ true → (j : ℕ) (x : Dated V) → j < length ds → is_before d.date (get_or ds j x).date ≡ true
+pub first_before : {V : Type 0} (d : Dated V) (ds : List (Dated V)) → is_in_order (d ∷ ds) ≡ true → (j : ℕ) (x : Dated V) → j < length ds → is_before d.date (get_or ds j x).date ≡ true
 first_before d [] h j x p = absurd (omega arith)
 first_before d (e ∷ es) h zero x p = (both_of (is_before d.date e.date) (is_in_order (e ∷ es)) h).0
 first_before d (e ∷ es) h (suc j) x p =
@@ -161,31 +161,12 @@ latest-between i ds place size x o h one =
 greater_from_before : (a b : CivilDate) → is_before a b ≡ true → date_cmp b a ≡ Greater
 greater_from_before a b h = date_total.antisymm b a ∙ ap ordering_reverse (less_from_is_lt (date_cmp a b) h)
 
--- where the last member is before a date, each is
-pub all-before : {V : Type 0} (d : Dated V) (ds : List (Dated V)) (n : ℕ) → is_in_order ds ≡ true → length ds ≡ suc n → ((x : Dated V) → is_before (get_or ds n x).date d.date ≡ true) → IsBehind d ds
-all-before d [] n o same h k x p = absurd (omega arith)
-all-before d (e ∷ []) n o same h zero x p = let last : n ≡ 0 = omega arith in rw last at h x
-all-before d (e ∷ []) n o same h (suc k) x p = absurd (omega arith)
-all-before d (e ∷ f ∷ fs) zero o same h k x p = absurd (omega arith)
-all-before d (e ∷ f ∷ fs) (suc n) o same h zero x p =
-    let both : (is_before e.date f.date ≡ true) × (is_in_order (f ∷ fs) ≡ true) = both_of (is_before e.date f.date) (is_in_order (f ∷ fs)) o in
-    before-trans e.date f.date d.date both.0 (all-before d (f ∷ fs) n both.1 (omega arith) h zero x (omega arith))
-all-before d (e ∷ f ∷ fs) (suc n) o same h (suc k) x p =
-    let both : (is_before e.date f.date ≡ true) × (is_in_order (f ∷ fs) ≡ true) = both_of (is_before e.date f.date) (is_in_order (f ∷ fs)) o in
-    all-before d (f ∷ fs) n both.1 (omega arith) h k x (omega arith)
+-- each date of the list is before this one
+abbrev pub IsBehind : {V : Type 0} → Dated V → List (Dated V) → Type 0
+IsBehind {V} d ds = (k : ℕ) (e : Dated V) → k < length ds → is_before (get_or ds k e).date d.date ≡ true
 
 pub put-behind : {V : Type 0} (d : Dated V) (ds : List (Dated V)) → IsBehind d ds → put_in_time d ds ≡ ds ++ d ∷ []
 put-behind d [] h = refl
 put-behind d (e ∷ es) h =
     let before : is_before e.date d.date ≡ true = h zero d (omega arith) in
     rw (greater_from_before e.date d.date before, put-behind d es (λ k x p. h (suc k) x (omega arith))) refl
-
-in_order_pair : {V : Type 0} (e f : Dated V) (fs : List (Dated V)) → is_before e.date f.date ≡ true → is_in_order (f ∷ fs) ≡ true → is_in_order (e ∷ f ∷ fs) ≡ true
-in_order_pair e f fs h o = rw (h, o) refl
-
-pub in_order-behind : {V : Type 0} (d : Dated V) (ds : List (Dated V)) → is_in_order ds ≡ true → IsBehind d ds → is_in_order (ds ++ d ∷ []) ≡ true
-in_order-behind d [] o h = refl
-in_order-behind d (e ∷ []) o h = in_order_pair e d [] (h zero d (omega arith)) refl
-in_order-behind d (e ∷ f ∷ fs) o h =
-    let both : (is_before e.date f.date ≡ true) × (is_in_order (f ∷ fs) ≡ true) = both_of (is_before e.date f.date) (is_in_order (f ∷ fs)) o in
-    in_order_pair e f (fs ++ d ∷ []) both.0 (in_order-behind d (f ∷ fs) both.1 (λ k x p. h (suc k) x (omega arith)))

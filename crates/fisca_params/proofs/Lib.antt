@@ -9,6 +9,7 @@ pub mod PathTexts
 pub mod Refusals
 mod Standing
 pub mod Thresholds
+pub mod Texts
 pub mod Walks
 pub mod Worked
 pub mod WorkedTrees

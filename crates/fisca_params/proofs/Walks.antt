@@ -1,5 +1,6 @@
 -- What is left of a map's entries, or of a list's items, from a place on.
-use Rattle.std.proofs.Common.{◌≡◌, ℕ, suc, ◌+◌, ◌<◌, List, ◌∷◌, length, get_or, drop, drop-cons, add-one, sym, ◌∙◌, ap, ◌++◌, Option, option_map}
+use Rattle.std.proofs.Common.{◌≡◌, ℕ, suc, ◌+◌, ◌<◌, List, ◌∷◌, length, get_or, drop, drop-cons, add-one, sym, ◌∙◌, ap, ◌++◌, [], Option, Some, None, option_map, refl, append_assoc}
+use Rattle.fisca_params.specs.Content.{onto}
 use Rattle.fisca_yaml.specs.Node.{Node, entry}
 use Rattle.fisca_yaml.specs.declared.tree.Entry.{Entry, fold_out-Entry}
 use Rattle.fisca_yaml.specs.Views.{node, Seen_entry, Seen_item, seen_entry, tree_step, entry_step, item_step, entries_view}
@@ -19,3 +20,7 @@ entries-drop es i e p is =
 -- these, before what is left, where that is
 abbrev pub after : {X : Type 0} → List X → Option (List X) → Option (List X)
 after done o = option_map (λ rest. done ++ rest) o
+
+pub after-one : {X : Type 0} (done : List X) (x : X) (o : Option (List X)) → after done (onto (Some x) o) ≡ after (done ++ x ∷ []) o
+after-one done x None = refl
+after-one done x (Some rest) = ap Some (sym (append_assoc done (x ∷ []) rest))

@@ -1,5 +1,5 @@
 -- Values that hold from a date on.
-use Rattle.std.specs.Prelude.{◌≡◌, ◌<◌, ℕ, length, slice_index_or, ◌+◌, ◌*◌, ◌/◌, ◌%◌, Bool, true, ◌&&◌, List, [], ◌∷◌, Option, Some, None, option_and_then, if◌then◌else◌}
+use Rattle.std.specs.Prelude.{ℕ, ◌+◌, ◌*◌, ◌/◌, ◌%◌, Bool, true, ◌&&◌, List, [], ◌∷◌, Option, Some, None, option_and_then, if◌then◌else◌}
 use Rattle.std.specs.Ordering.{is_lt, match_ordering}
 use Rattle.fisca_time.specs.Instant.{CivilDate, date_cmp}
 
@@ -30,10 +30,6 @@ abbrev pub is_in_order : {V : Type 0} → List (Dated V) → Bool
 is_in_order [] = true
 is_in_order (d ∷ []) = true
 is_in_order (d ∷ e ∷ es) = is_before d.date e.date && is_in_order (e ∷ es)
-
--- each date of the list is before this one
-abbrev pub IsBehind : {V : Type 0} → Dated V → List (Dated V) → Type 0
-IsBehind {V} d ds = (k : ℕ) (e : Dated V) → k < length ds → is_before (slice_index_or ds k e).date d.date ≡ true
 
 -- at its place in time; at a date that is there already, in that one's place
 abbrev pub put_in_time : {V : Type 0} → Dated V → List (Dated V) → List (Dated V)

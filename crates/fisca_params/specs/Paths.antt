@@ -1,6 +1,7 @@
 -- Which files are parameter files, and the names in their paths.
 use Rattle.std.specs.Prelude.{ℕ, ◌==◌, nat_eq, ◌-◌, List, length, take, drop, Option, Some, None, option_map, option_and_then, if◌then◌else◌, codes}
 use Rattle.std.specs.List.{slice_split, starts_with, ends_with}
+use Rattle.fisca_yaml.specs.Characters.{slash}
 
 -- what stands before an ending
 abbrev pub without_ending : List ℕ → List ℕ → Option (List ℕ)
@@ -24,7 +25,7 @@ inner_path path = option_and_then without_yaml (after_start (codes "parameters/"
 
 -- the names in a path, which stand between slashes
 abbrev pub names_in : List ℕ → List (List ℕ)
-names_in path = slice_split (λ c. c == 47) path
+names_in path = slice_split (λ c. c == slash) path
 
 -- the folders below `parameters` that a parameter file stands in, and its own name
 abbrev pub names_of : List ℕ → Option (List (List ℕ))

@@ -1,7 +1,14 @@
--- How definitions see the entries of a map from dates to values.
-use Rattle.std.specs.Prelude.{Option}
-use Rattle.fisca_time.specs.Instant.{CivilDate}
-use Rattle.fisca_params.specs.Dates.{Dated}
+-- How definitions see what the code keeps of a date map.
+use Rattle.std.specs.Prelude.{ℕ, Option}
+use Rattle.fisca_yaml.specs.Views.{node}
+use Rattle.fisca_params.specs.Content.{Written}
+use Rattle.fisca_params.specs.Dates.{Dated, date_of_number}
+use Rattle.fisca_params.specs.declared.written.Written.{Written as Kept}
 
-abbrev pub dated_pair : {V : Type 0} → CivilDate × Option V → Dated V
-dated_pair p = record { date = p.0; value = p.1 }
+-- what stands at a date
+abbrev pub seen : Kept → Written
+seen w = record { date = w.date; value = node w.value.now }
+
+-- a value by the number of its date
+abbrev pub numbered_pair : {V : Type 0} → ℕ × Option V → Dated V
+numbered_pair p = record { date = date_of_number p.0; value = p.1 }

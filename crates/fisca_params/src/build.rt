@@ -2,7 +2,6 @@
 ghost use Rattle.std.specs.Prelude.{◌≡◌, ◌<◌, ◌≤◌, length, is_none, OnOk, IfOk, IfSome};
 ghost use Rattle.fisca_yaml.specs.Views.{node, entries_view};
 ghost use Rattle.fisca_params.specs.Answers.{Gives, Leaves};
-ghost use Rattle.fisca_params.specs.Nodes.{IsIndexed};
 ghost use Rattle.fisca_params.specs.Tree.{entered, put_node, put_children, put_file, put_below, enter, is_description, names_description, describes_folder, is_folder};
 ghost use Rattle.fisca_params.specs.Content.{first_line};
 ghost use Rattle.fisca_params.specs.FaultLines.{entry_or_node};
@@ -12,7 +11,7 @@ use crate::content::Content;
 use crate::fault::NodeFault;
 use crate::nodes::Nodes;
 use crate::parameter::{read_parameter, read_scale};
-use crate::written::{date_map, line_at, line_of};
+use crate::written::{date_map, line_of};
 use fisca_yaml::{Entry, Tree};
 use std::alloc::Global;
 
@@ -26,11 +25,9 @@ pub(crate) fn put_node(
     line: usize,
     tree: &Tree<'_>,
 ) -> Result<(), NodeFault>
-    requires parent { parent < length nodes.old.nodes.items }
-    requires indexed { IsIndexed nodes.old.nodes.items nodes.old.children.items }
-    ensures put { Leaves nodes.new.nodes.items result (put_node nodes.old.nodes.items parent name.now line (node tree.now)) }
-    ensures indexed { OnOk result (IsIndexed nodes.new.nodes.items nodes.new.children.items) }
-    ensures longer { OnOk result (length nodes.old.nodes.items ≤ length nodes.new.nodes.items) }
+    requires parent { parent < length nodes.old }
+    ensures put { Leaves nodes.new result (put_node nodes.old parent name.now line (node tree.now)) }
+    ensures longer { OnOk result (length nodes.old ≤ length nodes.new) }
 {
     if nodes.child(parent, name).is_some() {
         return Err(NodeFault::DuplicateName { line });
@@ -39,13 +36,13 @@ pub(crate) fn put_node(
         let line = line_of(tree, line);
         return Err(NodeFault::BadParameter { line });
     };
-    if let Some(values) = date_map(tree) {
-        let parameter = read_parameter(alloc, line_at(tree, "values", line), values)?;
+    if let Some((line, values)) = date_map(tree, line) {
+        let parameter = read_parameter(alloc, line, values)?;
         nodes.put(alloc, parent, name, parameter)?;
         return Ok(());
     }
-    if let Some(brackets) = tree.get("brackets") {
-        let scale = read_scale(alloc, line_at(tree, "brackets", line), tree, brackets)?;
+    if let Some(brackets) = tree.entry("brackets") {
+        let scale = read_scale(alloc, brackets.line, tree, &brackets.value)?;
         nodes.put(alloc, parent, name, scale)?;
         return Ok(());
     }
@@ -61,11 +58,9 @@ fn put_children(
     place: usize,
     entries: &[Entry<'_>],
 ) -> Result<(), NodeFault>
-    requires place { place < length nodes.old.nodes.items }
-    requires indexed { IsIndexed nodes.old.nodes.items nodes.old.children.items }
-    ensures put { Leaves nodes.new.nodes.items result (put_children nodes.old.nodes.items place (entries_view entries.now)) }
-    ensures indexed { OnOk result (IsIndexed nodes.new.nodes.items nodes.new.children.items) }
-    ensures longer { OnOk result (length nodes.old.nodes.items ≤ length nodes.new.nodes.items) }
+    requires place { place < length nodes.old }
+    ensures put { Leaves nodes.new result (put_children nodes.old place (entries_view entries.now)) }
+    ensures longer { OnOk result (length nodes.old ≤ length nodes.new) }
 {
     for entry in entries {
         let key = entry.key.as_str();
@@ -119,11 +114,9 @@ fn put_file(
     name: &str,
     tree: &Tree<'_>,
 ) -> Result<(), NodeFault>
-    requires folder { folder < length nodes.old.nodes.items }
-    requires indexed { IsIndexed nodes.old.nodes.items nodes.old.children.items }
-    ensures put { Leaves nodes.new.nodes.items result (put_file nodes.old.nodes.items folder name.now (node tree.now)) }
-    ensures indexed { OnOk result (IsIndexed nodes.new.nodes.items nodes.new.children.items) }
-    ensures longer { OnOk result (length nodes.old.nodes.items ≤ length nodes.new.nodes.items) }
+    requires folder { folder < length nodes.old }
+    ensures put { Leaves nodes.new result (put_file nodes.old folder name.now (node tree.now)) }
+    ensures longer { OnOk result (length nodes.old ≤ length nodes.new) }
 {
     if name == "index" {
         return match first_misplaced(tree) {
@@ -136,12 +129,10 @@ fn put_file(
 
 /// The place of the folder of this name below a folder, where it is put if it is not there yet.
 fn enter(nodes: &mut Nodes, alloc: Global, parent: usize, name: &str) -> Result<usize, NodeFault>
-    requires parent { parent < length nodes.old.nodes.items }
-    requires indexed { IsIndexed nodes.old.nodes.items nodes.old.children.items }
-    ensures entered { Gives (λ place. entered nodes.new.nodes.items place) result (enter nodes.old.nodes.items parent name.now) }
-    ensures within { IfOk result (λ place. place < length nodes.new.nodes.items) }
-    ensures indexed { OnOk result (IsIndexed nodes.new.nodes.items nodes.new.children.items) }
-    ensures longer { OnOk result (length nodes.old.nodes.items ≤ length nodes.new.nodes.items) }
+    requires parent { parent < length nodes.old }
+    ensures entered { Gives (λ place. entered nodes.new place) result (enter nodes.old parent name.now) }
+    ensures within { IfOk result (λ place. place < length nodes.new) }
+    ensures longer { OnOk result (length nodes.old ≤ length nodes.new) }
 {
     match nodes.child(parent, name) {
         None => Ok(nodes.put(alloc, parent, name, Content::Folder)?),
@@ -157,13 +148,9 @@ pub(crate) fn put_below(
     path: &str,
     tree: &Tree<'_>,
 ) -> Result<(), NodeFault>
-    requires root { 0 < length nodes.old.nodes.items }
-    requires indexed { IsIndexed nodes.old.nodes.items nodes.old.children.items }
-    ensures put { Leaves nodes.new.nodes.items result (put_below nodes.old.nodes.items 0 (names_in path.now) (node tree.now)) }
-    ensures indexed { OnOk result (IsIndexed nodes.new.nodes.items nodes.new.children.items) }
-    ensures longer { OnOk result (length nodes.old.nodes.items ≤ length nodes.new.nodes.items) }
+    ensures { Leaves nodes.new result (put_below nodes.old 0 (names_in path.now) (node tree.now)) }
 {
-    let mut folder = 0;
+    let mut folder = nodes.root();
     let mut rest = path;
     while let Some((name, below)) = rest.split_once('/') {
         folder = enter(nodes, alloc, folder, name)?;

@@ -1,16 +1,16 @@
 //! Values that hold from a date on.
-ghost use Rattle.std.specs.Prelude.{◌≡◌, ◌<◌, ◌^◌, [], None, IsTrue, IfOk, MatchOption, length, slice_get, map, option_and_then};
+ghost use Rattle.std.specs.Prelude.{◌≡◌, ◌<◌, [], None, IfOk, MatchOption, length, slice_get, map};
 ghost use Rattle.std.specs.Ordering.{is_le};
 ghost use Rattle.fisca_time.specs.Instant.{date_cmp};
-ghost use Rattle.fisca_yaml.specs.Views.{node, entries_view};
-ghost use Rattle.fisca_params.specs.Dates.{value_at, latest, is_before, put_in_time, IsBehind, day_number};
-ghost use Rattle.fisca_params.specs.Content.{read_value, written_value, written_values, dates_by};
-ghost use Rattle.fisca_params.specs.Written.{dated_pair};
+ghost use Rattle.fisca_yaml.specs.Views.{node};
+ghost use Rattle.fisca_params.specs.Dates.{value_at, latest, is_before, in_time, day_number};
+ghost use Rattle.fisca_params.specs.Content.{read_value, dates_by};
+ghost use Rattle.fisca_params.specs.Written.{numbered_pair, seen};
 
-use crate::written::written_value;
+use crate::written::Written;
 use fisca_num::Fraction;
 use fisca_time::Instant;
-use fisca_yaml::{Entry, Tree};
+use fisca_yaml::Tree;
 use std::alloc::{AllocError, Global};
 use std::collections::BTreeMap;
 use std::marker::Model;
@@ -18,19 +18,16 @@ use std::marker::Model;
 /// A value from a date on, or none from it on. The date is kept as its number, which is in order of time.
 #[derive(Debug, Drop)]
 pub(crate) struct Dated<V> {
-    day: u64,
+    day: u32,
     value: Option<V>,
 }
 
 impl<V> Model for Dated<V> {
-    ghost use Rattle.std.specs.Prelude.{◌<◌, ◌^◌};
     ghost use Rattle.fisca_params.specs.Dates.{Dated, date_of_number};
 
     ghost Value = { Dated V };
 
     ghost view = { λ d. record { date = date_of_number d.day; value = d.value } };
-
-    ghost invariant = { λ d. d.day < 2 ^ 32 };
 }
 
 impl<V> Dated<V> {
@@ -57,7 +54,7 @@ impl<V> Dated<V> {
     fn is_reached(&self, instant: Instant) -> bool
         ensures { result ≡ is_le (date_cmp self.now.date instant) }
     {
-        self.day.wrapping_sub(day_number(instant) + 1) >= 1 << 63
+        u64::from(self.day).wrapping_sub(u64::from(day_number(instant)) + 1) >= 1 << 63
     }
 }
 
@@ -111,16 +108,34 @@ impl<V: Copy> Dates<V> {
         Some(place)
     }
 
-    /// The values of a map, which keeps them in order of time.
-    fn from_map(
-        alloc: Global,
-        sorted: &BTreeMap<Instant, Option<V>>,
-    ) -> Result<Dates<V>, AllocError>
-        ensures { IfOk result (λ d. d ≡ map dated_pair sorted.now.entries) }
+    /// These values in order of time, in which they mostly are.
+    fn in_time(alloc: Global, items: Vec<Dated<V>>) -> Result<Dates<V>, AllocError>
+        ensures { IfOk result (λ d. d ≡ in_time items.items) }
     {
-        let mut items = Vec::new(alloc);
-        for (date, value) in sorted.iter() {
-            items.push(Dated::new(*date, *value))?;
+        if items.is_sorted_by(
+            |a: &Dated<V>, b: &Dated<V>| -> bool
+                ensures { result ≡ is_before a.now.date b.now.date }
+            { a.is_before(b) },
+        ) {
+            return Ok(Dates { items });
+        }
+        let mut sorted = BTreeMap::new(alloc);
+        for dated in items.iter() {
+            sorted.insert(dated.day, dated.value)?;
+        }
+        Dates::from_map(alloc, &sorted)
+    }
+
+    /// The values of a map, which keeps them in order of their numbers.
+    fn from_map(alloc: Global, sorted: &BTreeMap<u32, Option<V>>) -> Result<Dates<V>, AllocError>
+        ensures { IfOk result (λ d. d ≡ map numbered_pair sorted.now.entries) }
+    {
+        let mut items = Vec::with_capacity(alloc, sorted.len())?;
+        for (day, value) in sorted.iter() {
+            items.push(Dated {
+                day: *day,
+                value: *value,
+            })?;
         }
         Ok(Dates { items })
     }
@@ -137,46 +152,13 @@ impl<V> Dates<V> {
     }
 }
 
-impl<V: Copy> Dates<V> {
-    /// No values, with room for so many.
-    fn with_capacity(alloc: Global, count: usize) -> Result<Dates<V>, AllocError>
-        ensures { IfOk result (λ dates. dates ≡ []) }
-    {
-        let items = Vec::with_capacity(alloc, count)?;
-        Ok(Dates { items })
-    }
-
-    /// Whether a value's date is after all dates here.
-    fn is_behind(&self, dated: &Dated<V>) -> bool
-        ensures { IsTrue result → IsBehind dated.now self.now }
-    {
-        match self.items.last() {
-            Some(last) => last.is_before(dated),
-            None => true,
-        }
-    }
-
-    /// Puts a value behind the others, where its date is after theirs.
-    fn push(&mut self, date: Instant, value: Option<V>) -> Result<bool, AllocError>
-        ensures { IfOk result (λ done. IsTrue done → self.new ≡ put_in_time (record { date = date; value = value }) self.old) }
-    {
-        let dated = Dated::new(date, value);
-        if !self.is_behind(&dated) {
-            return Ok(false);
-        }
-        self.items.push(dated)?;
-        Ok(true)
-    }
-}
-
 /// A date as one number, in order of time.
-fn day_number(date: Instant) -> u64
+fn day_number(date: Instant) -> u32
     ensures number { result ≡ day_number date }
     ensures month { date.month < 256 }
     ensures day { date.day < 256 }
-    ensures bound { result < 2 ^ 32 }
 {
-    u64::from(date.year()) * 65_536 + (u64::from(date.month()) * 256 + u64::from(date.day()))
+    u32::from(date.year()) * 65_536 + (u32::from(date.month()) * 256 + u32::from(date.day()))
 }
 
 /// A kind of value that a parameter may have.
@@ -212,53 +194,28 @@ impl DatedValue for bool {
     }
 }
 
-/// The values of a date map in order of time, where each is null or of this kind. Dates are mostly written in order.
+/// The values of a date map in order of time, where each is null or of this kind.
 pub(crate) fn dates_in<V: DatedValue>(
     alloc: Global,
-    entries: &[Entry<'_>],
+    written: &[Written<'_, '_>],
 ) -> Result<Option<Dates<V>>, AllocError>
-    ensures { IfOk result (λ dates. dates ≡ option_and_then (dates_by V.reads) (written_values (entries_view entries.now))) }
+    ensures { IfOk result (λ dates. dates ≡ dates_by V.reads (map seen written.now)) }
 {
-    let mut dates = Dates::with_capacity(alloc, entries.len())?;
-    for entry in entries {
-        let Ok(date) = Instant::read(entry.key.as_str()) else {
+    let mut items = Vec::with_capacity(alloc, written.len())?;
+    for one in written {
+        let Some(value) = read_value::<V>(one.value) else {
             return Ok(None);
         };
-        let Some(value) = read_at::<V>(&entry.value) else {
-            return Ok(None);
-        };
-        if !dates.push(date, value)? {
-            return sorted_dates_in(alloc, entries);
-        }
+        items.push(Dated::new(one.date, value))?;
     }
-    Ok(Some(dates))
+    Ok(Some(Dates::in_time(alloc, items)?))
 }
 
-/// The same, whatever the order in which the dates are written.
-fn sorted_dates_in<V: DatedValue>(
-    alloc: Global,
-    entries: &[Entry<'_>],
-) -> Result<Option<Dates<V>>, AllocError>
-    ensures { IfOk result (λ dates. dates ≡ option_and_then (dates_by V.reads) (written_values (entries_view entries.now))) }
+/// What stands at a date: nothing for a null, else a value of this kind.
+fn read_value<V: DatedValue>(tree: &Tree<'_>) -> Option<Option<V>>
+    ensures { result ≡ read_value V.reads (node tree.now) }
 {
-    let mut sorted = BTreeMap::new(alloc);
-    for entry in entries {
-        let Ok(date) = Instant::read(entry.key.as_str()) else {
-            return Ok(None);
-        };
-        let Some(value) = read_at::<V>(&entry.value) else {
-            return Ok(None);
-        };
-        sorted.insert(date, value)?;
-    }
-    Ok(Some(Dates::from_map(alloc, &sorted)?))
-}
-
-/// What the value at a date says: nothing for a null, else a value of this kind.
-fn read_at<V: DatedValue>(tree: &Tree<'_>) -> Option<Option<V>>
-    ensures { result ≡ option_and_then (read_value V.reads) (written_value (node tree.now)) }
-{
-    match written_value(tree)? {
+    match tree {
         Tree::Null => Some(None),
         value => Some(Some(V::read(value)?)),
     }

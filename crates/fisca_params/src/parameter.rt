@@ -12,7 +12,7 @@ use crate::content::Content;
 use crate::dates::{Dates, dates_in};
 use crate::fault::NodeFault;
 use crate::scale::Scale;
-use crate::written::{date_map, first_undated, line_of};
+use crate::written::{date_map, line_of, read_written};
 use fisca_num::Fraction;
 use fisca_yaml::{Entry, Item, Tree};
 use std::alloc::Global;
@@ -29,13 +29,14 @@ pub(crate) fn read_parameter(
         let line = line_of(values, line);
         return Err(NodeFault::BadParameter { line });
     };
-    if let Some(line) = first_undated(entries) {
-        return Err(NodeFault::BadParameter { line });
-    }
-    if let Some(numbers) = dates_in::<Fraction>(alloc, entries)? {
+    let written = match read_written(alloc, entries)? {
+        Ok(written) => written,
+        Err(line) => return Err(NodeFault::BadParameter { line }),
+    };
+    if let Some(numbers) = dates_in::<Fraction>(alloc, &written)? {
         return Ok(Content::Numbers(numbers));
     }
-    match dates_in::<bool>(alloc, entries)? {
+    match dates_in::<bool>(alloc, &written)? {
         Some(bools) => Ok(Content::Bools(bools)),
         None => Ok(Content::Unusable),
     }
@@ -45,14 +46,15 @@ pub(crate) fn read_parameter(
 fn number_dates(alloc: Global, line: usize, tree: &Tree<'_>) -> Result<Dates<Fraction>, NodeFault>
     ensures { Finds (λ d. d) result (number_dates (node tree.now)) (field_line line (node tree.now)) }
 {
-    let Some(Tree::Map(entries)) = date_map(tree) else {
+    let Some((_, Tree::Map(entries))) = date_map(tree, line) else {
         let line = line_of(tree, line);
         return Err(NodeFault::BadParameter { line });
     };
-    if let Some(line) = first_undated(entries) {
-        return Err(NodeFault::BadParameter { line });
-    }
-    dates_in::<Fraction>(alloc, entries)?.ok_or(NodeFault::BadParameter { line })
+    let written = match read_written(alloc, entries)? {
+        Ok(written) => written,
+        Err(line) => return Err(NodeFault::BadParameter { line }),
+    };
+    dates_in::<Fraction>(alloc, &written)?.ok_or(NodeFault::BadParameter { line })
 }
 
 /// The values of this field of a bracket, none where it is not given.

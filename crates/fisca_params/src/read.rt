@@ -1,8 +1,7 @@
 //! Reading parameter files.
-ghost use Rattle.std.specs.Prelude.{◌≡◌, ◌≢◌, ◌<◌, ◌≤◌, Ok, Some, length, map, IfOk, IfErr, IfSome, OnOk};
+ghost use Rattle.std.specs.Prelude.{◌≡◌, ◌≢◌, ◌<◌, Ok, Some, length, map, IfOk, IfErr, IfSome, OnOk};
 ghost use Rattle.fisca_params.specs.Answers.{Refuses, file_of};
 ghost use Rattle.fisca_params.specs.Files.{tree_of, with_file, after_file, with_files, in_path_order};
-ghost use Rattle.fisca_params.specs.Nodes.{IsIndexed};
 
 use crate::build::put_below;
 use crate::nodes::Nodes;
@@ -55,11 +54,8 @@ fn put_sources(
     alloc: Global,
     sorted: &BTreeMap<(&str, usize), &SourceFile>,
 ) -> Result<(), ParamFault>
-    requires root { 0 < length nodes.old.nodes.items }
-    requires indexed { IsIndexed nodes.old.nodes.items nodes.old.children.items }
-    ensures put { OnOk result (with_files nodes.old.nodes.items (map (λ e. (e.0.1, e.1.now)) sorted.now.entries) ≡ Ok nodes.new.nodes.items) }
-    ensures refused { IfErr result (λ fault. Refuses fault (with_files nodes.old.nodes.items (map (λ e. (e.0.1, e.1.now)) sorted.now.entries))) }
-    ensures indexed { OnOk result (IsIndexed nodes.new.nodes.items nodes.new.children.items) }
+    ensures put { OnOk result (with_files nodes.old (map (λ e. (e.0.1, e.1.now)) sorted.now.entries) ≡ Ok nodes.new) }
+    ensures refused { IfErr result (λ fault. Refuses fault (with_files nodes.old (map (λ e. (e.0.1, e.1.now)) sorted.now.entries))) }
 {
     for (key, source) in sorted.iter() {
         put_source(nodes, alloc, key.1, source)?;
@@ -74,12 +70,8 @@ fn put_source(
     file: usize,
     source: &SourceFile,
 ) -> Result<(), ParamFault>
-    requires root { 0 < length nodes.old.nodes.items }
-    requires indexed { IsIndexed nodes.old.nodes.items nodes.old.children.items }
-    ensures put { OnOk result (with_file nodes.old.nodes.items source.now ≡ Ok nodes.new.nodes.items) }
-    ensures refused { IfErr result (λ fault. (next : _) → Refuses fault (after_file file (with_file nodes.old.nodes.items source.now) next)) }
-    ensures indexed { OnOk result (IsIndexed nodes.new.nodes.items nodes.new.children.items) }
-    ensures longer { OnOk result (length nodes.old.nodes.items ≤ length nodes.new.nodes.items) }
+    ensures put { OnOk result (with_file nodes.old source.now ≡ Ok nodes.new) }
+    ensures refused { IfErr result (λ fault. (next : _) → Refuses fault (after_file file (with_file nodes.old source.now) next)) }
 {
     let Some(path) = parameter_path(source.path()) else {
         return Ok(());

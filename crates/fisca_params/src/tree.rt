@@ -39,11 +39,7 @@ impl Model for ParamTree {
 
     ghost Value = { List TreeNode };
 
-    ghost use Rattle.fisca_params.specs.Nodes.{IsIndexed};
-
-    ghost view = { λ t. t.nodes.nodes.items };
-
-    ghost invariant = { λ t. IsIndexed t.nodes.nodes.items t.nodes.children.items };
+    ghost view = { λ t. t.nodes };
 }
 
 impl ParamTree {
@@ -52,14 +48,13 @@ impl ParamTree {
         ensures place { result ≡ 0 }
         ensures within { result < length self.now }
     {
-        let _nodes = &self.nodes;
-        NodeId { place: 0 }
+        let place = self.nodes.root();
+        NodeId { place }
     }
 
     /// The child of this name of a node, where it has one: of a folder a folder or a file without its ending, of a map
     /// in a file the entry of this key. Parameters and scales have none.
     pub fn child(&self, node: NodeId, name: &str) -> Option<NodeId>
-        requires { node < length self.now }
         ensures place { result ≡ child_of self.now node name.now }
         ensures within { IfSome result (λ child. child < length self.now) }
     {
@@ -67,12 +62,23 @@ impl ParamTree {
         Some(NodeId { place })
     }
 
-    /// What formulas may do with a node.
+    /// The same by the bytes of a name.
+    pub fn child_by(&self, node: NodeId, name: &[u8]) -> Option<NodeId>
+        ensures place { result ≡ child_of self.now node name.now }
+        ensures within { IfSome result (λ child. child < length self.now) }
+    {
+        let place = self.nodes.child_by(node.place, name)?;
+        Some(NodeId { place })
+    }
+
+    /// What formulas may do with a node. A place that the tree has not counts as a node.
     pub fn kind(&self, node: NodeId) -> NodeKind
-        requires { node < length self.now }
         ensures kind { result ≡ kind_of (content_at self.now node) }
         ensures scale { result ≡ NodeKind.Scale → IsSome (scale_in (content_at self.now node)) }
     {
+        if !self.nodes.has(node.place) {
+            return NodeKind::Node;
+        }
         match self.content(node) {
             Content::Folder | Content::Branch => NodeKind::Node,
             Content::Numbers(_) => NodeKind::Number,
@@ -86,11 +92,7 @@ impl ParamTree {
     pub fn count(&self) -> usize
         ensures { result ≡ count_by is_counted self.now }
     {
-        self.nodes
-            .nodes
-            .iter()
-            .filter(|node| node.is_counted())
-            .count()
+        self.nodes.count()
     }
 
     /// The value of a parameter at an instant: that of the latest date not after it. There is none before the first
@@ -131,6 +133,6 @@ impl ParamTree {
         requires { node < length self.now }
         ensures { Some result.now ≡ content_at self.now node }
     {
-        self.nodes.nodes[node.place].content()
+        self.nodes.content(node.place)
     }
 }

@@ -1,11 +1,32 @@
 //! Date maps as they are written.
-ghost use Rattle.std.specs.Prelude.{◌≡◌, None, IsOk, IsTrue, is_some, is_none, option_map};
+ghost use Rattle.std.specs.Prelude.{◌≡◌, Some, None, IfSome, IfOk, MatchResult, codes, map, option_map};
+ghost use Rattle.std.specs.Result.{result_err};
 ghost use Rattle.fisca_yaml.specs.Views.{node, entries_view};
-ghost use Rattle.fisca_params.specs.Content.{written_value, written_values, are_instants, is_date_map, date_map, first_line};
+ghost use Rattle.fisca_params.specs.Content.{written_value, written_values, written_if_both, date_of, are_instants, is_date_map, date_map, first_line};
 ghost use Rattle.fisca_params.specs.FaultLines.{line_of, line_at, is_dated};
+ghost use Rattle.fisca_params.specs.Written.{seen};
 
 use fisca_time::Instant;
 use fisca_yaml::{Entry, Tree};
+use std::alloc::{AllocError, Global};
+
+/// What stands at a date: the value or, of a map, its `value`.
+#[derive(Drop)]
+pub(crate) struct Written<'t, 'a> {
+    pub date: Instant,
+    pub value: &'t Tree<'a>,
+}
+
+impl<'t, 'a> Written<'t, 'a> {
+    /// What an entry of a date map says, where its key is an instant and it has a value.
+    fn read(entry: &'t Entry<'a>) -> Option<Written<'t, 'a>>
+        ensures { option_map seen result ≡ written_if_both (date_of entry.now.key) (written_value (node entry.now.value)) }
+    {
+        let date = Instant::read(entry.key.as_str()).ok()?;
+        let value = written_value(&entry.value)?;
+        Some(Written { date, value })
+    }
+}
 
 /// The value that stands at a date: of a map its `value`, which may be no map.
 pub(crate) fn written_value<'t, 'a>(tree: &'t Tree<'a>) -> Option<&'t Tree<'a>>
@@ -20,17 +41,25 @@ pub(crate) fn written_value<'t, 'a>(tree: &'t Tree<'a>) -> Option<&'t Tree<'a>>
     }
 }
 
-/// The line of the first entry of a date map that has no instant or no value.
-pub(crate) fn first_undated(entries: &[Entry<'_>]) -> Option<usize>
-    ensures none { is_none result ≡ is_some (written_values (entries_view entries.now)) }
-    ensures line { result ≡ first_line is_dated (entries_view entries.now) }
+/// What the entries of a date map say, or the line of the first that has no instant or no value.
+pub(crate) fn read_written<'t, 'a>(
+    alloc: Global,
+    entries: &'t [Entry<'a>],
+) -> Result<Result<Vec<Written<'t, 'a>>, usize>, AllocError>
+    ensures values { IfOk result (λ read. MatchResult read (λ v. written_values (entries_view entries.now) ≡ Some (map seen v.items)) (λ _. written_values (entries_view entries.now) ≡ None)) }
+    ensures line { IfOk result (λ read. first_line is_dated (entries_view entries.now) ≡ result_err read) }
 {
+    let mut values = Vec::with_capacity(alloc, entries.len())?;
     for entry in entries {
-        if Instant::read(entry.key.as_str()).is_err() || written_value(&entry.value).is_none() {
-            return Some(entry.line);
+        let Some(written) = Written::read(entry) else {
+            return Ok(Err(entry.line));
+        };
+        match values.push(written) {
+            Ok(()) => {}
+            Err(_) => return Err(AllocError),
         }
     }
-    None
+    Ok(Ok(values))
 }
 
 /// Whether a map has entries, and each key is an instant.
@@ -52,39 +81,30 @@ fn are_instants(entries: &[Entry<'_>]) -> bool
     true
 }
 
-/// The date map of a parameter: the `values` of a map or, where it has no `brackets` either, a map of instants alone.
-pub(crate) fn date_map<'t, 'a>(tree: &'t Tree<'a>) -> Option<&'t Tree<'a>>
-    ensures { option_map (λ t. node t.now) result ≡ date_map (node tree.now) }
+/// The date map of a parameter, and the line of its key: the `values` of a map or, where it has no `brackets` either, a map of
+/// instants alone, whose key stands on `line`.
+pub(crate) fn date_map<'t, 'a>(tree: &'t Tree<'a>, line: usize) -> Option<(usize, &'t Tree<'a>)>
+    ensures map { option_map (λ p. node p.1.now) result ≡ date_map (node tree.now) }
+    ensures line { IfSome result (λ p. p.0 ≡ line_at (codes "values") line (node tree.now)) }
 {
     let Tree::Map(entries) = tree else {
         return None;
     };
-    if let Some(values) = tree.get("values") {
-        return Some(values);
+    if let Some(values) = tree.entry("values") {
+        return Some((values.line, &values.value));
     }
     if tree.get("brackets").is_none() && is_date_map(entries) {
-        return Some(tree);
+        return Some((line, tree));
     }
     None
 }
 
-/// The line of a tree that does not fit: that of a scalar or of a list's first item, else that of its key.
+/// The line of a tree that does not fit: that on which it begins, and of a map or of nothing that of its key.
 pub(crate) fn line_of(tree: &Tree<'_>, line: usize) -> usize
     ensures { result ≡ line_of line (node tree.now) }
 {
     match tree {
-        Tree::Scalar { line, .. } => *line,
-        Tree::List(items) => items.first().map_or(line, |item| item.line),
-        _ => line,
-    }
-}
-
-/// The line of the entry of this name, where a tree has one, else `line`.
-pub(crate) fn line_at(tree: &Tree<'_>, name: &str, line: usize) -> usize
-    ensures { result ≡ line_at name.now line (node tree.now) }
-{
-    match tree.entry(name) {
-        Some(entry) => entry.line,
-        None => line,
+        Tree::Map(_) => line,
+        _ => tree.line().unwrap_or(line),
     }
 }

@@ -6,13 +6,14 @@ use Rattle.fisca_expressions.specs.declared.sign.Sign.{Sign}
 use Rattle.fisca_expressions.specs.declared.tree.Mode.{Mode}
 use Rattle.fisca_expressions.specs.declared.tree.Mode.TheVariants as mode
 use Rattle.fisca_tokens.specs.Texts.{joined}
+use Rattle.fisca_expressions.specs.Groups.{bare as ungrouped}
 use Rattle.fisca_expressions.specs.Signs.{signs}
 use Rattle.fisca_expressions.specs.Tree.{Tree, name, number as numeral, text, bracketed, attribute as member, applied, prefixed, binary, compare}
 use Rattle.fisca_syntax.specs.declared.heading.Base.{Base}
 use Rattle.fisca_syntax.specs.declared.heading.Base.TheVariants as base
 use Rattle.fisca_syntax.specs.declared.module.Member.{Member}
 use Rattle.fisca_syntax.specs.declared.shape.Shape.TheVariants as shape
-use Rattle.fisca_syntax.specs.Forms.{is_entity, is_list_of_names, declared}
+use Rattle.fisca_syntax.specs.Forms.{is_entity, builds_entity, is_list_of_names, lists_names, declared}
 use Rattle.fisca_syntax.specs.Headings.{alone, assignment, returned, labelled, class_heading, definition_heading}
 use Rattle.fisca_syntax.specs.Lines.{Line, number, told, on_line, lines, last_line}
 use Rattle.fisca_syntax.specs.Modules.{Assigned, Answer, local, result, Formula, Item, attribute, formula, Statement, entity, entities, choices, variable}
@@ -145,7 +146,7 @@ module _ (source : List ℕ) (end : ℕ) where
   entity-form a e = rw e refl
 
   -- a list is no call
-  no_entity : (e : Tree) → is_list_of_names e ≡ true → is_entity e ≡ false
+  no_entity : (e : Tree) → lists_names e ≡ true → builds_entity e ≡ false
   no_entity (name t) p = refl
   no_entity (numeral t) p = refl
   no_entity (text t) p = refl
@@ -158,7 +159,7 @@ module _ (source : List ℕ) (end : ℕ) where
 
   list-form : (a : Assigned) → bytes_eq a.name (codes "entities") ≡ true → is_list_of_names a.value ≡ true → declared a ≡ Some (entities a)
   unfolding declared
-  list-form a e f = rw (no_entity a.value f, e, f) refl
+  list-form a e f = rw (no_entity (ungrouped a.value) f, e, f) refl
 
   pub module-read : Complete (IsModuleLine source) (module_line source end)
   unfolding module_line

@@ -10,7 +10,7 @@ use Rattle.fisca_expressions.specs.declared.tree.Bracket.TheVariants as bracket
 use Rattle.fisca_expressions.specs.declared.tree.Suffix.TheVariants as suffix
 use Rattle.fisca_expressions.specs.Marks.{same_mark}
 use Rattle.fisca_expressions.specs.Reading.{reads, climb, operand, joined, compared}
-use Rattle.fisca_expressions.specs.Tree.{name, bracketed, attribute as member, applied, nothing, last, next, positional}
+use Rattle.fisca_expressions.specs.Tree.{Tree, name, bracketed, attribute as member, applied, nothing, last, next, positional}
 use Rattle.fisca_expressions.specs.Words.{is_keyword, is_atom, is_left_out}
 use Rattle.fisca_syntax.specs.declared.shape.Shape.TheVariants as shape
 use Rattle.fisca_syntax.specs.Forms.{is_entity, is_list_of_names, is_week_unit, declared, is_week_attribute}
@@ -85,6 +85,9 @@ helper = refl
 
 -- Values of a module's declarations.
 
+abbrev grouped : Tree → Tree
+grouped e = bracketed bracket.Round (last (positional e))
+
 call : is_entity (applied suffix.Call (name (codes "build_entity")) nothing) ≡ true
 call = refl
 
@@ -97,6 +100,21 @@ names_with_comma = refl
 
 tuple_of_names : is_list_of_names (bracketed bracket.Round (last (positional (name (codes "a"))))) ≡ false
 tuple_of_names = refl
+
+-- parentheses group alone, however many
+
+grouped_call : is_entity (applied suffix.Call (grouped (name (codes "build_entity"))) nothing) ≡ true
+grouped_call = refl
+
+grouped_entity : is_entity (grouped (grouped (applied suffix.Call (name (codes "build_entity")) nothing))) ≡ true
+grouped_entity = refl
+
+grouped_names : is_list_of_names (grouped (bracketed bracket.Square (last (positional (grouped (name (codes "a"))))))) ≡ true
+unfolding is_keyword
+grouped_names = refl
+
+grouped_week : is_week_unit (grouped (member (grouped (name (codes "DateUnit"))) (codes "WEEK"))) ≡ true
+grouped_week = refl
 
 weekday : is_week_unit (member (name (codes "DateUnit")) (codes "WEEKDAY")) ≡ true
 weekday = refl

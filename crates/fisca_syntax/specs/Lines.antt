@@ -39,9 +39,11 @@ number l = line_in l.tokens (length l.tokens)
 abbrev pub fault : ℕ → Kind → FormulaFault
 fault line k = record { line = line; kind = k }
 
--- An expression that is too high is told of the line on which its statement begins, any other fault of the token's line.
+-- An expression that is too high is told of the line on which its statement begins, want of memory of none, any other fault
+-- of the token's line.
 abbrev pub line_of : Kind → ℕ → ℕ → ℕ
 line_of kind.TooDeep first here = first
+line_of kind.Memory first here = 0
 line_of k first here = here
 
 abbrev pub fault_in : Line → Refusal → FormulaFault

@@ -7,13 +7,13 @@ ghost use Rattle.fisca_syntax.specs.Forms as spec;
 ghost use Rattle.fisca_syntax.specs.Views.{assigned, statement};
 
 use crate::module::{Assignment, Statement};
-use fisca_expressions::{Argument, Arguments, Bracket, Expr, Suffix, is_name};
+use fisca_expressions::{Argument, Arguments, Bracket, Expr, Suffix, bare, is_name};
 
 /// Whether this name and nothing else.
 fn is_the_name(word: &[u8], value: &Expr) -> bool
     ensures { result ≡ spec.is_the_name word.now (tree value.now) }
 {
-    match value {
+    match bare(value) {
         Expr::Name(name) => name.as_bytes() == word,
         Expr::Number(_)
         | Expr::Text(_)
@@ -30,7 +30,7 @@ fn is_the_name(word: &[u8], value: &Expr) -> bool
 fn is_entity(value: &Expr) -> bool
     ensures { result ≡ spec.is_entity (tree value.now) }
 {
-    match value {
+    match bare(value) {
         Expr::Applied(callee, Suffix::Call, _) => {
             is_the_name(b"build_entity".as_slice(), &**callee)
         }
@@ -43,8 +43,11 @@ fn is_any_name(argument: &Argument) -> bool
     ensures { result ≡ spec.is_any_name (argument_view argument.now) }
 {
     match argument {
-        Argument::Positional(Expr::Name(name)) => is_name(name.as_bytes()),
-        _ => false,
+        Argument::Positional(value) => match bare(value) {
+            Expr::Name(name) => is_name(name.as_bytes()),
+            _ => false,
+        },
+        Argument::Keyword(_, _) | Argument::Entry(_, _) => false,
     }
 }
 
@@ -66,7 +69,7 @@ fn are_names(arguments: &Arguments) -> bool
 fn is_list_of_names(value: &Expr) -> bool
     ensures { result ≡ spec.is_list_of_names (tree value.now) }
 {
-    match value {
+    match bare(value) {
         Expr::Bracketed(Bracket::Square, arguments) => are_names(arguments),
         _ => false,
     }
@@ -96,7 +99,7 @@ fn is_week(name: &[u8]) -> bool
 fn is_week_unit(value: &Expr) -> bool
     ensures { result ≡ spec.is_week_unit (tree value.now) }
 {
-    match value {
+    match bare(value) {
         Expr::Name(name) => is_week(name.as_bytes()),
         Expr::Attribute(left, name) => {
             is_the_name(b"DateUnit".as_slice(), &**left) && is_week(name.as_bytes())

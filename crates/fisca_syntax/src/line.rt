@@ -29,9 +29,9 @@ fn line_of(tokens: &[Token], left: usize) -> usize
     ensures { result ≡ line_in tokens.now left }
 {
     match tokens.get(tokens.len().saturating_sub(left)) {
-        Some(token) => token.line,
+        Some(token) => token.line as usize,
         None => match tokens.last() {
-            Some(token) => token.line,
+            Some(token) => token.line as usize,
             None => 1,
         },
     }
@@ -85,12 +85,14 @@ impl<'t> Line<'t> {
         }
     }
 
-    /// The fault of a refusal, at the line of its token; an expression that is too high is told on the first line.
+    /// The fault of a refusal, at the line of its token; an expression that is too high is told on the first line, and want of
+    /// memory has none.
     pub fn placed(&self, refusal: Refusal) -> FormulaFault
         ensures { result ≡ spec.fault_in self.now refusal }
     {
         let line = match refusal.kind {
             Kind::TooDeep => self.number(),
+            Kind::Memory => 0,
             _ => line_of(self.tokens, refusal.left),
         };
         FormulaFault {
@@ -109,7 +111,7 @@ fn within_len(tokens: &[Token]) -> usize
 }
 
 /// The first token, the line that it begins, and what stands behind that.
-fn cut(tokens: &[Token]) -> Option<(Option<usize>, &[Token], &[Token])>
+fn cut(tokens: &[Token]) -> Option<(Option<u32>, &[Token], &[Token])>
     ensures value { MatchOption result (tokens.now ≡ []) (λ p. spec.lines tokens.now ≡ spec.line_by p.0 p.1.now (spec.lines p.2.now)) }
     ensures shorter { IfSome result (λ p. length p.2.now < length tokens.now) }
 {
@@ -124,13 +126,16 @@ fn cut(tokens: &[Token]) -> Option<(Option<usize>, &[Token], &[Token])>
 /// Puts the line of these tokens at the end, if the first begins one.
 fn push<'t>(
     found: &mut Vec<Line<'t>>,
-    indent: Option<usize>,
+    indent: Option<u32>,
     tokens: &'t [Token],
 ) -> Result<(), AllocError>
     ensures { OnOk result (found.new.items ≡ found.old.items ++ spec.line_by indent tokens.now []) }
 {
     if let Some(indent) = indent {
-        found.push(Line { indent, tokens })?;
+        found.push(Line {
+            indent: indent as usize,
+            tokens,
+        })?;
     }
     Ok(())
 }

@@ -30,11 +30,9 @@ fn read_tokens<'a>(
 fn read_text<'a>(alloc: Global, text: &'a str) -> Result<Module<'a>, FormulaFault>
     ensures { Tells statements (spec.module_of text.now) result }
 {
-    let found = tokens(alloc, text)?;
-    let joined = join_texts(alloc, found.as_slice())?;
-    // They take as much memory as a dozen texts.
-    drop(found);
-    read_tokens(alloc, text, joined.as_slice())
+    let mut found = tokens(alloc, text)?;
+    join_texts(&mut found);
+    read_tokens(alloc, text, found.as_slice())
 }
 
 /// The module that a text is: import lines and texts that stand alone, which declare nothing; `NAME = build_entity(..)`;

@@ -106,7 +106,7 @@ const ENTITIES: &str =
     "\"\"\"The entities.\"\"\"\n\nfrom openfisca_core.entities import build_entity\n\nHousehold = build_entity(\n    key=\"household\",\n    roles=[\n        {\n            \"key\": \"parent\",\n            \"subroles\": [\"first_parent\", \"second_parent\"],\n        },\n    ],\n)\n\nPerson = build_entity(\n    key=\"person\",\n    is_person=True,\n)\n\nentities = [Household, Person]\n";
 
 /// Texts and what they declare.
-const MODULES: [(&str, &str); 22] = [
+const MODULES: [(&str, &str); 24] = [
     ("", ""),
     ("# nothing\n\n", ""),
     (
@@ -159,6 +159,8 @@ const MODULES: [(&str, &str); 22] = [
     ("class None(Enum):\n a = 'b'", "enum None@1 a@2='b'; "),
     ("X = build_entity()", "entity X@1; "),
     ("entities = build_entity(1)", "entity entities@1; "),
+    ("X = ((build_entity)())", "entity X@1; "),
+    ("entities = ([(a), b])", "list entities@1; "),
     ("class s(Variable):\n x = {'a': 1}\n", "variable s@1 x@2; "),
     (
         "class s(Variable):\n definition_period = weeks\n",
@@ -184,7 +186,7 @@ fn modules_declare_their_statements(rt: HostRuntime) -> Result<(), Fail> {
 }
 
 /// Texts of modules, and the kind and line of their first fault.
-const MODULE_FAULTS: [(&str, Kind, usize); 44] = [
+const MODULE_FAULTS: [(&str, Kind, usize); 45] = [
     // What is left out in a module.
     ("x = 1", Kind::Unsupported, 1),
     ("\nx.y = 3", Kind::Unsupported, 2),
@@ -202,6 +204,7 @@ const MODULE_FAULTS: [(&str, Kind, usize); 44] = [
     ("lambda x: x", Kind::Unsupported, 1),
     ("entities = [\"x\"]", Kind::Unsupported, 1),
     ("entities = (a, b)", Kind::Unsupported, 1),
+    ("entities = ([a],)", Kind::Unsupported, 1),
     ("other = [a]", Kind::Unsupported, 1),
     ("a = build_entity", Kind::Unsupported, 1),
     ("a = build_entity()()", Kind::Unsupported, 1),
@@ -449,4 +452,27 @@ fn expressions_up_to_height_120_are_read(rt: HostRuntime) -> Result<(), Fail> {
         })
     );
     Ok(())
+}
+
+/// A module in which all that a module has grows: tokens, open indentations, lines, statements, members, items, locals,
+/// arguments and operands.
+const GROWING: &str =
+    "E = build_entity(key='a' 'b', roles=[{'c': ['d', 'e', 'f', 'g', 'h', 'i']}])\nclass C(Enum):\n  a = 'b'\nclass s(Variable):\n  x = (1, 2)\n  def formula(a, b):\n    c = a(b, d=[e]).f[g] * -2 < 3\n    return c | (c & ~c) + 1 - 2\n";
+
+/// Run with `rt try --test --fail-alloc N`, for each N in turn, one growth is refused: the answer is that, and never another
+/// fault or half a module.
+#[test]
+fn a_refused_growth_is_the_fault(rt: HostRuntime) {
+    match read_module(rt.alloc(), GROWING) {
+        Ok(module) => assert_eq!(rt; module.statements.len(), 3),
+        Err(fault) => {
+            assert_eq!(rt;
+                fault,
+                FormulaFault {
+                    line: 0,
+                    kind: Kind::Memory
+                }
+            );
+        }
+    }
 }

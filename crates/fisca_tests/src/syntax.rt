@@ -7,8 +7,8 @@ use std::test::Fail;
 
 /// Whether a text is an expression of a formula.
 fn read(alloc: Global, source: &str) -> Result<(), FormulaFault> {
-    let pieces = tokens(alloc, source)?;
-    let found = join_texts(alloc, &pieces)?;
+    let mut found = tokens(alloc, source)?;
+    join_texts(&mut found);
     read_expression(alloc, source, &found, Mode::Formula, 120)?;
     Ok(())
 }

@@ -1,4 +1,5 @@
 mod Days
+mod Digits
 mod Forms
 mod Laws
 mod Numerals

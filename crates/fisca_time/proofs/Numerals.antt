@@ -27,7 +27,7 @@ digits_value_after-capped cap n cs =
       | inr h ↦ let e : min n cap ≡ cap = omega arith in rw e (omega (arith, digits_value_after-grows cap cs, digits_value_after-grows n cs))
     ]
 
-digit_value-digit : (c : ℕ) → is_ascii_digit c ≡ true → digit_value c ≡ c - 48
+pub digit_value-digit : (c : ℕ) → is_ascii_digit c ≡ true → digit_value c ≡ c - 48
 digit_value-digit c is = grind (arith, nat_tests)
 
 -- the bytes from place i on, its byte first

@@ -1,13 +1,13 @@
 -- Pieces of a text between separators.
-use Rattle.std.proofs.Common.{◌≡◌, ℕ, ◌<◌, List, [], ◌∷◌, length, arith, refl, Option, Some, None, MatchOption, true, false, Bool, ◌+◌, ◌∙◌, sym, ap, Bor, ◌&&◌, inl, inr}
+use Rattle.std.proofs.Common.{◌≡◌, ◌≢◌, take, drop, get_or, ℕ, ◌<◌, List, [], ◌∷◌, length, arith, refl, Option, None, true, false, Bool, ◌+◌, ◌∙◌, sym, ap, ◌&&◌, inl, inr}
 use Rattle.std.proofs.Math.Dec.{eqb, ltb}
 use Rattle.std.specs.Char.{is_ascii_digit}
-use Rattle.std.specs.List.{position_or_len, before_first, after_first, join_with_byte, count_by}
+use Rattle.std.specs.List.{position_or_len, join_with_byte, count_by}
 use Rattle.std.specs.Str.{all_ascii_digits}
-use Rattle.std.proofs.lemmas.Bool.{cases_Bool, and_parts, and_right, or_cases}
+use Rattle.std.proofs.lemmas.Bool.{eq-eqb, ne_eqb, cases_Bool, and_parts, and_right, or_cases}
 use Rattle.std.proofs.lemmas.Bool.Decides.{nat_tests}
 use Rattle.std.proofs.lemmas.List.Splits.{slice_split_none, slice_split_first, join_with_byte-slice_split, length-slice_split}
-use Rattle.std.proofs.lemmas.List.Sums.{fails_before_first}
+use Rattle.std.proofs.lemmas.List.Sums.{fails_before_first, position_or_len_is}
 use Rattle.fisca_time.specs.Instant.{date_of_pieces}
 use Rattle.fisca_time.specs.PeriodText.{start_of_pieces, form_of_pieces, is_short_numeral, is_size_text}
 use Rattle.fisca_time.specs.Pieces.{pieces, is_numeral}
@@ -16,12 +16,17 @@ use Rattle.fisca_time.specs.Pieces.{pieces, is_numeral}
 pieces-none : (separator : ℕ) (text : List ℕ) → position_or_len (λ b. eqb b separator) text ≡ length text → pieces separator text ≡ text ∷ []
 pieces-none separator text none = slice_split_none (λ b. eqb b separator) text (λ k d h. fails_before_first (λ b. eqb b separator) text k d (omega arith))
 
--- the first piece, and those of the rest
-pub pieces_by_split : (separator : ℕ) (text : List ℕ) (r : Option (Bor (List ℕ) × Bor (List ℕ)))
-    → MatchOption r (position_or_len (λ b. eqb b separator) text ≡ length text) (λ x. (position_or_len (λ b. eqb b separator) text < length text) × (x.0.now ≡ before_first (λ b. eqb b separator) text) × (x.1.now ≡ after_first (λ b. eqb b separator) text))
-    → MatchOption r (pieces separator text ≡ text ∷ []) (λ x. pieces separator text ≡ x.0.now ∷ pieces separator x.1.now)
-pieces_by_split separator text None h = pieces-none separator text h
-pieces_by_split separator text (Some x) h = rw (h.1, h.2) (slice_split_first (λ b. eqb b separator) text 0 h.0)
+-- the first piece, up to the first separator, and those of the rest
+pub pieces_at_first : (separator : ℕ) (text : List ℕ) (i : ℕ) → i < length text → get_or text i 0 ≡ separator → ((k : ℕ) → k < i → get_or text k 0 ≢ separator)
+    → pieces separator text ≡ take i text ∷ pieces separator (drop (i + 1) text)
+pieces_at_first separator text i inside here before =
+    let at : position_or_len (λ b. eqb b separator) text ≡ i =
+    position_or_len_is (λ b. eqb b separator) text i 0 (omega arith) (λ k h. ne_eqb (get_or text k 0) separator (before k h)) (λ _. eq-eqb (get_or text i 0) separator here) in
+    slice_split_first (λ b. eqb b separator) text 0 (rw at inside) ∙ rw at refl
+
+pub pieces_at_none : (separator : ℕ) (text : List ℕ) → ((k : ℕ) → k < length text → get_or text k 0 ≢ separator) → pieces separator text ≡ text ∷ []
+pieces_at_none separator text none =
+    pieces-none separator text (position_or_len_is (λ b. eqb b separator) text (length text) 0 (omega arith) (λ k h. ne_eqb (get_or text k 0) separator (none k h)) (λ h. absurd (omega arith)))
 
 other_byte : (separator c : ℕ) → is_ascii_digit separator ≡ false → is_ascii_digit c ≡ true → eqb c separator ≡ false
 other_byte separator c other digit = grind (arith, nat_tests)

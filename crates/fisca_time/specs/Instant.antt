@@ -4,7 +4,7 @@ use Rattle.std.specs.Ordering.{nat_cmp, on, then_cmp}
 use Rattle.std.specs.Str.Parse.{digits_value}
 use Rattle.std.specs.declared.cmp.Ordering.{Ordering}
 use Rattle.jiff_core.specs.Calendar.{days_in_month}
-use Rattle.fisca_time.specs.Pieces.{pieces, is_numeral}
+use Rattle.fisca_time.specs.Pieces.{pieces, dash, is_numeral}
 use Rattle.fisca_time.specs.declared.fault.TimeFault.{TimeFault}
 use Rattle.fisca_time.specs.declared.fault.TimeFault.TheVariants.{BadText, OutOfRange}
 
@@ -42,4 +42,4 @@ instant_if_real (Some date) = if is_on_calendar date then Ok date else Err OutOf
 
 -- what a text says as an instant
 abbrev pub instant_of_text : List ℕ → Result CivilDate TimeFault
-instant_of_text text = instant_if_real (date_of_pieces (pieces 45 text))
+instant_of_text text = instant_if_real (date_of_pieces (pieces dash text))

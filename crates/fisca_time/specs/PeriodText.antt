@@ -9,7 +9,7 @@ use Rattle.std.specs.Str.Parse.{digits_value}
 use Rattle.fisca_time.specs.Calendar.{year_of, month_of_year, month_number, day_number, date_of}
 use Rattle.fisca_time.specs.Instant.{CivilDate, is_between, is_on_calendar}
 use Rattle.fisca_time.specs.Period.{Span, eternity, months, days, months_from, days_from}
-use Rattle.fisca_time.specs.Pieces.{pieces, is_numeral}
+use Rattle.fisca_time.specs.Pieces.{pieces, dash, colon, is_numeral}
 use Rattle.fisca_time.specs.Unit.{is_day, is_month, is_year}
 use Rattle.fisca_time.specs.declared.fault.TimeFault.{TimeFault}
 use Rattle.fisca_time.specs.declared.fault.TimeFault.TheVariants.{BadText, OutOfRange}
@@ -43,7 +43,7 @@ start_of_pieces (year ∷ month ∷ day ∷ []) =
 start_of_pieces _ = None
 
 abbrev pub start_of_text : List ℕ → Option Form
-start_of_text text = start_of_pieces (pieces 45 text)
+start_of_text text = start_of_pieces (pieces dash text)
 
 -- the unit that stands before a start
 abbrev pub unit_named : List ℕ → Option Unit
@@ -101,7 +101,7 @@ period_if_written (Some form) = period_of_form form
 abbrev pub period_of_text : List ℕ → Result Span TimeFault
 period_of_text text =
     if is_word (codes "ETERNITY") text || is_word (codes "eternity") text then Ok eternity
-    else period_if_written (form_of_pieces (pieces 58 text))
+    else period_if_written (form_of_pieces (pieces colon text))
 
 -- ---- writing
 
@@ -162,4 +162,4 @@ has_two_digits _ = true
 -- no text with months and days in two digits that reads as the period is shorter
 abbrev pub IsShortest : Span → List ℕ → Type 0
 IsShortest p text =
-    (other : List ℕ) → period_of_text other ≡ Ok p → IsTrue (has_two_digits (pieces 45 (start_in (pieces 58 other)))) → length text ≤ length other
+    (other : List ℕ) → period_of_text other ≡ Ok p → IsTrue (has_two_digits (pieces dash (start_in (pieces colon other)))) → length text ≤ length other

@@ -1,3 +1,4 @@
+//! Why a text, or a move, gives no period or date.
 ghost use Rattle.std.specs.Prelude.{◌≡◌};
 ghost use Rattle.fisca_time.specs.Fault.{number_of};
 

@@ -1,13 +1,14 @@
+//! The forms in which periods are written.
 ghost use Rattle.std.specs.Prelude.{◌≡◌, ◌≢◌, ◌<◌, min, true, false, IfSome, MatchOption, option_map, if◌then◌else◌};
 ghost use Rattle.std.specs.Str.Parse.{digits_value};
-ghost use Rattle.fisca_time.specs.Pieces.{pieces};
+ghost use Rattle.fisca_time.specs.Pieces.{pieces, colon};
 ghost use Rattle.fisca_time.specs.PeriodText.{start_of_text, unit_named, form_in, form_of_pieces, with_limit, is_short_numeral, is_size_text};
 
 use crate::Unit;
 use crate::pieces::{TOO_LARGE, number_of, numeral, split};
 
 /// What a period text says, whether or not there is such a period.
-#[derive(Clone, Copy, Debug)]
+#[derive(Clone, Copy)]
 pub(crate) struct Form {
     pub unit: Unit,
     pub year: u32,
@@ -18,17 +19,17 @@ pub(crate) struct Form {
 
 /// What a text of a period other than eternity says, with a size of at most `TOO_LARGE`.
 pub(crate) fn written_period(text: &str) -> Option<Form>
-    ensures form { result ≡ option_map (with_limit TOO_LARGE) (form_of_pieces (pieces 58 text.now)) }
+    ensures form { result ≡ option_map (with_limit TOO_LARGE) (form_of_pieces (pieces colon text.now)) }
     ensures unit { IfSome result (λ form. form.unit ≢ Unit.Eternity) }
     ensures year { IfSome result (λ form. form.year < 10_000) }
     ensures month { IfSome result (λ form. form.month < 100) }
     ensures day { IfSome result (λ form. form.day < 100) }
 {
-    let Some((word, rest)) = split(text, ':') else {
+    let Some((word, rest)) = split(text, b':') else {
         return written_start(text);
     };
     let unit = named_unit(word)?;
-    let Some((start, size)) = split(rest, ':') else {
+    let Some((start, size)) = split(rest, b':') else {
         return under_unit(unit, written_start(rest)?);
     };
     let form = under_unit(unit, written_start(start)?)?;
@@ -45,7 +46,7 @@ fn written_start(text: &str) -> Option<Form>
     ensures day { IfSome result (λ form. form.day < 100) }
     ensures size { IfSome result (λ form. form.size ≡ 1) }
 {
-    let Some((year, rest)) = split(text, '-') else {
+    let Some((year, rest)) = split(text, b'-') else {
         let year = numeral(4, text)?;
         return Some(start_in(Unit::Year, year, 1, 1));
     };
@@ -53,7 +54,7 @@ fn written_start(text: &str) -> Option<Form>
     if let Some(month) = short_numeral(rest) {
         return Some(start_in(Unit::Month, year, month, 1));
     }
-    let (month, day) = split(rest, '-')?;
+    let (month, day) = split(rest, b'-')?;
     let month = short_numeral(month)?;
     let day = short_numeral(day)?;
     Some(start_in(Unit::Day, year, month, day))
@@ -76,7 +77,10 @@ fn short_numeral(text: &str) -> Option<u32>
     ensures value { result ≡ (if is_short_numeral text.now then Some (digits_value 10 text.now) else None) }
     ensures bound { IfSome result (λ n. n < 100) }
 {
-    numeral(1, text).or(numeral(2, text))
+    match text.len() {
+        1 => numeral(1, text),
+        _ => numeral(2, text),
+    }
 }
 
 /// The unit of a word before a start.

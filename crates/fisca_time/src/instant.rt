@@ -1,7 +1,8 @@
+//! Days of the calendar.
 ghost use Rattle.std.specs.Prelude.{◌≡◌, ◌<◌, ◌≤◌, pos, ◌≤ℤ◌, unsigned_abs, IsTrue, IfSome, option_map};
 ghost use Rattle.fisca_time.specs.Calendar.{first_of_month, day_in_month, month_number, day_number, date_of, first_day, end_day};
 ghost use Rattle.fisca_time.specs.Instant.{is_on_calendar, date_of_pieces, instant_if_real, instant_of_text};
-ghost use Rattle.fisca_time.specs.Pieces.{pieces};
+ghost use Rattle.fisca_time.specs.Pieces.{pieces, dash};
 
 use crate::TimeFault;
 use crate::pieces::{numeral, split};
@@ -195,10 +196,10 @@ impl Instant {
 
 /// The numbers of `YYYY`, `MM` and `DD` in a text of the form `YYYY-MM-DD`.
 fn written_date(text: &str) -> Option<(u32, u32, u32)>
-    ensures date { option_map (λ d. record { year = d.0; month = d.1; day = d.2 }) result ≡ date_of_pieces (pieces 45 text.now) }
+    ensures date { option_map (λ d. record { year = d.0; month = d.1; day = d.2 }) result ≡ date_of_pieces (pieces dash text.now) }
     ensures bound { IfSome result (λ d. (d.0 < 10_000) × (d.1 < 100) × (d.2 < 100)) }
 {
-    let (year, rest) = split(text, '-')?;
-    let (month, day) = split(rest, '-')?;
+    let (year, rest) = split(text, b'-')?;
+    let (month, day) = split(rest, b'-')?;
     Some((numeral(4, year)?, numeral(2, month)?, numeral(2, day)?))
 }

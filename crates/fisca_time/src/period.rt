@@ -1,6 +1,7 @@
-ghost use Rattle.std.specs.Prelude.{◌≡◌, ◌≢◌, ◌<◌, ◌≤◌, ◌+◌, ◌*◌, ◌||◌, ◌↔◌, [], length, slice_get, IfSome, IfOk, IfErr, IsTrue, string_bytes, if◌then◌else◌};
+//! Periods: what they cover, how they move, and into what they split.
+ghost use Rattle.std.specs.Prelude.{◌≡◌, ◌≢◌, ◌<◌, ◌≤◌, ◌+◌, ◌*◌, ◌||◌, ◌↔◌, [], length, slice_get, IfSome, IfOk, IfErr, IsTrue, string_bytes, if◌then◌else◌, pos, ◌-ℤ◌};
 ghost use Rattle.fisca_time.specs.Calendar.{first_day, end_day};
-ghost use Rattle.fisca_time.specs.Unit.{is_month, is_year};
+ghost use Rattle.fisca_time.specs.Unit.{is_month, is_year, months_in};
 ghost use Rattle.fisca_time.specs.Period.{eternity, is_period, is_eternal, is_of_months, unit_of, first_of, size_of, months_of, days_of, month_start, month_of, start_day, stop_day, start_of, months_from, days_from, days_from_month, months_moved, days_moved, moved_by, later_month, day_at, month_at, year_at, this_year_of, first_month_of, first_day_of, last_month_of, last_year_of, n_2_of, last_3_months_of, subs, Overlaps};
 ghost use Rattle.fisca_time.specs.Kept.{span_of, is_kept};
 ghost use Rattle.fisca_time.specs.PeriodText.{period_of_form, period_of_text, text_of, IsShortest};
@@ -220,11 +221,12 @@ impl Period {
     pub fn start(self) -> Option<Instant>
         ensures { result ≡ start_of self }
     {
-        let parts = self.parts();
-        match parts.unit {
-            Unit::Day => Some(Instant::of_day(parts.first)),
-            Unit::Month | Unit::Year => Some(Instant::first_of(parts.first)),
-            Unit::Eternity => None,
+        if self.is_of_months() {
+            Some(Instant::first_of(self.first()))
+        } else if self.key >> 48 == Unit::Day as u64 {
+            Some(Instant::of_day(self.first()))
+        } else {
+            None
         }
     }
 
@@ -253,10 +255,26 @@ impl Period {
         ensures value { result ≡ (if is_of_months self then Some (months_of self) else None) }
         ensures period { IsTrue (is_period self) }
     {
-        match self.unit() {
-            Unit::Month | Unit::Year => Some(self.month_count()),
-            Unit::Day | Unit::Eternity => None,
+        if self.is_of_months() {
+            Some(self.month_count())
+        } else {
+            None
         }
+    }
+
+    /// The number of the first month, and for days of the first day.
+    fn first(self) -> u32
+        ensures { result ≡ first_of self }
+    {
+        ((self.key >> 16) % (1 << 32)) as u32
+    }
+
+    /// Whether the size is counted in months or years.
+    fn is_of_months(self) -> bool
+        ensures { result ≡ is_of_months self }
+    {
+        let rank = self.key >> 48;
+        rank == 1 || rank == 2
     }
 
     fn month_count(self) -> u32
@@ -384,11 +402,12 @@ impl Period {
         ensures from { IfOk result (λ month. 12 ≤ month) }
         ensures to { IfOk result (λ month. month < 120_000) }
     {
-        let parts = self.parts();
-        match parts.unit {
-            Unit::Day => Ok(Instant::of_day(parts.first).month_number()),
-            Unit::Month | Unit::Year => Ok(parts.first),
-            Unit::Eternity => Err(TimeFault::OutOfRange),
+        if self.is_of_months() {
+            Ok(self.first())
+        } else if self.key >> 48 == Unit::Day as u64 {
+            Ok(Instant::of_day(self.first()).month_number())
+        } else {
+            Err(TimeFault::OutOfRange)
         }
     }
 
@@ -420,14 +439,14 @@ impl Period {
     pub fn last_month(self) -> Result<Period, TimeFault>
         ensures { result ≡ last_month_of self }
     {
-        self.first_month()?.offset(-1)
+        Period::back(Unit::Month, 1, self.start_month()?, 1)
     }
 
     /// The calendar year before that of the start. `OutOfRange` for eternity and before 0001-01.
     pub fn last_year(self) -> Result<Period, TimeFault>
         ensures { result ≡ last_year_of self }
     {
-        self.this_year()?.offset(-1)
+        Period::back(Unit::Year, 1, self.start_month()? / 12 * 12, 12)
     }
 
     /// The second calendar year before that of the start. `OutOfRange` for eternity and before
@@ -435,14 +454,14 @@ impl Period {
     pub fn n_2(self) -> Result<Period, TimeFault>
         ensures { result ≡ n_2_of self }
     {
-        self.this_year()?.offset(-2)
+        Period::back(Unit::Year, 1, self.start_month()? / 12 * 12, 24)
     }
 
     /// The three months before that of the start. `OutOfRange` for eternity and before 0001-01.
     pub fn last_3_months(self) -> Result<Period, TimeFault>
         ensures { result ≡ last_3_months_of self }
     {
-        Period::from_month(Unit::Month, 3, i128::from(self.start_month()?) - 3)
+        Period::back(Unit::Month, 3, self.start_month()?, 3)
     }
 
     /// The period with its start moved by `k` of its own unit, back for a negative `k`, and its
@@ -513,6 +532,22 @@ impl Period {
             }
             Unit::Eternity => Err(TimeFault::OutOfRange),
         }
+    }
+
+    /// The period of that unit and size that starts so many months before a month, and ends before it.
+    fn back(unit: Unit, size: u16, month: u32, months: u32) -> Result<Period, TimeFault>
+        requires counted { IsTrue (is_month unit || is_year unit) }
+        requires some { 1 ≤ size }
+        requires most { size ≤ 1200 }
+        requires before { months_in unit * size ≤ months }
+        requires near { months ≤ 24 }
+        requires month { month < 120_000 }
+        ensures { result ≡ months_from unit size (pos month -ℤ pos months) }
+    {
+        if month < FIRST_MONTH + months {
+            return Err(TimeFault::OutOfRange);
+        }
+        Ok(Period::of(unit, month - months, size))
     }
 
     /// The period of that unit and size from a month on.

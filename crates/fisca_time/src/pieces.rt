@@ -1,3 +1,4 @@
+//! The pieces of a text, and the numbers that they write.
 ghost use Rattle.std.specs.Prelude.{◌≡◌, ◌≤◌, ◌<◌, ◌^◌, min, true, false, [], ◌∷◌, MatchOption, IfSome, if◌then◌else◌};
 ghost use Rattle.std.specs.Str.{all_ascii_digits};
 ghost use Rattle.std.specs.Str.Parse.{digits_value};
@@ -37,10 +38,11 @@ pub(crate) fn numeral(count: usize, text: &str) -> Option<u32>
 
 /// What stands before the first `separator` of a text, and after it. Inlined, so that each search is for one known byte.
 #[inline(always)]
-pub(crate) fn split(text: &str, separator: char) -> Option<(&str, &str)>
+pub(crate) fn split(text: &str, separator: u8) -> Option<(&str, &str)>
     requires { separator < 128 }
     ensures { MatchOption result (pieces separator text.now ≡ text.now ∷ [])
         (λ parts. pieces separator text.now ≡ parts.0.now ∷ pieces separator parts.1.now) }
 {
-    text.split_once(separator)
+    let at = text.as_bytes().iter().position(|&byte| byte == separator)?;
+    Some((text.split_at(at).0, text.split_at(at + 1).1))
 }

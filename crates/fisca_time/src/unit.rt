@@ -1,3 +1,4 @@
+//! What a period is counted in.
 ghost use Rattle.std.specs.Prelude.{◌≡◌, ◌≤◌};
 ghost use Rattle.fisca_time.specs.Unit.{months_in, unit_ranked};
 

@@ -6,7 +6,7 @@ use Rattle.fisca_tokens.specs.declared.layout.Layout.{Layout}
 use Rattle.fisca_tokens.specs.Tokens.{Lexed, put, in_front, behind, after_piece, tokens_from}
 use Rattle.fisca_tokens.specs.Pieces.{front}
 
-pub put_more : (old new : List Token) (t : Token) → new ≡ old ++ t ∷ [] → (o : Lexed) → behind new o ≡ behind old (put (Some t) o)
+pub put_more : (old new : List Token) (t : Token) → new ≡ old ++ t ∷ [] → (o : Lexed) → behind new o ≡ behind old (in_front t o)
 put_more old new t e (Ok us) = ap (λ ts. Ok (ts ++ us)) e ∙ ap Ok (append_assoc old (t ∷ []) us)
 put_more old new t e (Err f) = refl
 

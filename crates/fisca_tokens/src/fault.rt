@@ -59,6 +59,28 @@ impl Kind {
     }
 }
 
+impl From<AllocError> for Kind {
+    ghost use Rattle.std.specs.Prelude.{◌≡◌};
+    ghost use Rattle.fisca_tokens.specs.declared.fault.Kind.TheVariants.{Memory};
+
+    ghost from_gives = { λ _ k. k ≡ Memory };
+
+    fn from(_error: AllocError) -> Kind {
+        Kind::Memory
+    }
+}
+
+impl<T: Drop> From<AllocFailed<T>> for Kind {
+    ghost use Rattle.std.specs.Prelude.{◌≡◌};
+    ghost use Rattle.fisca_tokens.specs.declared.fault.Kind.TheVariants.{Memory};
+
+    ghost from_gives = { λ _ k. k ≡ Memory };
+
+    fn from(_error: AllocFailed<T>) -> Kind {
+        Kind::Memory
+    }
+}
+
 /// A refusal, and the line where the first fault stands, counted from 1 (0 for want of memory).
 #[derive(Clone, Copy, Debug, PartialEq, Eq, Error)]
 #[error("{line}: {kind}")]

@@ -243,8 +243,8 @@ fn other(text: &[u8]) -> Result<Piece, Kind>
     }
 }
 
-/// The piece in front, or why none can be read.
-pub(crate) fn front(text: &[u8]) -> Result<Piece, Kind>
+/// The piece in front, a number, a word or something else, or why none can be read.
+fn written(text: &[u8]) -> Result<Piece, Kind>
     ensures value { result ≡ spec.front text.now }
     ensures within { IfOk result (λ p. p.length ≤ length text.now) }
     ensures lines { IfOk result (λ p. p.lines ≤ p.length) }
@@ -258,4 +258,19 @@ pub(crate) fn front(text: &[u8]) -> Result<Piece, Kind>
         return word(text, size);
     }
     other(text)
+}
+
+/// The piece in front, or why none can be read. Spaces and line ends are more than half of all pieces, so they are looked for
+/// first.
+pub(crate) fn front(text: &[u8]) -> Result<Piece, Kind>
+    ensures value { result ≡ spec.front text.now }
+    ensures within { IfOk result (λ p. p.length ≤ length text.now) }
+    ensures lines { IfOk result (λ p. p.lines ≤ p.length) }
+    ensures some { IfOk result (λ p. 0 < p.length) }
+{
+    match text {
+        [b' ', ..] => Ok(blanks(text)),
+        [b'\n', ..] => Ok(line_end(1)),
+        _ => written(text),
+    }
 }

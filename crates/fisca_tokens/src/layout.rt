@@ -1,16 +1,17 @@
-ghost use Rattle.std.specs.Prelude.{◌≡◌, ◌≢◌, ◌≤◌, ◌<◌, ◌+◌, ◌^◌, MatchResult, OnOk, Ok, Err};
+ghost use Rattle.std.specs.Prelude.{◌≡◌, ◌≢◌, ◌≤◌, ◌<◌, ◌+◌, ◌^◌, MatchResult, OnOk, Ok, Err, Some};
 ghost use Rattle.fisca_tokens.specs.Layout as spec;
+ghost use Rattle.fisca_tokens.specs.declared.token.Form.TheVariants as form;
 
 use crate::fault::{FormulaFault, Kind};
 use crate::levels::Levels;
-use crate::token::{Class, Form, Mark, Piece, Token};
+use crate::token::{Class, Mark, Piece, Token};
 use std::alloc::Global;
 
 /// What stands before the next piece on its line.
 #[derive(Clone, Copy, Debug, PartialEq, Eq)]
 pub(crate) enum Margin {
     /// So many spaces alone.
-    Spaces(usize),
+    Spaces(u32),
     /// Blanks alone, a tab among them.
     Tabs,
     /// A token, or the line begins within brackets.
@@ -21,7 +22,7 @@ pub(crate) enum Margin {
 #[derive(Drop)]
 pub(crate) struct Layout {
     /// The line, counted from 1.
-    pub line: usize,
+    pub line: u32,
     /// How many brackets are open.
     pub depth: usize,
     /// What stands before the next piece on its line.
@@ -94,7 +95,7 @@ impl Layout {
     }
 
     /// The indentation of a token here, where it begins a line.
-    fn begin(&mut self) -> Result<Option<usize>, FormulaFault>
+    fn begin(&mut self) -> Result<Option<u32>, FormulaFault>
         ensures value { MatchResult result (λ indent. spec.begun self.old.line self.old.margin self.old.levels ≡ Ok (indent, self.new.levels))
             (λ f. f.kind ≢ Kind.Memory → spec.begun self.old.line self.old.margin self.old.levels ≡ Err f) }
         ensures line { self.new.line ≡ self.old.line }
@@ -103,7 +104,7 @@ impl Layout {
         match self.margin {
             Margin::Tokens => Ok(None),
             Margin::Tabs => Err(FormulaFault {
-                line: self.line,
+                line: self.line as usize,
                 kind: Kind::Indent,
             }),
             Margin::Spaces(column) => {
@@ -111,52 +112,50 @@ impl Layout {
                     return Ok(Some(column));
                 }
                 Err(FormulaFault {
-                    line: self.line,
+                    line: self.line as usize,
                     kind: Kind::Indent,
                 })
             }
         }
     }
 
-    /// The token that a piece at this place is, if it is one. The reader stands behind it then.
-    pub fn take(&mut self, at: usize, piece: Piece) -> Result<Option<Token>, FormulaFault>
-        requires place { at + piece.length < 2 ^ 64 }
-        requires line { self.old.line + piece.lines < 2 ^ 64 }
+    /// The token that a piece of this class at this place is. The reader stands behind it then.
+    pub fn token(&mut self, at: usize, piece: Piece, class: Class) -> Result<Token, FormulaFault>
+        requires place { at + piece.length < 2 ^ 32 }
+        requires line { self.old.line + piece.lines < 2 ^ 32 }
         requires depth { self.old.depth < 2 ^ 63 }
-        ensures value { MatchResult result (λ token. spec.step at self.old piece ≡ Ok (token, self.new))
-            (λ f. f.kind ≢ Kind.Memory → spec.step at self.old piece ≡ Err f) }
+        ensures value { MatchResult result (λ token. spec.step_of at self.old piece (form.Token class) ≡ Ok (Some token, self.new))
+            (λ f. f.kind ≢ Kind.Memory → spec.step_of at self.old piece (form.Token class) ≡ Err f) }
         ensures line { OnOk result (self.new.line ≤ self.old.line + piece.lines) }
         ensures depth { OnOk result (self.new.depth ≤ self.old.depth + 1) }
     {
-        match piece.form {
-            Form::Token(class) => {
-                let indent = self.begin()?;
-                let token = Token {
-                    start: at,
-                    end: at + piece.length,
-                    line: self.line,
-                    class,
-                    indent,
-                };
-                self.line += piece.lines;
-                self.depth = depth_after(class, self.depth);
-                self.margin = Margin::Tokens;
-                Ok(Some(token))
-            }
-            Form::Spaces => {
-                self.margin = behind_blanks(self.margin, Margin::Spaces(piece.length));
-                Ok(None)
-            }
-            Form::Tabs => {
-                self.margin = behind_blanks(self.margin, Margin::Tabs);
-                Ok(None)
-            }
-            Form::Comment => Ok(None),
-            Form::LineEnd => {
-                self.line += piece.lines;
-                self.margin = line_start(self.depth);
-                Ok(None)
-            }
-        }
+        let indent = self.begin()?;
+        let token = Token {
+            start: at as u32,
+            end: (at + piece.length) as u32,
+            line: self.line,
+            class,
+            indent,
+        };
+        self.line += piece.lines as u32;
+        self.depth = depth_after(class, self.depth);
+        self.margin = Margin::Tokens;
+        Ok(token)
+    }
+
+    /// Goes past blanks.
+    pub fn pass_blanks(&mut self, blanks: Margin)
+        ensures { self.new ≡ record self.old { margin = spec.behind_blanks self.old.margin blanks } }
+    {
+        self.margin = behind_blanks(self.margin, blanks);
+    }
+
+    /// Goes past the end of a line, which has so many line feeds.
+    pub fn end_line(&mut self, feeds: usize)
+        requires { self.old.line + feeds < 2 ^ 32 }
+        ensures { self.new ≡ record self.old { line = self.old.line + feeds; margin = spec.line_start self.old.depth } }
+    {
+        self.line += feeds as u32;
+        self.margin = line_start(self.depth);
     }
 }

@@ -7,7 +7,7 @@ use std::marker::Model;
 /// The open indentations. They are seen as the list of them, the deepest first; the left edge is always open.
 #[derive(Drop)]
 pub(crate) struct Levels {
-    columns: Vec<usize>,
+    columns: Vec<u32>,
 }
 
 impl Model for Levels {
@@ -31,7 +31,7 @@ impl Levels {
     }
 
     /// The deepest of them.
-    fn deepest(&self) -> usize
+    fn deepest(&self) -> u32
         ensures { result ≡ spec.deepest self.now }
     {
         match self.columns.last() {
@@ -41,7 +41,7 @@ impl Levels {
     }
 
     /// Closes those that are deeper than this column.
-    fn close(&mut self, column: usize)
+    fn close(&mut self, column: u32)
         ensures { self.new ≡ spec.within column self.old }
     {
         while self.deepest() > column {
@@ -50,7 +50,7 @@ impl Levels {
     }
 
     /// Goes to a line at this column, and tells whether that is an open one.
-    pub fn go_to(&mut self, column: usize) -> Result<bool, AllocError>
+    pub fn go_to(&mut self, column: u32) -> Result<bool, AllocError>
         ensures { IfOk result (λ is_open. spec.opened is_open self.new ≡ spec.go_to column self.old) }
     {
         if column > self.deepest() {

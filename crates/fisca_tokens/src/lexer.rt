@@ -1,25 +1,52 @@
-ghost use Rattle.std.specs.Prelude.{◌≡◌, ◌≤◌, ◌<◌, ◌^◌, length, OnOk, IfErr};
-ghost use Rattle.fisca_tokens.specs.Layout.{start};
+ghost use Rattle.std.specs.Prelude.{◌≡◌, ◌≢◌, ◌≤◌, ◌<◌, ◌+◌, ◌^◌, length, MatchResult, OnOk, IfErr, Err};
+ghost use Rattle.fisca_tokens.specs.Layout.{start, step};
+ghost use Rattle.fisca_tokens.specs.declared.layout.Layout.{Layout as State};
 ghost use Rattle.fisca_tokens.specs.Tokens as spec;
 ghost use Rattle.fisca_tokens.specs.Tokens.{Lexes, Lexed};
 
 use crate::fault::{FormulaFault, Kind};
 use crate::front::front;
-use crate::layout::Layout;
-use crate::token::Token;
+use crate::layout::{Layout, Margin};
+use crate::token::{Form, Piece, Token};
 use std::alloc::Global;
 
 /// The most bytes of a text.
 const LONGEST: usize = 1 << 20;
 
-/// Puts a token at the end, if there is one.
+/// Puts a token at the end.
 #[tactic(auto, using(crate::proofs::Steps::put_more))]
-fn keep(found: &mut Vec<Token>, token: Option<Token>) -> Result<(), FormulaFault>
-    ensures value { OnOk result ((o : Lexed) → spec.behind found.new.items o ≡ spec.behind found.old.items (spec.put token o)) }
+fn keep(found: &mut Vec<Token>, token: Token) -> Result<(), FormulaFault>
+    ensures value { OnOk result ((o : Lexed) → spec.behind found.new.items o ≡ spec.behind found.old.items (spec.in_front token o)) }
     ensures err { IfErr result (λ f. f.kind ≡ Kind.Memory) }
 {
-    if let Some(token) = token {
-        found.push(token)?;
+    found.push(token)?;
+    Ok(())
+}
+
+/// Goes past a piece at this place, and puts it at the end if it is a token.
+fn take(
+    found: &mut Vec<Token>,
+    layout: &mut Layout,
+    at: usize,
+    piece: Piece,
+) -> Result<(), FormulaFault>
+    requires place { at + piece.length < 2 ^ 32 }
+    requires line { layout.old.line + piece.lines < 2 ^ 32 }
+    requires depth { layout.old.depth < 2 ^ 63 }
+    ensures value { MatchResult result (λ _. (others : State → Lexed) → spec.behind found.new.items (others layout.new) ≡ spec.behind found.old.items (spec.after_step others (step at layout.old piece)))
+        (λ f. f.kind ≢ Kind.Memory → step at layout.old piece ≡ Err f) }
+    ensures line { OnOk result (layout.new.line ≤ layout.old.line + piece.lines) }
+    ensures depth { OnOk result (layout.new.depth ≤ layout.old.depth + 1) }
+{
+    match piece.form {
+        Form::Token(class) => {
+            let token = layout.token(at, piece, class)?;
+            keep(found, token)?;
+        }
+        Form::Spaces => layout.pass_blanks(Margin::Spaces(piece.length as u32)),
+        Form::Tabs => layout.pass_blanks(Margin::Tabs),
+        Form::Comment => {}
+        Form::LineEnd => layout.end_line(piece.lines),
     }
     Ok(())
 }
@@ -46,9 +73,9 @@ pub fn tokens(alloc: Global, text: &str) -> Result<Vec<Token>, FormulaFault>
     read(alloc, bytes)
 }
 
-/// The tokens of a text of any length that has a place for each byte.
+/// The tokens of a text whose places fit into 32 bits.
 fn read(alloc: Global, bytes: &[u8]) -> Result<Vec<Token>, FormulaFault>
-    requires { length bytes.now < 2 ^ 62 }
+    requires { length bytes.now < 2 ^ 31 }
     ensures { Lexes result (spec.tokens_from (length bytes.now) 0 start bytes.now) }
 {
     let mut found = Vec::new(alloc);
@@ -59,13 +86,12 @@ fn read(alloc: Global, bytes: &[u8]) -> Result<Vec<Token>, FormulaFault>
             Ok(piece) => piece,
             Err(kind) => {
                 return Err(FormulaFault {
-                    line: layout.line,
+                    line: layout.line as usize,
                     kind,
                 });
             }
         };
-        let token = layout.take(at, piece)?;
-        keep(&mut found, token)?;
+        take(&mut found, &mut layout, at, piece)?;
         at += piece.length;
     }
     Ok(found)

@@ -15,5 +15,6 @@ mod token;
 
 pub use fault::{FormulaFault, Kind};
 pub use lexer::tokens;
+pub use strings::string_len;
 pub use texts::join_texts;
 pub use token::{Class, Mark, Token};

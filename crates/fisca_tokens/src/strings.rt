@@ -94,7 +94,7 @@ fn tripled_len(text: &[u8], quote: u8) -> Option<usize>
 }
 
 /// The length of the text in quotes in front, where it is closed.
-pub(crate) fn string_len(text: &[u8]) -> Option<usize>
+pub fn string_len(text: &[u8]) -> Option<usize>
     ensures value { result ≡ spec.string_len text.now }
     ensures within { IfSome result (λ n. n ≤ length text.now) }
     ensures some { IfSome result (λ n. 0 < n) }

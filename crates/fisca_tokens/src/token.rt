@@ -68,19 +68,20 @@ pub enum Class {
     Mark(Mark),
 }
 
-/// A token of a text: its slice is what stands there from `start` up to `end`.
+/// A token of a text: its slice is what stands there from `start` up to `end`. No text is longer than 1 MiB, so places and
+/// lines are kept in 32 bits each: a token takes 24 bytes.
 #[derive(Clone, Copy, Debug, PartialEq, Eq)]
 pub struct Token {
     /// The place of its first byte.
-    pub start: usize,
+    pub start: u32,
     /// The place behind its last byte.
-    pub end: usize,
+    pub end: u32,
     /// The line of its first byte, counted from 1.
-    pub line: usize,
+    pub line: u32,
     /// What it is.
     pub class: Class,
     /// How many spaces stand before it, where it is the first on its line outside brackets.
-    pub indent: Option<usize>,
+    pub indent: Option<u32>,
 }
 
 /// What stands in front of a text.

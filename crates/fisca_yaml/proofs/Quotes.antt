@@ -2,7 +2,8 @@
 use Rattle.std.proofs.Common.{◌≡◌, ◌≢◌, ℕ, ◌+◌, ◌<◌, true, false, List, [], ◌∷◌, ◌++◌, length, get_or, take, drop, Some, refl, sym, ap, ◌∙◌, arith}
 use Rattle.std.proofs.lemmas.List.{at_drop_more, take_more}
 use Rattle.std.proofs.lemmas.Bool.Decides.{nat_tests}
-use Rattle.fisca_yaml.specs.Scalars.{prepend, single, double, none, begun}
+use Rattle.fisca_yaml.specs.Scalars.{prepend, single, is_doubled, double, none, begun}
+use Rattle.fisca_yaml.specs.Rows.{begins}
 use Rattle.fisca_yaml.proofs.Steps.{prepend_twice}
 
 other : (b : ℕ) (bs : List ℕ) → b ≢ 39 → single false (b ∷ bs) ≡ prepend (b ∷ []) (single false bs)
@@ -15,6 +16,18 @@ pub quote_more : (bs : List ℕ) (i : ℕ) → i < length bs → get_or bs i 0 �
 quote_more bs i h e =
     at_drop_more (λ t. prepend (take i bs) (single false t)) bs i 0 h ∙ ap (prepend (take i bs)) (other (get_or bs i 0) (drop (i + 1) bs) e)
     ∙ prepend_twice (take i bs) (get_or bs i 0 ∷ []) (single false (drop (i + 1) bs)) ∙ ap (λ t. prepend t (single false (drop (i + 1) bs))) (sym (take_more bs i 0 h))
+
+no_quote : (b : ℕ) (bs : List ℕ) → b ≢ 39 → is_doubled (b ∷ bs) ≡ is_doubled bs
+no_quote b bs h = grind (arith, nat_tests)
+
+a_quote : (b : ℕ) (bs : List ℕ) → b ≡ 39 → is_doubled (b ∷ bs) ≡ begins 39 bs
+a_quote b bs h = rw h refl
+
+pub doubled_more : (bs : List ℕ) (i : ℕ) → i < length bs → get_or bs i 0 ≢ 39 → is_doubled (drop i bs) ≡ is_doubled (drop (i + 1) bs)
+doubled_more bs i h e = at_drop_more is_doubled bs i 0 h ∙ no_quote (get_or bs i 0) (drop (i + 1) bs) e
+
+pub doubled_found : (bs : List ℕ) (i : ℕ) → i < length bs → get_or bs i 0 ≡ 39 → is_doubled (drop i bs) ≡ begins 39 (drop (i + 1) bs)
+doubled_found bs i h e = at_drop_more is_doubled bs i 0 h ∙ a_quote (get_or bs i 0) (drop (i + 1) bs) e
 
 ordinary : (b : ℕ) (bs : List ℕ) → b ≢ 34 → b ≢ 92 → double none (b ∷ bs) ≡ prepend (b ∷ []) (double none bs)
 ordinary b bs h k = grind (arith, nat_tests)

@@ -4,7 +4,7 @@ use Rattle.std.specs.Str.{bytes_eq}
 use Rattle.fisca_num.specs.declared.faults.NumFault.{NumFault}
 use Rattle.fisca_num.specs.Literal.{number_of_literal}
 use Rattle.fisca_num.specs.Number.{Number}
-use Rattle.fisca_yaml.specs.Node.{Node, null, scalar, list, map, Entries, no_entries, entry}
+use Rattle.fisca_yaml.specs.Node.{Node, null, scalar, list, map, no_items, item, Entries, no_entries, entry}
 
 -- the value at a key
 abbrev pub get_entry : List ℕ → Entries → Option Node
@@ -28,6 +28,15 @@ line_at name given null = given
 line_at name given (scalar t q line) = given
 line_at name given (list is) = given
 line_at name given (map es) = entry_line name given es
+
+-- the line on which a node begins: a list with its first item, a map with its first key
+abbrev pub begins_on : Node → Option ℕ
+begins_on null = None
+begins_on (scalar t q line) = Some line
+begins_on (list no_items) = None
+begins_on (list (item line n is)) = Some line
+begins_on (map no_entries) = None
+begins_on (map (entry key line n es)) = Some line
 
 -- the text of any scalar
 abbrev pub as_text : Node → Option (List ℕ)

@@ -22,6 +22,11 @@ single pending (b ∷ bs) =
     if pending then (if b == single_quote then prepend (single_quote ∷ []) (single false bs) else Some ([], b ∷ bs))
     else (if b == single_quote then single true bs else prepend (b ∷ []) (single false bs))
 
+-- the first single quote of a text has another behind it
+abbrev pub is_doubled : List ℕ → Bool
+is_doubled [] = false
+is_doubled (b ∷ bs) = if b == single_quote then begins single_quote bs else is_doubled bs
+
 -- where a text in double quotes is: between escapes, behind a backslash, or in an escape by number, with so many hex digits to come after the next one
 pub data Escape : Type 0 where
   none : Escape

@@ -1,8 +1,10 @@
 //! Texts in quotes.
 
-ghost use Rattle.std.specs.Prelude.{◌≡◌, ◌≢◌, ◌<◌, ◌≤◌, ◌+◌, ◌⊎◌, ℕ, [], Some, None, length, take, drop, slice_index, MatchOption, IfOk, IfSome, IfNone, OnOk, option_map, string_bytes, false, true, encode_utf8};
+ghost use Rattle.std.specs.Prelude.{◌≡◌, ◌≢◌, ◌<◌, ◌≤◌, ◌+◌, ◌⊎◌, ℕ, [], Some, None, length, take, drop, slice_index, MatchOption, IfOk, IfSome, IfNone, OnOk, OnErr, option_map, string_bytes, false, true, encode_utf8};
 ghost use Rattle.std.specs.Char.{is_digit, digit_value};
-ghost use Rattle.fisca_yaml.specs.Scalars.{single, double, none, begun, digits, quoted, prepend, short_escape};
+ghost use Rattle.fisca_yaml.specs.Scalars.{single, is_doubled, double, none, begun, digits, quoted, prepend, short_escape};
+ghost use Rattle.fisca_yaml.specs.Characters.{single_quote};
+ghost use Rattle.fisca_yaml.specs.Rows.{begins};
 
 use crate::marks::{around, begins};
 use crate::tree::Text;
@@ -24,9 +26,10 @@ pub(crate) fn read_quoted(alloc: Global, text: &str) -> Result<Option<(Text<'_>,
 }
 
 /// Where the first single quote stands.
-#[tactic(auto, using(crate::proofs::Quotes::quote_more))]
+#[tactic(auto, using(crate::proofs::Quotes::quote_more, crate::proofs::Quotes::doubled_more, crate::proofs::Quotes::doubled_found))]
 fn quote(bytes: &[u8]) -> Option<usize>
-    ensures { MatchOption result (single false bytes.now ≡ None)
+    ensures doubled { IfSome result (λ n. is_doubled bytes.now ≡ begins single_quote (drop (n + 1) bytes.now)) }
+    ensures found { MatchOption result (single false bytes.now ≡ None)
         (λ n. (n < length bytes.now) × (slice_index bytes.now n ≡ 39) × (single false bytes.now ≡ prepend (take n bytes.now) (single true (drop (n + 1) bytes.now)))) }
 {
     let mut n = 0;
@@ -43,6 +46,8 @@ fn quote(bytes: &[u8]) -> Option<usize>
 fn read_single(alloc: Global, text: &str) -> Result<Option<(Text<'_>, &str)>, AllocError>
     ensures value { IfOk result (λ found. option_map (λ p. (p.0, p.1.now)) found ≡ single false text.now) }
     ensures shorter { IfOk result (λ found. IfSome found (λ p. length p.1.now ≤ length text.now)) }
+    // Any other text takes no memory.
+    ensures copied { OnErr result (is_doubled text.now ≡ true) }
 {
     let Some(at) = quote(text.as_bytes()) else {
         return Ok(None);

@@ -4,7 +4,7 @@ ghost use Rattle.std.specs.Prelude.{◌≡◌, ℕ, string_bytes, option_map, un
 ghost use Rattle.fisca_yaml.specs.Node.{scalar};
 ghost use Rattle.fisca_yaml.specs.Scalars.{leaf};
 ghost use Rattle.fisca_yaml.specs.Views.{node, entries_view, AddsItem, AddsEntry};
-ghost use Rattle.fisca_yaml.specs.Find.{get, get_entry, entry_line, line_at, as_text, as_plain, as_bool, as_number, bool_of};
+ghost use Rattle.fisca_yaml.specs.Find.{get, get_entry, begins_on, entry_line, line_at, as_text, as_plain, as_bool, as_number, bool_of};
 
 use crate::fault::{Kind, YamlFault};
 use crate::plain::is_null_word;
@@ -166,6 +166,19 @@ impl<'a> Tree<'a> {
     {
         let entry = self.entry(name)?;
         Some(&entry.value)
+    }
+
+    /// The line on which it begins: a list begins with its first item, a map with its first key. There is none of nothing, and
+    /// of a list or a map without any.
+    pub fn line(&self) -> Option<usize>
+        ensures { result ≡ begins_on (node self.now) }
+    {
+        match self {
+            Tree::Null => None,
+            Tree::Scalar { line, .. } => Some(*line),
+            Tree::List(items) => items.first().map(|item| item.line),
+            Tree::Map(entries) => entries.first().map(|entry| entry.line),
+        }
     }
 
     /// The text of a scalar, in quotes or not.

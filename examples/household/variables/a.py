@@ -1,7 +1,10 @@
 """The variables of the example."""
 
+from numpy import where
+
+from openfisca_core.holders import set_input_dispatch_by_period, set_input_divide_by_period
 from openfisca_core.indexed_enums import Enum
-from openfisca_core.periods import DateUnit
+from openfisca_core.periods import MONTH, YEAR, DateUnit
 from openfisca_core.populations import ADD, DIVIDE
 from openfisca_core.variables import Variable
 

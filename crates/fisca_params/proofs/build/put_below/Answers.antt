@@ -10,13 +10,13 @@ use Rattle.fisca_params.proofs.PathTexts.{names_cut, put-cut}
 use Rattle.fisca_params.proofs.Thresholds.{none_if_not}
 use Rattle.fisca_params.proofs.build.put_below.Goals as goal
 
-pub returns-in_err-folder-clause-put : goal.returns-in_err-folder-clause-put
-returns-in_err-folder-clause-put c =
+pub returns-in_err-folder : goal.returns-in_err-folder
+returns-in_err-folder c =
     let n = node c.args.tree.now in
     let cut = rw c.in-Some.is at (names_cut c.loop-name.rest.now c.split_once.result (split_once_first 47 c.loop-name.rest.now c.split_once.result c.split_once.ensures.cases (lit< tt))) in
     let whole = c.loop-name.invariant.1
-    ∙ ap (λ ns. put_below c.loop-name.nodes.nodes.items c.loop-name.folder ns n) cut.0
-    ∙ put-cut c.loop-name.nodes.nodes.items c.loop-name.folder c.in-Some.name.now c.in-Some.below.now n in
+    ∙ ap (λ ns. put_below c.loop-name.nodes c.loop-name.folder ns n) cut.0
+    ∙ put-cut c.loop-name.nodes c.loop-name.folder c.in-Some.name.now c.in-Some.below.now n in
     let refused = λ (cause : Cause) (told : cause_of c.in_err-folder.field-0.0 ≡ Some cause). whole ∙ ap (λ r. and_then r (λ (e : Entered). put_below e.tree e.place (names_in c.in-Some.below.now) n)) (c.in_err-folder.ensures.entered cause told) in
     search (rules, refused)
 
@@ -25,14 +25,14 @@ loop-name-preserved c =
     let n = node c.args.tree.now in
     let cut = rw c.in-Some.is at (names_cut c.loop-name.rest.now c.split_once.result (split_once_first 47 c.loop-name.rest.now c.split_once.result c.split_once.ensures.cases (lit< tt))) in
     let whole = c.loop-name.invariant.1
-    ∙ ap (λ ns. put_below c.loop-name.nodes.nodes.items c.loop-name.folder ns n) cut.0
-    ∙ put-cut c.loop-name.nodes.nodes.items c.loop-name.folder c.in-Some.name.now c.in-Some.below.now n in
+    ∙ ap (λ ns. put_below c.loop-name.nodes c.loop-name.folder ns n) cut.0
+    ∙ put-cut c.loop-name.nodes c.loop-name.folder c.in-Some.name.now c.in-Some.below.now n in
     let on = whole ∙ ap (λ r. and_then r (λ (e : Entered). put_below e.tree e.place (names_in c.in-Some.below.now) n)) c.in_ok-folder.ensures.entered in
-    (search rules, on, search rules, search rules, search rules)
+    (search rules, on, search rules)
 
-pub returns-clause-put : goal.returns-clause-put
-returns-clause-put c =
+pub returns : goal.returns
+returns c =
     let n = node c.args.tree.now in
     let last = none_if_not c.split_once.result c.in_default.not-Some in
     let whole = rw last at (names_cut c.loop-name.rest.now c.split_once.result (split_once_first 47 c.loop-name.rest.now c.split_once.result c.split_once.ensures.cases (lit< tt))) in
-    rw (c.loop-name.invariant.1 ∙ ap (λ ns. put_below c.loop-name.nodes.nodes.items c.loop-name.folder ns n) whole) c.put_file.ensures.put
+    rw (c.loop-name.invariant.1 ∙ ap (λ ns. put_below c.loop-name.nodes c.loop-name.folder ns n) whole) c.put_file.ensures.put

@@ -1,6 +1,5 @@
-use Rattle.std.proofs.Common.{◌≡◌, ◌<◌, ◌≤◌, length}
+use Rattle.std.proofs.Common.{◌≡◌, ◌<◌, length}
 use Rattle.fisca_yaml.specs.Views.{node}
-use Rattle.fisca_params.specs.Nodes.{IsIndexed}
 use Rattle.fisca_params.specs.Paths.{names_in}
 use Rattle.fisca_params.specs.Tree.{put_below}
 use Rattle.fisca_params.proofs.build.put_below.Given as goal
@@ -11,10 +10,8 @@ use denote.Shadow.{shadow}
 abbrev pub invariant-loop-name : goal.invariant-loop-name
 invariant-loop-name l =
     shadow (Utf8 l.rest)
-    × (put_below l.initial.nodes.nodes.items 0 (names_in l.fn.path) (node l.tree) ≡ put_below l.nodes.nodes.items l.folder (names_in l.rest) (node l.tree))
-    × IsIndexed l.nodes.nodes.items l.nodes.children.items
-    × (l.folder < length l.nodes.nodes.items)
-    × (length l.initial.nodes.nodes.items ≤ length l.nodes.nodes.items)
+    × (put_below l.initial.nodes 0 (names_in l.fn.path) (node l.tree) ≡ put_below l.nodes l.folder (names_in l.rest) (node l.tree))
+    × (l.folder < length l.nodes)
 
 abbrev pub decreases-loop-name : goal.decreases-loop-name
 decreases-loop-name l = length l.rest

@@ -1,11 +1,9 @@
-use Rattle.std.proofs.Common.{◌≡◌, drop, option_and_then}
-use Rattle.fisca_yaml.specs.Views.{entries_view}
-use Rattle.fisca_params.specs.Content.{written_values, dates_by}
-use Rattle.fisca_params.proofs.DateMaps.{put_left}
+use Rattle.std.proofs.Common.{◌≡◌, drop, map}
+use Rattle.fisca_params.specs.Content.{read_all}
+use Rattle.fisca_params.specs.Written.{seen}
+use Rattle.fisca_params.proofs.Walks.{after}
 use Rattle.fisca_params.proofs.dates.dates_in.Given as goal
 
--- what is left, put among what is there, gives the whole
-abbrev pub invariant-loop-entry : goal.invariant-loop-entry
-invariant-loop-entry g l =
-    option_and_then (dates_by g.V.DatedValue.reads) (written_values (entries_view l.entries))
-    ≡ put_left g.V.DatedValue.reads l.dates (written_values (entries_view (drop l.entry-index l.entries)))
+-- what is read, before what is left, is the whole
+abbrev pub invariant-loop-one : goal.invariant-loop-one
+invariant-loop-one g l = read_all g.V.DatedValue.reads (map seen l.written) ≡ after l.items.items (read_all g.V.DatedValue.reads (map seen (drop l.one-index l.written)))

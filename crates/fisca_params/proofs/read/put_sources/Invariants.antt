@@ -1,12 +1,9 @@
-use Rattle.std.proofs.Common.{◌≡◌, ◌≤◌, length, map}
+use Rattle.std.proofs.Common.{◌≡◌, map}
 use Rattle.fisca_params.specs.Files.{with_files}
-use Rattle.fisca_params.specs.Nodes.{IsIndexed}
 use Rattle.fisca_params.proofs.Ordered.{placed_of}
 use Rattle.fisca_params.proofs.read.put_sources.Given as goal
 
 -- what is left, put into the tree so far, gives the whole
 abbrev pub invariant-loop-key : goal.invariant-loop-key
 invariant-loop-key l =
-    (with_files l.initial.nodes.nodes.items (map placed_of l.sorted.entries) ≡ with_files l.nodes.nodes.items (map placed_of l.key-iterator))
-    × IsIndexed l.nodes.nodes.items l.nodes.children.items
-    × (length l.initial.nodes.nodes.items ≤ length l.nodes.nodes.items)
+    (with_files l.initial.nodes (map placed_of l.sorted.entries) ≡ with_files l.nodes (map placed_of l.key-iterator))

@@ -5,12 +5,12 @@ use Rattle.fisca_time.proofs.text.written_years.Goals as goal
 
 pub returns-in-1-eq1 : goal.returns-in-1-eq1
 returns-in-1-eq1 c =
-    IfOk-weaker c.format.result _ _ (λ _ is. year_alone c.args.first c.args.size _ _ c.laid_out.ensures c.in-1-eq1.is-0 c.in-1-eq1.is-1 is) c.format.ensures.ok
+    IfOk-weaker c.year_alone.result _ _ (λ _ is. year_alone c.args.first c.args.size _ c.in-1-eq1.is-0 c.in-1-eq1.is-1 is) c.year_alone.ensures
 
 pub returns-in-1-default : goal.returns-in-1-default
 returns-in-1-default c =
     let more : c.args.size ≡ 1 → ⊥ = λ e. omega arith in
-    IfOk-weaker c.format-in-1-default.result _ _ (λ _ is. years_sized c.args.first c.args.size _ _ c.laid_out-in-1-default.ensures c.in-1-default.is-0 more is) c.format-in-1-default.ensures.ok
+    IfOk-weaker c.format.result _ _ (λ _ is. years_sized c.args.first c.args.size _ _ c.laid_out.ensures c.in-1-default.is-0 more is) c.format.ensures.ok
 
 pub returns-in_default-eq1 : goal.returns-in_default-eq1
 returns-in_default-eq1 c =

@@ -28,8 +28,8 @@ returns-in-Err c memory =
     l.invariant.5 ∙ ap (behind l.found.items) (turn l.invariant.0 l.at l.layout (drop l.at bytes) (omega (arith, l.invariant.1)) (omega arith)
     ∙ ap (after_piece (tokens_from (l.invariant.0 - 1)) l.at l.layout (drop l.at bytes)) found)
 
-pub returns-in_err-token : goal.returns-in_err-token
-returns-in_err-token c =
+pub returns-in_err-take : goal.returns-in_err-take
+returns-in_err-take c =
     let l = c.loop-at in
     let bytes = c.args.bytes.now in
     let piece = c.in-Ok.piece in
@@ -39,7 +39,7 @@ returns-in_err-token c =
     let p = err_from_is_err_and c.from_residual.result c.from_residual.ensures.1 in
     rw (p.1, p.2) (λ memory. l.invariant.5 ∙ ap (behind l.found.items) (turn l.invariant.0 l.at l.layout (drop l.at bytes) (omega (arith, l.invariant.1)) (omega arith)
     ∙ ap (after_piece others l.at l.layout (drop l.at bytes)) found
-    ∙ ap (after_step (λ m. others (l.at + piece.length) m (drop piece.length (drop l.at bytes)))) (c.in_err-token.ensures.value memory)))
+    ∙ ap (after_step (λ m. others (l.at + piece.length) m (drop piece.length (drop l.at bytes)))) (c.in_err-take.ensures.value memory)))
 
 pub loop-at-preserved : goal.loop-at-preserved
 loop-at-preserved c =
@@ -52,16 +52,16 @@ loop-at-preserved c =
     let lines : piece.lines ≤ piece.length = c.in-Ok.ensures.lines in
     let within : piece.length ≤ length (drop l.at bytes) = grind (arith, common_steps) in
     let others = tokens_from (l.invariant.0 - 1) in
-    let after = others (l.at + piece.length) c.take.new.self in (
+    let left_over = drop piece.length (drop l.at bytes) in (
       l.invariant.0 - 1,
       omega (arith, l.invariant.1),
       omega (arith, l.invariant.2),
-      omega (arith, l.invariant.3, c.in_ok-token.ensures.line),
-      omega (arith, l.invariant.4, c.in_ok-token.ensures.depth),
+      omega (arith, l.invariant.3, c.in_ok-take.ensures.line),
+      omega (arith, l.invariant.4, c.in_ok-take.ensures.depth),
       l.invariant.5 ∙ ap (behind l.found.items) (turn l.invariant.0 l.at l.layout (drop l.at bytes) (omega (arith, l.invariant.1)) (omega arith)
-          ∙ ap (after_piece others l.at l.layout (drop l.at bytes)) found
-          ∙ ap (after_step (λ m. others (l.at + piece.length) m (drop piece.length (drop l.at bytes)))) c.in_ok-token.ensures.value)
-          ∙ sym (c.in_ok-keep.ensures.value (after (drop piece.length (drop l.at bytes)))) ∙ ap (λ ts. behind c.keep.new.found.items (after ts)) (drop-drop piece.length l.at bytes),
+          ∙ ap (after_piece others l.at l.layout (drop l.at bytes)) found)
+          ∙ sym (c.in_ok-take.ensures.value (λ m. others (l.at + piece.length) m left_over))
+          ∙ ap (λ ts. behind c.take.new.found.items (others (l.at + piece.length) c.take.new.layout ts)) (drop-drop piece.length l.at bytes),
     )
 
 pub returns : goal.returns

@@ -1,0 +1,7 @@
+use Rattle.std.proofs.Common.{◌≡◌, map, drop}
+use Rattle.fisca_syntax.specs.Views.{item}
+use Rattle.fisca_attributes.specs.AttributeForms.{value_at}
+use Rattle.fisca_attributes.proofs.attributes.value_at.Given as goal
+
+abbrev pub invariant-loop-one : goal.invariant-loop-one
+invariant-loop-one l = value_at l.name (map item (drop l.one-index l.items)) ≡ value_at l.name (map item l.items)

@@ -1,0 +1,4 @@
+pub mod AttributeForms
+pub mod EntityForms
+pub mod Fields
+pub mod Values

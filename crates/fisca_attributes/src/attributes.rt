@@ -1,0 +1,143 @@
+//! Attributes of variables, as they are written.
+
+ghost use Rattle.std.specs.Prelude.{◌≡◌, map, option_map};
+ghost use Rattle.fisca_expressions.specs.Views.{tree};
+ghost use Rattle.fisca_syntax.specs.Views.{item};
+ghost use Rattle.fisca_nodes.specs.Outcomes.{Gives};
+ghost use Rattle.fisca_attributes.specs.AttributeForms as spec;
+
+use crate::values::{bare, name_value};
+use fisca_expressions::Expr;
+use fisca_syntax::Item;
+use fisca_tables::{SetInput, Text};
+use fisca_time::Unit;
+use fisca_tokens::Kind;
+
+/// The name of a type.
+#[derive(Clone, Copy, Debug, PartialEq, Eq)]
+pub enum TypeName {
+    /// `float`
+    Float,
+    /// `int`
+    Int,
+    /// `bool`
+    Bool,
+    /// `date`
+    Date,
+    /// `str`
+    Text,
+    /// `Enum`
+    Enum,
+}
+
+#[tactic(auto, unfolding(crate::specs::AttributeForms::type_named))]
+fn type_named(name: &[u8]) -> Result<TypeName, Kind>
+    ensures { result ≡ spec.type_named name.now }
+{
+    if name == b"float".as_slice() {
+        return Ok(TypeName::Float);
+    }
+    if name == b"int".as_slice() {
+        return Ok(TypeName::Int);
+    }
+    if name == b"bool".as_slice() {
+        return Ok(TypeName::Bool);
+    }
+    if name == b"date".as_slice() {
+        return Ok(TypeName::Date);
+    }
+    if name == b"str".as_slice() {
+        return Ok(TypeName::Text);
+    }
+    if name == b"Enum".as_slice() {
+        return Ok(TypeName::Enum);
+    }
+    Err(Kind::BadAttribute)
+}
+
+/// The name of a type.
+pub fn type_value(value: &Expr<'_>) -> Result<TypeName, Kind>
+    ensures { result ≡ spec.type_value (tree value.now) }
+{
+    type_named(name_value(value)?.as_bytes())
+}
+
+#[tactic(auto, unfolding(crate::specs::AttributeForms::period_named))]
+fn period_named(name: &[u8]) -> Result<Unit, Kind>
+    ensures { result ≡ spec.period_named name.now }
+{
+    if name == b"DAY".as_slice() {
+        return Ok(Unit::Day);
+    }
+    if name == b"MONTH".as_slice() {
+        return Ok(Unit::Month);
+    }
+    if name == b"YEAR".as_slice() {
+        return Ok(Unit::Year);
+    }
+    if name == b"ETERNITY".as_slice() {
+        return Ok(Unit::Eternity);
+    }
+    Err(Kind::BadAttribute)
+}
+
+/// The unit of this name behind a name, which is `DateUnit`.
+fn unit_of(name: &[u8], left: Result<Text<'_>, Kind>) -> Result<Unit, Kind>
+    ensures { result ≡ spec.unit_of name.now left.entry }
+{
+    match left {
+        Ok(word) => {
+            if word.as_bytes() == b"DateUnit".as_slice() {
+                period_named(name)
+            } else {
+                Err(Kind::BadAttribute)
+            }
+        }
+        Err(_) => Err(Kind::BadAttribute),
+    }
+}
+
+/// A definition period, perhaps behind `DateUnit.`.
+pub fn period_value(value: &Expr<'_>) -> Result<Unit, Kind>
+    ensures { result ≡ spec.period_value (tree value.now) }
+{
+    match bare(value) {
+        Expr::Name(name) => period_named(name.as_bytes()),
+        Expr::Attribute(left, name) => unit_of(name.as_bytes(), name_value(&**left)),
+        _ => Err(Kind::BadAttribute),
+    }
+}
+
+#[tactic(auto, unfolding(crate::specs::AttributeForms::sharing_named))]
+fn sharing_named(name: &[u8]) -> Result<SetInput, Kind>
+    ensures { result ≡ spec.sharing_named name.now }
+{
+    if name == b"set_input_divide_by_period".as_slice() {
+        return Ok(SetInput::DivideByPeriod);
+    }
+    if name == b"set_input_dispatch_by_period".as_slice() {
+        return Ok(SetInput::DispatchByPeriod);
+    }
+    Err(Kind::BadAttribute)
+}
+
+/// How longer inputs are shared.
+pub fn sharing_value(value: &Expr<'_>) -> Result<SetInput, Kind>
+    ensures { result ≡ spec.sharing_value (tree value.now) }
+{
+    sharing_named(name_value(value)?.as_bytes())
+}
+
+/// The value of the first attribute of this name.
+pub fn value_at<'e, 'a>(name: &[u8], items: &'e [Item<'a>]) -> Option<&'e Expr<'a>>
+    ensures { option_map (λ e. tree e.now) result ≡ spec.value_at name.now (map item items.now) }
+{
+    for one in items {
+        if let Item::Attribute(attribute) = one {
+            if attribute.name.as_bytes() == name {
+                return Some(&attribute.value);
+            }
+        }
+    }
+    None
+}

@@ -1,0 +1,105 @@
+//! Instants, days of the calendar and names with a point, as they are written.
+
+ghost use Rattle.std.specs.Prelude.{◌≡◌, Some, map};
+ghost use Rattle.std.specs.Result.{result_ok};
+ghost use Rattle.fisca_expressions.specs.Views.{tree, argument_view};
+ghost use Rattle.fisca_nodes.specs.Outcomes.{Gives};
+ghost use Rattle.fisca_attributes.specs.Values as spec;
+ghost use Rattle.fisca_time.specs.Instant.{instant_of_text, instant_if_real};
+
+use crate::dotted::Dotted;
+use crate::lists::{parted, positional};
+use crate::values::{bare, name_value, text_value, whole_value};
+use fisca_expressions::{Argument, Expr, Suffix};
+use fisca_tables::Text;
+use fisca_time::Instant;
+use fisca_tokens::Kind;
+use std::alloc::Global;
+
+/// The instant that a text says, if it does.
+fn instant_of(text: &[u8]) -> Option<Instant>
+    ensures { result ≡ result_ok (instant_of_text text.now) }
+{
+    match str::from_utf8(text) {
+        Ok(word) => Instant::read(word).ok(),
+        Err(_) => None,
+    }
+}
+
+/// A text with an instant.
+pub fn instant_value(alloc: Global, value: &Expr<'_>) -> Result<Instant, Kind>
+    ensures { Gives (λ d. d) (spec.instant_value (tree value.now)) result }
+{
+    let text = text_value(alloc, value)?;
+    instant_of(text.as_bytes()).ok_or(Kind::BadAttribute)
+}
+
+/// Two names with a point between them.
+pub fn dotted_value<'a>(value: &Expr<'a>) -> Result<Dotted<'a>, Kind>
+    ensures { Gives (λ d. d) (spec.dotted_value (tree value.now)) result }
+{
+    match bare(value) {
+        Expr::Attribute(left, name) => Ok(Dotted {
+            left: name_value(&**left)?,
+            right: Text::borrowed(name.as_bytes()),
+        }),
+        _ => Err(Kind::BadAttribute),
+    }
+}
+
+/// Whole numbers without sign.
+fn each_whole(alloc: Global, items: &[Argument<'_>]) -> Result<Vec<u64>, Kind>
+    ensures { Gives (λ v. v.items) (spec.each spec.whole_value (map argument_view items.now)) result }
+{
+    let mut found = Vec::new(alloc);
+    for argument in items {
+        found.push(whole_value(positional(argument)?)?)?;
+    }
+    Ok(found)
+}
+
+/// The day that the calendar has in this year and month, if it has it.
+fn day_of(year: u64, month: u64, day: u64) -> Option<Instant>
+    ensures { result ≡ result_ok (instant_if_real (Some (record { year = year; month = month; day = day }))) }
+{
+    if year > 9999 || month > 12 || day > 31 {
+        return None;
+    }
+    Instant::new(year as u16, month as u8, day as u8).ok()
+}
+
+/// A year, a month and a day.
+fn date_of_numbers(numbers: &[u64]) -> Result<Instant, Kind>
+    ensures { result ≡ spec.date_of_numbers numbers.now }
+{
+    match numbers {
+        [year, month, day] => day_of(*year, *month, *day).ok_or(Kind::BadAttribute),
+        _ => Err(Kind::BadAttribute),
+    }
+}
+
+/// Whether a call is one of `date`.
+fn is_date(called: &Expr<'_>) -> bool
+    ensures { result ≡ spec.is_date (spec.bare (tree called.now)) }
+{
+    match bare(called) {
+        Expr::Name(word) => word.as_bytes() == b"date".as_slice(),
+        _ => false,
+    }
+}
+
+/// `date(n, n, n)`, a day of the calendar.
+pub fn date_value(alloc: Global, value: &Expr<'_>) -> Result<Instant, Kind>
+    ensures { Gives (λ d. d) (spec.date_value (tree value.now)) result }
+{
+    match bare(value) {
+        Expr::Applied(called, Suffix::Call, inside) => {
+            if !is_date(&**called) {
+                return Err(Kind::BadAttribute);
+            }
+            let numbers = each_whole(alloc, parted(inside.items.as_slice(), inside.comma))?;
+            date_of_numbers(numbers.as_slice())
+        }
+        _ => Err(Kind::BadAttribute),
+    }
+}

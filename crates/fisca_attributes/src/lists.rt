@@ -1,0 +1,82 @@
+//! Lists of values, as they are written.
+
+ghost use Rattle.std.specs.Prelude.{◌≡◌, map};
+ghost use Rattle.fisca_expressions.specs.Views.{tree, argument_view, series_of};
+ghost use Rattle.fisca_nodes.specs.Outcomes.{Gives};
+ghost use Rattle.fisca_attributes.specs.Values as spec;
+
+use crate::values::{bare, text_value};
+use fisca_expressions::{Argument, Bracket, Expr};
+use fisca_tables::{Text, Texts};
+use fisca_tokens::Kind;
+use std::alloc::Global;
+
+/// What the commas part, whether one follows the last or not.
+pub fn parted<'e, 'a>(items: &'e [Argument<'a>], comma: bool) -> &'e [Argument<'a>]
+    ensures { map argument_view result.now ≡ spec.items (series_of comma (map argument_view items.now)) }
+{
+    let _follows = comma;
+    items
+}
+
+/// A value that stands without a label.
+pub fn positional<'e, 'a>(argument: &'e Argument<'a>) -> Result<&'e Expr<'a>, Kind>
+    ensures { Gives (λ e. tree e.now) (spec.position (argument_view argument.now)) result }
+{
+    match argument {
+        Argument::Positional(value) => Ok(value),
+        Argument::Keyword(_, _) | Argument::Entry(_, _) => Err(Kind::BadAttribute),
+    }
+}
+
+/// Texts in quotes.
+fn each_text<'a>(alloc: Global, items: &[Argument<'a>]) -> Result<Vec<Text<'a>>, Kind>
+    ensures { Gives (λ v. v.items) (spec.each spec.text_value (map argument_view items.now)) result }
+{
+    let mut texts = Vec::new(alloc);
+    for argument in items {
+        texts.push(text_value(alloc, positional(argument)?)?)?;
+    }
+    Ok(texts)
+}
+
+/// What stands in square brackets.
+pub fn list_of<'e, 'a>(value: &'e Expr<'a>) -> Result<&'e [Argument<'a>], Kind>
+    ensures { Gives (λ xs. map argument_view xs.now) (spec.listed (tree value.now)) result }
+{
+    match bare(value) {
+        Expr::Bracketed(Bracket::Square, inside) => {
+            Ok(parted(inside.items.as_slice(), inside.comma))
+        }
+        _ => Err(Kind::BadAttribute),
+    }
+}
+
+/// At least one text, in square brackets.
+pub fn texts_value<'a>(alloc: Global, value: &Expr<'a>) -> Result<Texts<'a>, Kind>
+    ensures { Gives (λ t. t) (spec.texts_value (tree value.now)) result }
+{
+    let texts = each_text(alloc, list_of(value)?)?;
+    if texts.is_empty() {
+        return Err(Kind::BadAttribute);
+    }
+    Ok(Texts::new(texts))
+}
+
+/// A text, or a list or tuple of texts.
+pub fn references_value<'a>(alloc: Global, value: &Expr<'a>) -> Result<Texts<'a>, Kind>
+    ensures { Gives (λ t. t) (spec.references_value (tree value.now)) result }
+{
+    match bare(value) {
+        Expr::Text(_) => {
+            let mut texts = Vec::new(alloc);
+            texts.push(text_value(alloc, value)?)?;
+            Ok(Texts::new(texts))
+        }
+        Expr::Bracketed(Bracket::Square | Bracket::Round, inside) => {
+            let items = parted(inside.items.as_slice(), inside.comma);
+            Ok(Texts::new(each_text(alloc, items)?))
+        }
+        _ => Err(Kind::BadAttribute),
+    }
+}

@@ -1,0 +1,5 @@
+pub mod Keywords
+pub mod Rows
+pub mod Scales
+pub mod Selected
+pub mod Shapes

@@ -1,0 +1,160 @@
+-- What the modules of a rule set declare, or their first fault: names first, then attributes.
+use Rattle.std.specs.Prelude.{ℕ, suc, List, [], ◌∷◌, ◌++◌, map, length, Bool, true, false, ◌==◌, ◌||◌, nat_lt, if◌then◌else◌, Option, Some, None, Result, Ok, Err}
+use Rattle.std.specs.List.{list_any}
+use Rattle.fisca_expressions.specs.Tree.{Tree, Argument, bracketed, positional, name}
+use Rattle.fisca_params.specs.Results.{and_then}
+use Rattle.fisca_syntax.specs.declared.module.Member.{Member}
+use Rattle.fisca_syntax.specs.Modules.{Assigned, Item, attribute, formula, Statement, entity, entities, choices, variable}
+use Rattle.fisca_tokens.specs.declared.fault.Kind.{Kind}
+use Rattle.fisca_tokens.specs.declared.fault.Kind.TheVariants as kind
+use Rattle.fisca_typing.specs.Texts.{content}
+use Rattle.fisca_tables.specs.declared.choices.Choices.{Choices}
+use Rattle.fisca_tables.specs.declared.entity.Entity.{Entity}
+use Rattle.fisca_classes.specs.declared.fault.BuildFault.{BuildFault}
+use Rattle.fisca_classes.specs.Clashes.{is_order, second_name}
+use Rattle.fisca_attributes.specs.EntityForms.{entity_of}
+use Rattle.fisca_attributes.specs.Values.{bad_attribute, items, is_among}
+use Rattle.fisca_classes.specs.declared.declared.Declared.{Declared}
+use Rattle.fisca_classes.specs.VariableForms.{Written, unknown_name, item_fits, variable_of}
+
+-- the statements of a rule set, each with the place of its module
+pub record Placed : Type 0 where
+  pub «module» : ℕ
+  pub statement : Statement
+
+abbrev pub placed_in : ℕ → List Statement → List Placed
+placed_in place ss = map (λ s. record { «module» = place; statement = s }) ss
+
+abbrev pub placed_from : ℕ → List (List Statement) → List Placed
+placed_from place [] = []
+placed_from place (ss ∷ more) = placed_in place ss ++ placed_from (suc place) more
+
+abbrev pub fault_at : {X : Type 0} → ℕ → ℕ → Kind → Result X BuildFault
+fault_at place line k = Err (record { «module» = place; line = line; kind = k })
+
+-- a fault told of this line of a module
+abbrev pub told_at : {X : Type 0} → ℕ → ℕ → Result X Kind → Result X BuildFault
+told_at place line (Ok x) = Ok x
+told_at place line (Err k) = fault_at place line k
+
+-- First pass: no name comes a second time
+
+abbrev pub named_once : ℕ → Option ℕ → Result (Unit {0}) BuildFault
+named_once place None = Ok tt
+named_once place (Some line) = fault_at place line kind.DuplicateName
+
+abbrev pub names_from : List Statement → List Placed → Result (Unit {0}) BuildFault
+names_from earlier [] = Ok tt
+names_from earlier (p ∷ ps) =
+    and_then (named_once p.module (second_name earlier p.statement)) (λ _. names_from (earlier ++ p.statement ∷ []) ps)
+
+-- What is declared anywhere
+
+abbrev pub members_of : List Member → List (List ℕ × List ℕ)
+members_of [] = []
+members_of (m ∷ ms) = if is_order m then members_of ms else (m.name, content m.text) ∷ members_of ms
+
+abbrev pub constants_in : List Placed → List (List ℕ)
+constants_in [] = []
+constants_in (p ∷ ps) = constant_of p.statement ++ constants_in ps where
+  constant_of : Statement → List (List ℕ)
+  constant_of (entity a) = a.name ∷ []
+  constant_of (entities a) = []
+  constant_of (choices line n ms) = []
+  constant_of (variable line n xs) = []
+
+abbrev pub enums_in : List Placed → List Choices
+enums_in [] = []
+enums_in (p ∷ ps) = enum_of p.statement ++ enums_in ps where
+  enum_of : Statement → List Choices
+  enum_of (entity a) = []
+  enum_of (entities a) = []
+  enum_of (choices line n ms) = record { name = n; members = members_of ms } ∷ []
+  enum_of (variable line n xs) = []
+
+abbrev pub declared_in : List Placed → Declared
+declared_in ps = record { constants = constants_in ps; enums = enums_in ps }
+
+-- Second pass: attributes and entities, from top to bottom
+
+-- what was declared so far
+pub record Found : Type 0 where
+  pub entities : List Entity
+  pub variables : List Written
+
+abbrev pub has_person : List Entity → Bool
+has_person es = list_any (λ e. e.is_person) es
+
+-- just one entity is the persons
+abbrev pub with_entity : Found → Entity → Result Found Kind
+with_entity f e = if and_both e.is_person (has_person f.entities) then bad_attribute else Ok (record f { entities = f.entities ++ e ∷ [] }) where
+  and_both : Bool → Bool → Bool
+  and_both true b = b
+  and_both false b = false
+
+abbrev pub is_known : Declared → Argument → Bool
+is_known c (positional (name t)) = is_among c.constants t
+is_known c a = false
+
+abbrev pub all_known : Declared → List Argument → Bool
+all_known c [] = true
+all_known c (a ∷ more) = if is_known c a then all_known c more else false
+
+abbrev pub listed_in : Tree → List Argument
+listed_in (bracketed b xs) = items xs
+listed_in e = []
+
+-- `entities = [NAME, ..]`
+abbrev pub entities_fit : Declared → Assigned → Result (Unit {0}) Kind
+entities_fit c a = if all_known c (listed_in a.value) then Ok tt else unknown_name
+
+-- from 1 to 1,000 members
+abbrev pub members_fit : List Member → Result (Unit {0}) Kind
+members_fit ms = if (length (members_of ms) == 0) || nat_lt 1000 (length (members_of ms)) then bad_attribute else Ok tt
+
+abbrev pub line_of_item : Item → ℕ
+line_of_item (attribute a) = a.line
+line_of_item (formula f) = f.line
+
+abbrev pub items_fit : Declared → ℕ → List Item → List Item → List Item → Result (Unit {0}) BuildFault
+items_fit c place all earlier [] = Ok tt
+items_fit c place all earlier (x ∷ xs) =
+    and_then (told_at place (line_of_item x) (item_fits c all earlier x)) (λ _. items_fit c place all (earlier ++ x ∷ []) xs)
+
+-- a variable: its lines from top to bottom, and then what is missing
+abbrev pub variable_in : Declared → ℕ → ℕ → List ℕ → List Item → Result Written BuildFault
+variable_in c place line n xs =
+    and_then (items_fit c place xs [] xs) (λ _. told_at place line (variable_of c place line n xs))
+
+abbrev pub statement_found : Declared → Found → ℕ → Statement → Result Found BuildFault
+statement_found c f place (entity a) = told_at place a.line (and_then (entity_of a) (with_entity f))
+statement_found c f place (entities a) = and_then (told_at place a.line (entities_fit c a)) (λ _. Ok f)
+statement_found c f place (choices line n ms) = and_then (told_at place line (members_fit ms)) (λ _. Ok f)
+statement_found c f place (variable line n xs) = and_then (variable_in c place line n xs) (λ v. Ok (record f { variables = f.variables ++ v ∷ [] }))
+
+abbrev pub found_from : Declared → Found → List Placed → Result Found BuildFault
+found_from c f [] = Ok f
+found_from c f (p ∷ ps) = and_then (statement_found c f p.module p.statement) (λ g. found_from c g ps)
+
+-- The persons are there: that they are missing is known last, and told of the first line of the first module.
+abbrev pub with_person : Found → Result Found BuildFault
+with_person f = if has_person f.entities then Ok f else fault_at 0 1 kind.BadAttribute
+
+-- Both passes
+
+pub record Whole : Type 0 where
+  pub entities : List Entity
+  pub enums : List Choices
+  pub variables : List Written
+
+abbrev pub none_yet : Found
+none_yet = record { entities = []; variables = [] }
+
+abbrev pub declared_by : List Placed → Result Whole BuildFault
+declared_by ps =
+    and_then (names_from [] ps) (λ _. and_then (found_from (declared_in ps) none_yet ps) (λ f. and_then (with_person f) (λ g.
+    Ok (record { entities = g.entities; enums = enums_in ps; variables = g.variables }))))
+
+-- what modules declare, or their first fault
+unfoldable pub tables_of : List (List Statement) → Result Whole BuildFault
+tables_of ms = declared_by (placed_from 0 ms)

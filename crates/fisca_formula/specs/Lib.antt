@@ -1,0 +1,4 @@
+pub mod Elements
+pub mod Formulas
+pub mod Questions
+pub mod Views

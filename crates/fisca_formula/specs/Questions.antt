@@ -1,0 +1,51 @@
+-- Questions for variables, by their arguments.
+use Rattle.std.specs.Borrow.{Bor}
+use Rattle.std.specs.Prelude.{ℕ, List, [], ◌∷◌, Option, Some, None, option_map, Result, Ok, if◌then◌else◌}
+use Rattle.fisca_calls.specs.Arguments.{given}
+use Rattle.fisca_calls.specs.declared.arguments.Given.{Given as Held}
+use Rattle.fisca_nodes.specs.Views.{thing}
+use Rattle.fisca_nodes.specs.declared.thing.Thing.{Thing as HeldThing}
+use Rattle.fisca_params.specs.Results.{and_then}
+use Rattle.fisca_tokens.specs.declared.fault.Kind.{Kind}
+use Rattle.fisca_typing.specs.declared.asking.RolePlace.{RolePlace}
+use Rattle.fisca_typing.specs.declared.kinds.Level.{Level}
+use Rattle.fisca_typing.specs.declared.kinds.Level.TheVariants as level
+use Rattle.fisca_typing.specs.declared.kinds.ValueType.TheVariants as vt
+use Rattle.fisca_typing.specs.Asks.{asked, is_options, is_positional, role_by}
+use Rattle.fisca_typing.specs.Calls.{Given, Positions, positions, settled}
+use Rattle.fisca_typing.specs.Nodes.{count}
+use Rattle.fisca_typing.specs.Tables.{Tables}
+use Rattle.fisca_typing.specs.Things.{Thing, Relation, typed}
+use Rattle.fisca_typing.specs.Types.{bad_type}
+
+abbrev pub given_if : Option Held → Option Given
+given_if = option_map given
+
+-- two arguments, and perhaps one more
+abbrev pub two_or_three : List Given → Result (Given × Given × Option Given) Kind
+two_or_three (v ∷ p ∷ []) = Ok (v, p, None)
+two_or_three (v ∷ p ∷ o ∷ []) = Ok (v, p, Some o)
+two_or_three _ = bad_type
+
+-- options stand behind their keyword
+abbrev pub with_options : Tables → Relation → Level → Given → Given → Option Given → Result Thing Kind
+with_options c r l v p None = asked c r l v p None
+with_options c r l v p (Some o) = if is_options o.keyword then asked c r l v p (Some o.thing) else bad_type
+
+-- a variable and a period by position
+abbrev pub asked_by : Tables → Relation → Level → Given → Given → Option Given → Result Thing Kind
+asked_by c r l v p o =
+    if is_positional v.keyword then (if is_positional p.keyword then with_options c r l v p o else bad_type) else bad_type
+
+-- the arguments of a call by position and by keyword
+abbrev pub settled_view : List Given → Result Positions Kind
+settled_view gs = and_then (settled gs) (λ ss. Ok (positions ss))
+
+-- how many persons a group has, or have a role
+abbrev pub count_of : Option RolePlace → Result Thing Kind
+count_of r = typed vt.Number level.Own (count r)
+
+-- a role, if there is one, behind its keyword
+abbrev pub role_given : ℕ → Option (Bor (List ℕ) × HeldThing) → Result (Option RolePlace) Kind
+role_given entity None = Ok None
+role_given entity (Some r) = role_by entity r.0.now (thing r.1)

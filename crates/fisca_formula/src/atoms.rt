@@ -1,0 +1,47 @@
+//! Numbers and texts, and faults that are told later.
+ghost use Rattle.std.specs.Prelude.{◌≡◌, Result, IfOk};
+ghost use Rattle.fisca_calls.specs.Arguments.{outcome};
+ghost use Rattle.fisca_formula.specs.Elements.{text_said};
+ghost use Rattle.fisca_nodes.specs.Outcomes.{Gives};
+ghost use Rattle.fisca_nodes.specs.Views.{thing as thing_of};
+ghost use Rattle.fisca_num.specs.Literal.{number_of_literal};
+ghost use Rattle.fisca_tokens.specs.declared.fault.Kind.{Kind};
+ghost use Rattle.fisca_typing.specs.Things as things;
+ghost use Rattle.fisca_typing.specs.Typing as spec;
+
+use fisca_nodes::{Node, Thing, Typed, content};
+use fisca_num::Fraction;
+use fisca_tokens::Kind;
+use fisca_typing::{Level, ValueType};
+use std::alloc::{AllocError, Global};
+
+/// A number as it is written; no module has one that is none.
+pub fn number_thing(digits: &[u8]) -> Result<Thing, Kind>
+    ensures { Gives thing_of (spec.number_thing (number_of_literal digits.now)) result }
+{
+    match Fraction::from_literal(digits) {
+        Ok(number) => Ok(Thing::Value(Typed {
+            value_type: ValueType::Number,
+            level: Level::Constant,
+            node: Node::Literal(number),
+        })),
+        Err(_) => Err(Kind::BadType),
+    }
+}
+
+/// A text in quotes.
+pub fn text_thing(alloc: Global, source: &[u8]) -> Result<Thing, Kind>
+    ensures { Gives thing_of (text_said source.now) result }
+{
+    Ok(Thing::Text(content(alloc, source)?))
+}
+
+/// What was found, or its fault, which is told where it is asked for; but want of memory at once.
+pub fn if_known(found: Result<Thing, Kind>) -> Result<Result<Thing, Kind>, AllocError>
+    ensures { (told : Result things.Thing Kind) → Gives thing_of told found → IfOk result (λ x. outcome x ≡ told) }
+{
+    match found {
+        Err(Kind::Memory) => Err(AllocError),
+        known => Ok(known),
+    }
+}

@@ -1,0 +1,4 @@
+pub mod Operations
+pub mod Outcomes
+pub mod Texts
+pub mod Views

@@ -1,0 +1,89 @@
+//! What a thing is taken for where it stands.
+ghost use Rattle.std.specs.Prelude.{◌≡◌};
+ghost use Rattle.fisca_nodes.specs.Outcomes.{Gives};
+ghost use Rattle.fisca_nodes.specs.Views.{chosen, listed, thing as thing_of, typed};
+ghost use Rattle.fisca_typing.specs.Things as spec;
+
+use crate::thing::{Chosen, Thing, Typed};
+use fisca_tokens::Kind;
+use fisca_typing::{Asking, Move, RolePlace};
+
+/// The value that a thing is, or `BadType`.
+pub fn value_of(thing: Thing) -> Result<Typed, Kind>
+    ensures { Gives typed (spec.value_of (thing_of thing)) result }
+{
+    match thing {
+        Thing::Value(value) => Ok(value),
+        _ => Err(Kind::BadType),
+    }
+}
+
+/// The moves to the period that a thing is, or `BadType`.
+pub fn period_of(thing: Thing) -> Result<Vec<Move>, Kind>
+    ensures { Gives (λ ms. ms.items) (spec.period_of (thing_of thing)) result }
+{
+    match thing {
+        Thing::Period(moves) => Ok(moves),
+        _ => Err(Kind::BadType),
+    }
+}
+
+/// The moves to the period at whose start parameters are read: a period, or the start of one; else `BadType`.
+pub fn instant_of(thing: Thing) -> Result<Vec<Move>, Kind>
+    ensures { Gives (λ ms. ms.items) (spec.instant_of (thing_of thing)) result }
+{
+    match thing {
+        Thing::Period(moves) | Thing::Start(moves) => Ok(moves),
+        _ => Err(Kind::BadType),
+    }
+}
+
+/// The text that a thing is, or `BadType`.
+pub fn text_of(thing: Thing) -> Result<Vec<u8>, Kind>
+    ensures { Gives (λ t. t.items) (spec.text_of (thing_of thing)) result }
+{
+    match thing {
+        Thing::Text(text) => Ok(text),
+        _ => Err(Kind::BadType),
+    }
+}
+
+/// The elements of the list that a thing is, or `BadType`.
+pub fn things_of(thing: Thing) -> Result<Vec<Thing>, Kind>
+    ensures { Gives (λ xs. listed xs.items) (spec.things_of (thing_of thing)) result }
+{
+    match thing {
+        Thing::Listed(things) => Ok(things),
+        _ => Err(Kind::BadType),
+    }
+}
+
+/// The option of an ask that a thing is, or `BadType`.
+pub fn option_of(thing: &Thing) -> Result<Asking, Kind>
+    ensures { Gives (λ a. a) (spec.option_of (thing_of thing.now)) result }
+{
+    match thing {
+        Thing::Asking(asking) => Ok(*asking),
+        _ => Err(Kind::BadType),
+    }
+}
+
+/// The role that a thing is, with the place of its entity, or `BadType`.
+pub fn role_of(thing: &Thing) -> Result<(usize, RolePlace), Kind>
+    ensures { Gives (λ r. (r.0, r.1)) (spec.role_of (thing_of thing.now)) result }
+{
+    match thing {
+        Thing::Role(entity, role) => Ok((*entity, *role)),
+        _ => Err(Kind::BadType),
+    }
+}
+
+/// The parameters that a thing is, or `BadType`.
+pub fn nodes_of(thing: Thing) -> Result<Chosen, Kind>
+    ensures { Gives chosen (spec.nodes_of (thing_of thing)) result }
+{
+    match thing {
+        Thing::Nodes(nodes) => Ok(nodes),
+        _ => Err(Kind::BadType),
+    }
+}

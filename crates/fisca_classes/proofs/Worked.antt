@@ -10,7 +10,7 @@ use Rattle.fisca_syntax.specs.Modules.{Item, attribute, formula, Statement, enti
 use Rattle.fisca_tokens.specs.declared.fault.Kind.{Kind}
 use Rattle.fisca_tokens.specs.declared.fault.Kind.TheVariants as kind
 use Rattle.fisca_typing.specs.Texts.{said_within}
-use Rattle.fisca_classes.specs.declared.fault.BuildFault.{BuildFault}
+use Rattle.fisca_names.specs.declared.fault.BuildFault.{BuildFault}
 use Rattle.fisca_classes.specs.Build.{Whole, tables_of}
 use Rattle.fisca_attributes.specs.Values.{truth_of}
 use Rattle.fisca_attributes.specs.AttributeForms.{type_named, period_named, sharing_named}

@@ -1,3 +1,2 @@
 pub mod Build
-pub mod Clashes
 pub mod VariableForms

@@ -3,10 +3,8 @@
 
 mod basics;
 mod declared;
-mod fault;
 mod told;
 
 pub use basics::Basics;
 pub use declared::Declared;
-pub use fault::BuildFault;
 pub use told::Told;

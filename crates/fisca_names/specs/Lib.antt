@@ -1,2 +1,5 @@
 pub mod Clashes
 pub mod Names
+pub mod Outcomes
+pub mod Seen
+pub mod Titles

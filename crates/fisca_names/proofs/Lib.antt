@@ -1,0 +1,6 @@
+pub mod Clash
+pub mod Confused
+pub mod Meet
+pub mod Pass
+pub mod Repeated
+pub mod Some

@@ -1,12 +1,12 @@
 -- Statements, noted one after another.
-use Rattle.std.proofs.Common.{◌≡◌, ℕ, List, [], ◌∷◌, ◌++◌, map, Bool, true, false, ◌&&◌, ◌||◌, Option, Some, None, refl, sym, ap, subst, ◌∙◌, if◌then◌else◌}
+use Rattle.std.proofs.Common.{◌≡◌, ℕ, List, [], ◌∷◌, ◌++◌, Bool, true, false, ◌&&◌, ◌||◌, Option, Some, None, refl, sym, ap, ◌∙◌, if◌then◌else◌}
 use Rattle.std.specs.List.{list_any}
 use Rattle.std.specs.Str.{bytes_eq}
 use Rattle.fisca_attributes.specs.EntityForms.{entity_of}
 use Rattle.fisca_syntax.specs.Modules.{Assigned, Item, Statement, entity, entities, choices, variable}
 use Rattle.fisca_syntax.specs.declared.module.Member.{Member}
 use Rattle.fisca_tables.specs.declared.role.Role.{Role}
-use Rattle.fisca_names.specs.Clashes.{among, bears, clashes, is_of, line_of, listed, meet, names_clash, names_of, own_clash, repeat, repeated_member, repeated_within, roles_in, second_name, titles, titles_clash}
+use Rattle.fisca_names.specs.Clashes.{among, bears, is_of, line_of, listed, meet, names_clash, names_of, own_clash, repeat, repeated_member, repeated_within, roles_in, titles, titles_clash}
 use Rattle.fisca_names.specs.Seen.{Holds, Notes, NotesNames, NotesTitles, TellsOne, all_titles_within, entity_named, has_name, has_title, has_variable, is_title_in, is_variable_in, same_within, titles_within}
 use Rattle.fisca_names.specs.Titles.{Adds}
 use Rattle.fisca_names.specs.declared.seen.Seen.{Seen}
@@ -109,6 +109,11 @@ clash_of_names old new t told = record {
   noted = λ e. absurd (true_false e);
 }
 
+pub entity_named_again : (old new : Seen) (a : Assigned) (has : List ℕ → Bool) (ts : List (List ℕ)) (b : Bool)
+    → NotesNames (has_name old) has ts b → ts ≡ names_of (entity a) → b ≡ true → Notes old new (entity a) true
+entity_named_again old new a has ts b n same again =
+    clash_of_names old new (entity a) (sym again ∙ n.told ∙ ap (λ us. repeat us || list_any (has_name old) us) same)
+
 pub clash_of_titles : (old new : Seen) (a : Assigned) → true ≡ titles_clash (titles (roles_in (entity_of a))) → Notes old new (entity a) true
 clash_of_titles old new a told = record {
   told = λ earlier h. or_right (names_clash earlier (entity a)) (own_clash (entity a) || list_any (λ e. meet e (entity a)) earlier) (or_left (own_clash (entity a)) (list_any (λ e. meet e (entity a)) earlier) told);
@@ -155,6 +160,17 @@ variable_notes old new line name xs o b same again names told noted still = reco
     titles = λ w. one_more (is_title_in w) earlier (variable line name xs) _ _ false (still w) (h.titles w) refl;
     variables = λ w. one_more (is_variable_in w) earlier (variable line name xs) _ _ _ (noted e w) (h.variables w) (variable_added w line name xs o same);
   };
+}
+
+-- a role of its entity has its name
+pub variable_met_here : (old mid new : Seen) (line : ℕ) (name t : List ℕ) (xs : List Item) → Some t ≡ entity_named xs
+    → false ≡ has_name old name → Adds bytes_eq (has_name old) (has_name mid) (name ∷ [])
+    → true ≡ has_title old (record { constant = t; name = name }) → Notes old new (variable line name xs) true
+variable_met_here old mid new line name t xs same again names told = record {
+  told = λ earlier h. both_false (names_clash earlier (variable line name xs)) false _ (list_any (λ e. meet e (variable line name xs)) earlier) true
+      (again ∙ sym (or_none (has_name old name)) ∙ names_told old earlier (variable line name xs) h) refl
+      (told ∙ sym (or_none (has_title old (record { constant = t; name = name })))) (sym (variable_met old earlier line name xs (Some t) h same));
+  noted = λ e. absurd (true_false e);
 }
 
 -- what has no roles and is no variable meets nothing

@@ -1,13 +1,12 @@
 -- Keys and plurals of one entity, noted one after another.
-use Rattle.std.proofs.Common.{◌≡◌, ℕ, List, [], ◌∷◌, ◌++◌, Bool, true, false, ◌||◌, Option, Some, None, refl, sym, ap, subst, ◌∙◌, append_assoc, append-nil}
+use Rattle.std.proofs.Common.{◌≡◌, List, [], ◌∷◌, ◌++◌, Bool, true, false, ◌||◌, refl, sym, ap, subst, ◌∙◌, append_assoc, append-nil}
 use Rattle.std.specs.List.{list_any}
 use Rattle.std.specs.Str.{bytes_eq}
-use Rattle.indexmap.specs.IndexSet.{IsEmpty}
 use Rattle.fisca_typing.specs.Tables.{capitals}
-use Rattle.fisca_names.specs.Clashes.{Titled, among, are_confused, listed, texts_of, titles_clash}
-use Rattle.fisca_names.specs.Titles.{Adds, again, has_capitals, has_text, Holds, Notes, NotesOne, subrole}
+use Rattle.fisca_names.specs.Clashes.{Titled, among, are_confused, texts_of, titles_clash}
+use Rattle.fisca_names.specs.Titles.{again, has_capitals, has_text, Holds, Notes, NotesOne}
 use Rattle.fisca_names.specs.declared.titles.Titles.{Titles}
-use Rattle.fisca_names.proofs.Some.{or_none, or_later, or_turned, some_alike, some_behind, some_none, some_or, some_pair, one_more}
+use Rattle.fisca_names.proofs.Some.{or_none, or_later, some_behind, some_none, some_or, some_pair, one_more}
 
 told_of : (s : Titles) (earlier : List Titled) (t : Titled) → Holds s earlier
     → (has_capitals s (capitals t.key) || list_any (has_text s) (texts_of t)) ≡ list_any (λ e. are_confused e t) earlier

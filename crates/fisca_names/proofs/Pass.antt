@@ -1,11 +1,10 @@
 -- The first pass, module by module.
-use Rattle.std.proofs.Common.{◌≡◌, ◌≢◌, ℕ, suc, List, [], ◌∷◌, ◌++◌, map, Option, Some, None, Result, Ok, Err, refl, sym, ap, subst, ◌∙◌, append_assoc, append-nil}
+use Rattle.std.proofs.Common.{◌≡◌, ◌≢◌, ℕ, suc, ◌+◌, add-one, List, [], ◌∷◌, ◌++◌, Option, Some, None, Result, Ok, Err, refl, sym, ap, subst, ◌∙◌, append_assoc, append-nil}
 use Rattle.fisca_params.specs.Results.{and_then}
 use Rattle.fisca_syntax.specs.Modules.{Statement}
 use Rattle.fisca_tokens.specs.declared.fault.Kind.TheVariants as kind
 use Rattle.fisca_names.specs.Clashes.{second_name}
-use Rattle.fisca_names.specs.Names.{Placed, fault_at, named_once, names_from, placed_in, placed_from}
-use Rattle.fisca_names.specs.Outcomes.{Tells}
+use Rattle.fisca_names.specs.Names.{Placed, named_once, names_from, placed_in, placed_from}
 use Rattle.fisca_names.specs.Seen.{Holds, Passes, TellsOne}
 use Rattle.fisca_names.specs.declared.fault.BuildFault.{BuildFault}
 use Rattle.fisca_names.specs.declared.seen.Seen.{Seen}
@@ -47,13 +46,14 @@ pub record Reached (s : Seen) (whole : Outcome) (rest : List Placed) : Type 0 wh
   pub same : whole ≡ names_from earlier rest
 
 pub reached_next : (old new : Seen) (whole : Outcome) (place : ℕ) (ss : List Statement) (more : List (List Statement))
-    → Reached old whole (placed_from place (ss ∷ more)) → Passes old new place ss (Ok tt) → Reached new whole (placed_from (suc place) more)
+    → Reached old whole (placed_from place (ss ∷ more)) → Passes old new place ss (Ok tt) → Reached new whole (placed_from (place + 1) more)
 reached_next old new whole place ss more r p =
-    let next = p r.earlier (placed_from (suc place) more) r.held in record {
+    let next = p r.earlier (placed_from (suc place) more) r.held in
+    subst (λ k. Reached new whole (placed_from k more)) (sym (add-one place)) (record {
       earlier = r.earlier ++ ss;
       held = next.1;
       same = r.same ∙ next.0;
-    }
+    })
 
 pub reached_fault : (old new : Seen) (whole : Outcome) (place : ℕ) (ss : List Statement) (more : List (List Statement)) (f : BuildFault)
     → Reached old whole (placed_from place (ss ∷ more)) → Passes old new place ss (Err f) → f.kind ≢ kind.Memory → whole ≡ Err f

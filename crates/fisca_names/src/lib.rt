@@ -13,14 +13,3 @@ mod within;
 
 pub use differ::names_differ;
 pub use fault::BuildFault;
-
-#[cfg(test)]
-mod tests {
-    use std::test::Fail;
-
-    #[test]
-    fn nothing(rt: HostRuntime) -> Result<(), Fail> {
-        super::names_differ(rt.alloc(), &[])?;
-        Ok(())
-    }
-}

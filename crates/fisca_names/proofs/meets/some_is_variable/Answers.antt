@@ -1,11 +1,10 @@
-use Rattle.std.proofs.Common.{◌≡◌, List, [], Bool, drop, false, true, sym, subst}
+use Rattle.std.proofs.Common.{◌≡◌, List, [], drop, false, true, sym, subst}
 use Rattle.std.proofs.Math.ListN.{drop_of_length-le}
 use Rattle.indexmap.specs.IndexSet.{contains}
 use Rattle.fisca_names.proofs.Meet.{met_none, met_stop, met_then}
 use Rattle.fisca_names.proofs.Some.{left}
 use Rattle.fisca_names.specs.Seen.{NotesTitles, all_titles_within, same_within, titles_within}
 use Rattle.fisca_tables.specs.declared.role.Role.{Role}
-use Rattle.fisca_names.specs.declared.within.Within.{Within}
 use Rattle.fisca_names.proofs.meets.some_is_variable.Goals as goal
 
 pub returns-then-branch : goal.returns-then-branch

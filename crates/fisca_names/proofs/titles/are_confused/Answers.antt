@@ -1,4 +1,4 @@
-use Rattle.std.proofs.Common.{◌≡◌, ◌∙◌, [], drop, false, sym, ap, subst, true}
+use Rattle.std.proofs.Common.{◌≡◌, ◌∙◌, [], drop, false, sym, subst, true}
 use Rattle.std.proofs.Math.ListN.{drop_of_length-le}
 use Rattle.fisca_names.proofs.Confused.{again_clash, notes_none, notes_stop, notes_then}
 use Rattle.fisca_names.proofs.Some.{left}

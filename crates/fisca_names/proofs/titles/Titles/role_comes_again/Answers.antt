@@ -1,4 +1,4 @@
-use Rattle.std.proofs.Common.{List, ℕ, Bool, ◌∷◌, refl, ap, subst}
+use Rattle.std.proofs.Common.{List, ℕ, ◌∷◌, refl, subst}
 use Rattle.std.proofs.lemmas.Result.{IfOk-weaker}
 use Rattle.std.specs.Prelude.{map}
 use Rattle.fisca_names.proofs.Confused.{notes_here, notes_next}

@@ -1,4 +1,4 @@
-use Rattle.std.proofs.Common.{List, ◌+◌, drop, sym, ap, subst, true}
+use Rattle.std.proofs.Common.{sym, ap, subst, true}
 use Rattle.std.specs.Prelude.{map}
 use Rattle.fisca_names.proofs.Confused.{notes_here, notes_next}
 use Rattle.fisca_names.proofs.Some.{left}

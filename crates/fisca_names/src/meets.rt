@@ -18,7 +18,8 @@ fn title_is_variable<'a>(
     constant: &'a [u8],
     title: &Text<'a>,
 ) -> Result<bool, AllocError>
-    ensures { IfOk result (NotesTitles (contains same_within variables.now) (contains same_within titles.old) (contains same_within titles.new) (within_all constant.now (title.now ∷ []))) }
+    ensures { IfOk result (NotesTitles (contains same_within variables.now)
+        (contains same_within titles.old) (contains same_within titles.new) (within_all constant.now (title.now ∷ []))) }
 {
     let within = Within {
         constant: Text::borrowed(constant),
@@ -39,7 +40,8 @@ fn role_is_variable<'a>(
     constant: &'a [u8],
     role: &Role<'a>,
 ) -> Result<bool, AllocError>
-    ensures { IfOk result (NotesTitles (contains same_within variables.now) (contains same_within titles.old) (contains same_within titles.new) (titles_within constant.now role.now)) }
+    ensures { IfOk result (NotesTitles (contains same_within variables.now)
+        (contains same_within titles.old) (contains same_within titles.new) (titles_within constant.now role.now)) }
 {
     if title_is_variable(alloc, titles, variables, constant, &role.key)? {
         return Ok(true);
@@ -58,7 +60,8 @@ pub(crate) fn some_is_variable<'a>(
     constant: &'a [u8],
     roles: &[Role<'a>],
 ) -> Result<bool, AllocError>
-    ensures { IfOk result (NotesTitles (contains same_within variables.now) (contains same_within titles.old) (contains same_within titles.new) (all_titles_within constant.now roles.now)) }
+    ensures { IfOk result (NotesTitles (contains same_within variables.now)
+        (contains same_within titles.old) (contains same_within titles.new) (all_titles_within constant.now roles.now)) }
 {
     for role in roles {
         if role_is_variable(alloc, titles, variables, constant, role)? {

@@ -1,5 +1,6 @@
 -- Statements, noted one after another.
-use Rattle.std.proofs.Common.{◌≡◌, ℕ, List, [], ◌∷◌, ◌++◌, Bool, true, false, ◌&&◌, ◌||◌, Option, Some, None, refl, sym, ap, ◌∙◌, if◌then◌else◌}
+use Rattle.std.proofs.Common.{◌≡◌, ℕ, List, [], ◌∷◌, ◌++◌, Bool, true, false, true≢false, ◌&&◌, ◌||◌, Option, Some, None, refl, sym, ap, ◌∙◌, if◌then◌else◌}
+use Rattle.std.proofs.lemmas.List.Folds.{list_any-append}
 use Rattle.std.specs.List.{list_any}
 use Rattle.std.specs.Str.{bytes_eq}
 use Rattle.fisca_attributes.specs.EntityForms.{entity_of}
@@ -11,10 +12,7 @@ use Rattle.fisca_names.specs.Seen.{Holds, Notes, NotesNames, NotesTitles, TellsO
 use Rattle.fisca_names.specs.Titles.{Adds}
 use Rattle.fisca_names.specs.declared.seen.Seen.{Seen}
 use Rattle.fisca_names.specs.declared.within.Within.{Within}
-use Rattle.fisca_names.proofs.Some.{or_none, and_none, some_alike, some_and, some_behind, some_none, some_pair, some_seen, same_turned, one_more}
-
-true_false : true ≡ false → ⊥
-true_false e = cc
+use Rattle.fisca_names.proofs.Some.{or_none, and_none, and_shared, some_alike, some_and, some_none, some_pair, some_seen, same_turned, one_more}
 
 -- Names of the rule set
 
@@ -30,25 +28,15 @@ names_more old new earlier t h adds u = one_more (λ (e : Statement). among (nam
 
 -- Roles and variables
 
-and_shared : (a b c : Bool) → ((a && b) || (a && c)) ≡ (a && (b || c))
-and_shared true b c = refl
-and_shared false b c = refl
-
 -- the names of all roles, each tested for its constant and for its name
 named_within : (constant : List ℕ) (rs : List Role) (test : List ℕ → Bool) (name : List ℕ)
     → list_any (λ w. test w.constant && bytes_eq w.name name) (all_titles_within constant rs) ≡ (test constant && list_any (bears name) rs)
 named_within constant [] test name = sym (and_none (test constant))
 named_within constant (r ∷ rs) test name =
-    some_behind is (titles_within constant r) (all_titles_within constant rs)
+    list_any-append (λ (w : Within). test w.constant && bytes_eq w.name name) (titles_within constant r) (all_titles_within constant rs)
     ∙ (λ i. first i || named_within constant rs test name i)
     ∙ and_shared (test constant) (bears name r) (list_any (bears name) rs)
   where
-    is : Within → Bool
-    is w = test w.constant && bytes_eq w.name name
-
-    within : List ℕ → Within
-    within t = record { constant = constant; name = t }
-
     first : list_any (λ (w : Within). test w.constant && bytes_eq w.name name) (titles_within constant r) ≡ (test constant && bears name r)
     first =
         some_seen (λ (t : List ℕ). let w : Within = record { constant = constant; name = t } in w) (λ (w : Within). test w.constant && bytes_eq w.name name) (r.key ∷ listed r.plural)
@@ -106,7 +94,7 @@ or_left a b e = ap (λ c. c || b) e
 pub clash_of_names : (old new : Seen) (t : Statement) → true ≡ (repeat (names_of t) || list_any (has_name old) (names_of t)) → Notes old new t true
 clash_of_names old new t told = record {
   told = λ earlier h. or_left (names_clash earlier t) (own_clash t || list_any (λ e. meet e t) earlier) (told ∙ names_told old earlier t h);
-  noted = λ e. absurd (true_false e);
+  noted = λ e. absurd (true≢false e);
 }
 
 pub entity_named_again : (old new : Seen) (a : Assigned) (has : List ℕ → Bool) (ts : List (List ℕ)) (b : Bool)
@@ -117,7 +105,7 @@ entity_named_again old new a has ts b n same again =
 pub clash_of_titles : (old new : Seen) (a : Assigned) → true ≡ titles_clash (titles (roles_in (entity_of a))) → Notes old new (entity a) true
 clash_of_titles old new a told = record {
   told = λ earlier h. or_right (names_clash earlier (entity a)) (own_clash (entity a) || list_any (λ e. meet e (entity a)) earlier) (or_left (own_clash (entity a)) (list_any (λ e. meet e (entity a)) earlier) told);
-  noted = λ e. absurd (true_false e);
+  noted = λ e. absurd (true≢false e);
 }
 
 both_false : (a b c d e : Bool) → false ≡ a → false ≡ b → e ≡ c → d ≡ c → e ≡ (a || (b || d))
@@ -170,7 +158,7 @@ variable_met_here old mid new line name t xs same again names told = record {
   told = λ earlier h. both_false (names_clash earlier (variable line name xs)) false _ (list_any (λ e. meet e (variable line name xs)) earlier) true
       (again ∙ sym (or_none (has_name old name)) ∙ names_told old earlier (variable line name xs) h) refl
       (told ∙ sym (or_none (has_title old (record { constant = t; name = name })))) (sym (variable_met old earlier line name xs (Some t) h same));
-  noted = λ e. absurd (true_false e);
+  noted = λ e. absurd (true≢false e);
 }
 
 -- what has no roles and is no variable meets nothing

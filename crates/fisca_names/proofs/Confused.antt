@@ -1,12 +1,13 @@
 -- Keys and plurals of one entity, noted one after another.
-use Rattle.std.proofs.Common.{◌≡◌, List, [], ◌∷◌, ◌++◌, Bool, true, false, ◌||◌, refl, sym, ap, subst, ◌∙◌, append_assoc, append-nil}
+use Rattle.std.proofs.Common.{◌≡◌, List, [], ◌∷◌, ◌++◌, Bool, true, false, true≢false, ◌||◌, refl, sym, ap, subst, ◌∙◌, append_assoc, append-nil}
+use Rattle.std.proofs.lemmas.List.Folds.{list_any-append}
 use Rattle.std.specs.List.{list_any}
 use Rattle.std.specs.Str.{bytes_eq}
 use Rattle.fisca_typing.specs.Tables.{capitals}
 use Rattle.fisca_names.specs.Clashes.{Titled, among, are_confused, texts_of, titles_clash}
 use Rattle.fisca_names.specs.Titles.{again, has_capitals, has_text, Holds, Notes, NotesOne}
 use Rattle.fisca_names.specs.declared.titles.Titles.{Titles}
-use Rattle.fisca_names.proofs.Some.{or_none, or_later, some_behind, some_none, some_or, some_pair, one_more}
+use Rattle.fisca_names.proofs.Some.{or_none, or_later, some_none, some_or, some_pair, one_more}
 
 told_of : (s : Titles) (earlier : List Titled) (t : Titled) → Holds s earlier
     → (has_capitals s (capitals t.key) || list_any (has_text s) (texts_of t)) ≡ list_any (λ e. are_confused e t) earlier
@@ -14,9 +15,6 @@ told_of s earlier t h =
     (λ i. h.capital (capitals t.key) i || list_any (λ u. h.text u i) (texts_of t))
     ∙ ap (λ b. list_any (λ e. bytes_eq (capitals e.key) (capitals t.key)) earlier || b) (sym (some_pair (λ e u. among (texts_of e) u) earlier (texts_of t)))
     ∙ sym (some_or (λ e. bytes_eq (capitals e.key) (capitals t.key)) (λ e. list_any (λ u. among (texts_of e) u) (texts_of t)) earlier)
-
-true_false : true ≡ false → ⊥
-true_false e = cc
 
 pub notes_one : (old new : Titles) (t : Titled) (b : Bool) → NotesOne old new t b → Notes old new (t ∷ []) b
 notes_one old new t b n = record {
@@ -53,7 +51,7 @@ notes_then old mid new xs ys b first later = record {
 pub notes_stop : (old mid new : Titles) (xs ys : List Titled) → Notes old mid xs true → Notes old new (xs ++ ys) true
 notes_stop old mid new xs ys first = record {
   told = λ earlier h. ap (λ c. c || again (earlier ++ xs) ys) (first.told earlier h) ∙ sym (again_behind earlier xs ys);
-  noted = λ e earlier h. absurd (true_false e);
+  noted = λ e earlier h. absurd (true≢false e);
 }
 
 -- the next one is not confused
@@ -70,7 +68,7 @@ again_from : (earlier ts : List Titled) → again earlier ts ≡ (list_any (λ e
 again_from earlier [] = sym (ap (λ b. b || false) (some_none earlier))
 again_from earlier (t ∷ ts) =
     ap (λ b. list_any (λ e. are_confused e t) earlier || b)
-    (again_from (earlier ++ t ∷ []) ts ∙ ap (λ b. b || titles_clash ts) (some_behind (λ e. list_any (are_confused e) ts) earlier (t ∷ [])))
+    (again_from (earlier ++ t ∷ []) ts ∙ ap (λ b. b || titles_clash ts) (list_any-append (λ e. list_any (are_confused e) ts) earlier (t ∷ [])))
     ∙ by (list_any (λ e. are_confused e t) earlier) (list_any (λ e. list_any (are_confused e) ts) earlier) (list_any (are_confused t) ts) (titles_clash ts)
     ∙ ap (λ b. b || (list_any (are_confused t) ts || titles_clash ts)) (sym (some_or (λ e. are_confused e t) (λ e. list_any (are_confused e) ts) earlier))
   where

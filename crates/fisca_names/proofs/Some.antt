@@ -1,6 +1,7 @@
 -- Whether some item of a list passes a test.
 use Rattle.std.proofs.Common.{◌≡◌, ℕ, suc, ◌+◌, ◌<◌, length, drop, get_or, add-one, List, [], ◌∷◌, ◌++◌, map, Bool, true, false, ◌&&◌, ◌||◌, refl, sym, ap, ◌∙◌}
 use Rattle.std.proofs.Math.Seq.{drop-cons}
+use Rattle.std.proofs.lemmas.List.Folds.{list_any-append}
 use Rattle.std.specs.List.{list_any}
 use Rattle.std.specs.Str.{bytes_eq}
 use Rattle.std.specs.Cmp.Lexicographic.{nat_list_eq_equiv}
@@ -29,7 +30,7 @@ pub and_none : (a : Bool) → (a && false) ≡ false
 and_none true = refl
 and_none false = refl
 
-and_shared : (a b c : Bool) → ((a && b) || (a && c)) ≡ (a && (b || c))
+pub and_shared : (a b c : Bool) → ((a && b) || (a && c)) ≡ (a && (b || c))
 and_shared true b c = refl
 and_shared false b c = refl
 
@@ -49,10 +50,6 @@ module _ {X : Type 0} where
   some_and b f [] = sym (and_none b)
   some_and b f (x ∷ xs) = ap (λ c. (b && f x) || c) (some_and b f xs) ∙ and_shared b (f x) (list_any f xs)
 
-  pub some_behind : (f : X → Bool) (xs ys : List X) → list_any f (xs ++ ys) ≡ (list_any f xs || list_any f ys)
-  some_behind f [] ys = refl
-  some_behind f (x ∷ xs) ys = ap (λ b. f x || b) (some_behind f xs ys) ∙ sym (or_later (f x) (list_any f xs) (list_any f ys))
-
   pub some_seen : {Y : Type 0} (view : X → Y) (f : Y → Bool) (xs : List X) → list_any f (map view xs) ≡ list_any (λ x. f (view x)) xs
   some_seen view f [] = refl
   some_seen view f (x ∷ xs) = ap (λ b. f (view x) || b) (some_seen view f xs)
@@ -69,7 +66,7 @@ same_turned s t = let laws = nat_list_eq_equiv in laws.symm s t
 pub one_more : {X : Type 0} (f : X → Bool) (xs : List X) (x : X) (new old b : Bool) → new ≡ (b || old) → old ≡ list_any f xs → b ≡ f x → new ≡ list_any f (xs ++ x ∷ [])
 one_more f xs x new old b after before same =
     after ∙ (λ i. same i || before i) ∙ or_turned (f x) (list_any f xs)
-    ∙ ap (λ c. list_any f xs || c) (sym (or_none (f x))) ∙ sym (some_behind f xs (x ∷ []))
+    ∙ ap (λ c. list_any f xs || c) (sym (or_none (f x))) ∙ sym (list_any-append f xs (x ∷ []))
 
 -- what is left begins with the item at hand
 pub left : {X : Type 0} (xs : List X) (i : ℕ) (x : X) → i < length xs → x ≡ get_or xs i x → drop i xs ≡ x ∷ drop (i + 1) xs

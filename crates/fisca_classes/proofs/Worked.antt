@@ -14,7 +14,7 @@ use Rattle.fisca_names.specs.declared.fault.BuildFault.{BuildFault}
 use Rattle.fisca_classes.specs.Build.{Whole, tables_of}
 use Rattle.fisca_attributes.specs.Values.{truth_of}
 use Rattle.fisca_attributes.specs.AttributeForms.{type_named, period_named, sharing_named}
-use Rattle.fisca_classes.specs.VariableForms.{attribute_fits, told_fits}
+use Rattle.fisca_variables.specs.VariableForms.{attribute_fits, told_fits}
 
 abbrev fault_in : Result Whole BuildFault → Option BuildFault
 fault_in (Ok w) = None

@@ -5,8 +5,10 @@ use Rattle.fisca_names.specs.Names.{Placed, placed_from, placed_in}
 use Rattle.fisca_params.specs.Results.{and_then}
 use Rattle.fisca_syntax.specs.Modules.{Statement}
 use Rattle.fisca_variables.specs.declared.declared.Declared.{Declared}
-use Rattle.fisca_classes.specs.Build.{Found, found_from, statement_found}
+use Rattle.fisca_classes.specs.Build.{Found, found_from, none_yet, statement_found}
 use Rattle.fisca_classes.specs.Passes.{all_found, found_behind}
+use Rattle.fisca_classes.specs.Views.{Tells}
+use Rattle.fisca_classes.proofs.Fitting.{tells_same}
 
 abbrev Step : Type 0
 Step = Found → Result Found BuildFault
@@ -62,3 +64,8 @@ all_end c place all b items h e = h ∙ ap (all_found c b place) e
 pub none_left : {X : Type 0} (n : ℕ) (xs : List X) → n ≡ 0 → n ≡ length xs → xs ≡ []
 none_left n [] e f = refl
 none_left n (x ∷ xs) e f = absurd (omega arith)
+
+-- as it is said of all statements
+pub placed_tell : {X : Type 0} (view : X → Found) (c : Declared) (ms : List (List Statement)) (r : Result X BuildFault)
+    → Tells view (all_found c none_yet 0 ms) r → Tells view (found_from c none_yet (placed_from 0 ms)) r
+placed_tell view c ms r g = tells_same view _ _ r g (sym (found_placed c none_yet 0 ms))

@@ -2,8 +2,7 @@
 use Rattle.std.proofs.Common.{◌≡◌, ◌∙◌, sym, ap, refl, ℕ, suc, List, [], ◌∷◌, ◌++◌, append_assoc}
 use Rattle.fisca_names.specs.Names.{Placed, placed_from, placed_in}
 use Rattle.fisca_syntax.specs.Modules.{Statement}
-use Rattle.fisca_tables.specs.declared.choices.Choices.{Choices}
-use Rattle.fisca_classes.specs.Build.{constant_of, constants_in, declared_in, enum_of, enums_in}
+use Rattle.fisca_classes.specs.Build.{constant_of, constants_in, enum_of, enums_in}
 use Rattle.fisca_classes.specs.Scans.{all_constants, all_enums, constants_of, enums_of}
 
 constants-more : (ps qs : List Placed) → constants_in (ps ++ qs) ≡ constants_in ps ++ constants_in qs

@@ -1,5 +1,5 @@
 -- What the modules of a rule set declare, or their first fault: names first, then attributes.
-use Rattle.std.specs.Prelude.{ℕ, suc, List, [], ◌∷◌, ◌++◌, map, length, Bool, true, false, ◌==◌, ◌||◌, nat_lt, if◌then◌else◌, Option, Some, None, Result, Ok, Err}
+use Rattle.std.specs.Prelude.{ℕ, List, [], ◌∷◌, ◌++◌, length, Bool, true, false, ◌==◌, ◌||◌, nat_lt, if◌then◌else◌, Result, Ok}
 use Rattle.std.specs.List.{list_any}
 use Rattle.fisca_expressions.specs.Tree.{Tree, Argument, bracketed, positional, keyword, entry, name}
 use Rattle.fisca_params.specs.Results.{and_then}

@@ -1,6 +1,7 @@
 //! Lists of entities.
 
 ghost use Rattle.std.specs.Prelude.{◌≡◌, map};
+ghost use Rattle.fisca_attributes.specs.Values.{bare as unwrapped, is_among};
 ghost use Rattle.fisca_expressions.specs.Views.{tree, argument_view};
 ghost use Rattle.fisca_nodes.specs.Outcomes.{Gives};
 ghost use Rattle.fisca_syntax.specs.Views.{assigned};
@@ -12,15 +13,29 @@ use fisca_syntax::Assignment;
 use fisca_tokens::Kind;
 use fisca_variables::Declared;
 
+/// Whether this is the constant of an entity.
+fn is_constant(declared: &Declared<'_>, name: &[u8]) -> bool
+    ensures { result ≡ is_among declared.now.constants name.now }
+{
+    declared.constants.contains(name)
+}
+
+/// Whether a value is the constant of an entity.
+fn is_entity(declared: &Declared<'_>, value: &Expr<'_>) -> bool
+    ensures { result ≡ spec.names_known declared.now (unwrapped (tree value.now)) }
+{
+    match bare(value) {
+        Expr::Name(name) => is_constant(declared, name.as_bytes()),
+        _ => false,
+    }
+}
+
 /// Whether an element of a list is the constant of an entity.
 fn is_known(declared: &Declared<'_>, argument: &Argument<'_>) -> bool
     ensures { result ≡ spec.is_known declared.now (argument_view argument.now) }
 {
     match argument {
-        Argument::Positional(value) => match bare(value) {
-            Expr::Name(name) => declared.constants.contains(name.as_bytes()),
-            _ => false,
-        },
+        Argument::Positional(value) => is_entity(declared, value),
         Argument::Keyword(..) | Argument::Entry(..) => false,
     }
 }

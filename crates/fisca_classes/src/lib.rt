@@ -12,9 +12,3 @@ mod statements;
 mod tables;
 
 pub use tables::tables_found;
-
-#[cfg(test)]
-mod tests {
-    #[test]
-    fn nothing() {}
-}

@@ -64,7 +64,7 @@ fn lines_fit(
 }
 
 /// The same as it is said of all lines before each.
-#[tactic(auto, using(crate::proofs::Lines::lines_tell))]
+#[tactic(auto, using(crate::proofs::Fitting::lines_tell))]
 fn items_fit(
     alloc: Global,
     declared: &Declared<'_>,

@@ -1,5 +1,6 @@
 //! Entities, of which just one is the persons.
 
+ghost use Rattle.std.specs.Prelude.{◌≡◌};
 ghost use Rattle.fisca_classes.specs.Build as spec;
 ghost use Rattle.fisca_classes.specs.Views.{Tells, found as found_view};
 ghost use Rattle.fisca_attributes.specs.EntityForms.{entity_of as entity_written};
@@ -16,6 +17,17 @@ use fisca_syntax::Assignment;
 use fisca_tables::Entity;
 use fisca_tokens::Kind;
 use std::alloc::Global;
+
+/// Nothing is found yet.
+pub(crate) fn nothing_found<'a>(alloc: Global) -> Found<'a>
+    ensures { found_view result ≡ spec.none_yet }
+{
+    Found {
+        entities: Vec::new(alloc),
+        has_person: false,
+        variables: Vec::new(alloc),
+    }
+}
 
 /// One entity more, unless it is the persons once more.
 fn with_entity<'a>(found: Found<'a>, entity: Entity<'a>) -> Result<Found<'a>, Kind>

@@ -1,7 +1,7 @@
 //! Statements from top to bottom, module by module.
 
 ghost use Rattle.std.specs.Prelude.{◌≡◌, map};
-ghost use Rattle.fisca_names.specs.Names.{told_at};
+ghost use Rattle.fisca_names.specs.Names.{placed_from, told_at};
 ghost use Rattle.fisca_syntax.specs.Views.{assigned, item, statement as statement_view, statements as statements_view};
 ghost use Rattle.fisca_params.specs.Results.{and_then};
 ghost use Rattle.fisca_classes.specs.Build as spec;
@@ -13,7 +13,7 @@ use crate::enums::members_fit;
 use crate::faults::fault_at;
 use crate::found::Found;
 use crate::lines::variable_in;
-use crate::persons::entity_found;
+use crate::persons::{entity_found, nothing_found, with_person};
 use fisca_names::BuildFault;
 use fisca_syntax::{Assignment, EnumClass, Module, Statement, VariableClass};
 use fisca_variables::Declared;
@@ -108,23 +108,43 @@ fn module_found<'a>(
     Ok(behind)
 }
 
-/// What is found in all modules, or the first fault.
-pub(crate) fn modules_found<'a>(
+/// What is found in all modules, one after another; or the first fault.
+fn modules_found<'a>(
     alloc: Global,
     declared: &Declared<'_>,
     modules: Vec<Module<'a>>,
 ) -> Result<Found<'a>, BuildFault>
     ensures { Tells found_view (passes.all_found declared.now spec.none_yet 0 (map statements_view modules.entry.items)) result }
 {
-    let mut found = Found {
-        entities: Vec::new(alloc),
-        has_person: false,
-        variables: Vec::new(alloc),
-    };
+    let mut found = nothing_found(alloc);
     let mut place = 0;
     for module in modules {
         found = module_found(alloc, declared, found, place, module.statements)?;
         place += 1;
     }
     Ok(found)
+}
+
+/// The same, as it is said of all statements.
+#[tactic(auto, using(crate::proofs::Passes::placed_tell))]
+fn all_found<'a>(
+    alloc: Global,
+    declared: &Declared<'_>,
+    modules: Vec<Module<'a>>,
+) -> Result<Found<'a>, BuildFault>
+    ensures { Tells found_view (spec.found_from declared.now spec.none_yet (placed_from 0 (map statements_view modules.entry.items))) result }
+{
+    modules_found(alloc, declared, modules)
+}
+
+/// What is found in all modules with the persons among it, or the first fault.
+pub(crate) fn whole_found<'a>(
+    alloc: Global,
+    declared: &Declared<'_>,
+    modules: Vec<Module<'a>>,
+) -> Result<Found<'a>, BuildFault>
+    ensures { Tells found_view
+        (and_then (spec.found_from declared.now spec.none_yet (placed_from 0 (map statements_view modules.entry.items))) spec.with_person) result }
+{
+    with_person(all_found(alloc, declared, modules)?)
 }

@@ -8,8 +8,7 @@ ghost use Rattle.fisca_classes.specs.Views.{Tells, whole};
 
 use crate::constants::declared_in;
 use crate::found::Found;
-use crate::persons::with_person;
-use crate::statements::modules_found;
+use crate::statements::whole_found;
 use fisca_names::BuildFault;
 use fisca_syntax::Module;
 use fisca_tables::{Entities, Enums, Variables};
@@ -30,7 +29,7 @@ pub fn tables_found<'a>(
         entities,
         has_person: _,
         variables,
-    } = with_person(modules_found(alloc, &declared, modules)?)?;
-    let variables = Variables::new(alloc, variables)?;
-    Ok((Entities::new(alloc, entities)?, declared.enums, variables))
+    } = whole_found(alloc, &declared, modules)?;
+    let found = Entities::new(alloc, entities)?;
+    Ok((found, declared.enums, Variables::new(alloc, variables)?))
 }

@@ -1,21 +1,19 @@
 -- The lines of a variable beside all before each, and beside what is kept of these.
-use Rattle.std.proofs.Common.{◌≡◌, ◌≢◌, ◌∙◌, sym, ap, refl, ℕ, List, [], ◌∷◌, ◌++◌, append_assoc, Bool, true, false, not, ◌&&◌, ◌||◌, cond, if◌then◌else◌, Option, Some, None, is_some, Result, Ok, Err}
+use Rattle.std.proofs.Common.{◌≡◌, ◌∙◌, ap, refl, ℕ, List, [], ◌∷◌, ◌++◌, Bool, true, false, not, ◌&&◌, ◌||◌, if◌then◌else◌, Some, is_some, Result, Ok, Err}
 use Rattle.std.specs.List.{list_any}
 use Rattle.std.specs.Str.{bytes_eq}
 use Rattle.fisca_attributes.specs.AttributeForms.{value_at}
 use Rattle.fisca_attributes.specs.Values.{bad_attribute}
-use Rattle.fisca_expressions.specs.Tree.{Tree}
 use Rattle.fisca_names.specs.declared.fault.BuildFault.{BuildFault}
 use Rattle.fisca_names.specs.Names.{told_at}
 use Rattle.fisca_params.specs.Results.{and_then}
 use Rattle.fisca_syntax.specs.Modules.{Item, attribute, formula}
 use Rattle.fisca_time.specs.Instant.{CivilDate}
 use Rattle.fisca_tokens.specs.declared.fault.Kind.{Kind}
-use Rattle.fisca_tokens.specs.declared.fault.Kind.TheVariants.{Memory}
 use Rattle.fisca_variables.specs.declared.declared.Declared.{Declared}
-use Rattle.fisca_variables.specs.Lines.{Before, behind_line, nothing_before}
-use Rattle.fisca_variables.specs.VariableForms.{attribute_fits, has_attribute, if_allowed, item_fits, may_have_formulas, same_day, starts_on}
-use Rattle.fisca_classes.specs.Build.{items_fit, line_of_item}
+use Rattle.fisca_variables.specs.Lines.{Before, nothing_before}
+use Rattle.fisca_variables.specs.VariableForms.{attribute_fits, has_attribute, if_allowed, may_have_formulas, same_day, starts_on}
+use Rattle.fisca_classes.specs.Build.{items_fit}
 use Rattle.fisca_classes.specs.Passes.{lines_fit}
 use Rattle.fisca_classes.specs.Views.{Tells}
 
@@ -83,7 +81,7 @@ goes-on place line (Ok tt) b next rest e = e
 goes-on place line (Err k) b next rest e = refl
 
 goes-if : (place line : ℕ) (allowed : Bool) (b : Before) (next : Before → Result (Unit {0}) BuildFault) (rest : Result (Unit {0}) BuildFault) → rest ≡ next b
-    → and_then (told_at place line (if_allowed allowed tt)) (λ _. rest) ≡ and_then (told_at place line (if_allowed allowed b)) next
+    → and_then (told_at place line (if_allowed {X = Unit {0}} allowed tt)) (λ _. rest) ≡ and_then (told_at place line (if_allowed allowed b)) next
 goes-if place line true b next rest e = e
 goes-if place line false b next rest e = refl
 
@@ -96,7 +94,7 @@ same-lines c place all earlier (attribute a ∷ xs) =
     (λ b. lines_fit c place all (may_have_formulas all) b xs) _ more
 same-lines c place all earlier (formula f ∷ xs) =
     let more = same-lines c place all (earlier ++ formula f ∷ []) xs ∙ ap (λ b. lines_fit c place all (may_have_formulas all) b xs) (before-formula earlier f) in
-    ap (λ known. and_then (told_at place f.line (if_allowed (may_have_formulas all && not known) tt)) (λ _. items_fit c place all (earlier ++ formula f ∷ []) xs)) (day-there f.start earlier)
+    ap (λ known. and_then (told_at place f.line (if_allowed {X = Unit {0}} (may_have_formulas all && not known) tt)) (λ _. items_fit c place all (earlier ++ formula f ∷ []) xs)) (day-there f.start earlier)
     ∙ goes-if place f.line (may_have_formulas all && not (list_any (λ d. same_day d f.start) (days_of earlier))) _
     (λ b. lines_fit c place all (may_have_formulas all) b xs) _ more
 
@@ -107,10 +105,3 @@ tells_same view o p (Err k) g e = λ h. e ∙ g h
 pub lines_tell : (c : Declared) (place : ℕ) (xs : List Item) (r : Result (Unit {0}) BuildFault)
     → Tells (λ _. tt) (lines_fit c place xs (may_have_formulas xs) nothing_before xs) r → Tells (λ _. tt) (items_fit c place xs [] xs) r
 lines_tell c place xs r g = tells_same (λ _. tt) _ _ r g (same-lines c place xs [] xs)
-
--- a fault told of its line
-pub told_fault : {Y : Type 0} (o : Result Y Kind) (place line : ℕ) (k : Kind) (f : BuildFault)
-    → (k ≢ Memory → o ≡ Err k) → f.kind ≡ k → (k ≢ Memory → f ≡ record { «module» = place; line = line; kind = k }) → f.kind ≢ Memory → told_at place line o ≡ Err f
-told_fault {Y} o place line k f fails same told h =
-    let other : k ≢ Memory = λ e. h (same ∙ e) in
-    ap (told_at place line) (fails other) ∙ ap (λ g. Err g) (sym (told other))

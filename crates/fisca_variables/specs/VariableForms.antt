@@ -231,7 +231,7 @@ abbrev pub item_fits : Declared → List Item → List Item → Item → Result 
 item_fits c all earlier (attribute a) = if has_attribute a.name earlier then bad_attribute else attribute_fits c all a.name a.value
 item_fits c all earlier (formula f) = if_allowed (may_have_formulas all && not (starts_on f.start earlier)) tt
 
--- A variable as it is declared: what is given, with formulas as they are written. It is seen so in `Records`.
+-- A variable as it is declared: what is given, with formulas as they are written.
 
 pub record Written : Type 0 where
   pub «module» : ℕ

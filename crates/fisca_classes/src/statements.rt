@@ -117,7 +117,7 @@ fn modules_found<'a>(
     ensures { Tells found_view (passes.all_found declared.now spec.none_yet 0 (map statements_view modules.entry.items)) result }
 {
     let mut found = nothing_found(alloc);
-    let mut place = 0;
+    let mut place: usize = 0;
     for module in modules {
         found = module_found(alloc, declared, found, place, module.statements)?;
         place += 1;

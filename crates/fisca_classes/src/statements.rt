@@ -51,7 +51,8 @@ fn variable_found<'a>(
     place: usize,
     class: VariableClass<'a>,
 ) -> Result<Found<'a>, BuildFault>
-    ensures { Tells found_view (spec.behind_variable (found_view found.entry) (spec.variable_in declared.now place class.entry.line class.entry.name (map item class.entry.items.items))) result }
+    ensures { Tells found_view (spec.behind_variable (found_view found.entry)
+        (spec.variable_in declared.now place class.entry.line class.entry.name (map item class.entry.items.items))) result }
 {
     let variable = variable_in(alloc, declared, place, class)?;
     let Found {

@@ -14,7 +14,7 @@ use Rattle.fisca_names.specs.declared.fault.BuildFault.{BuildFault}
 use Rattle.fisca_classes.specs.Build.{Whole, tables_of}
 use Rattle.fisca_attributes.specs.Values.{truth_of}
 use Rattle.fisca_attributes.specs.AttributeForms.{type_named, period_named, sharing_named}
-use Rattle.fisca_classes.specs.VariableForms.{attribute_fits, told_fits}
+use Rattle.fisca_variables.specs.VariableForms.{attribute_fits, told_fits}
 
 abbrev fault_in : Result Whole BuildFault → Option BuildFault
 fault_in (Ok w) = None
@@ -40,6 +40,9 @@ word t = name t
 
 abbrev list : List Tree → Tree
 list es = bracketed bracket.Square (row (map positional es))
+
+abbrev grouped : Tree → Tree
+grouped e = bracketed bracket.Round (last (positional e))
 
 abbrev map_of : List Argument → Tree
 map_of xs = bracketed bracket.Curly (row xs)
@@ -216,6 +219,15 @@ unknown_entity_listed = refl
 known_entities : told ((entities (record { line = 1; name = codes "entities"; value = list (word (codes "Person") ∷ []) }) ∷ person 2 ∷ []) ∷ []) ≡ None
 unfolding tables_of said_within truth_of type_named period_named sharing_named attribute_fits told_fits is_keyword number_of_literal
 known_entities = refl
+
+-- parentheses group alone, around the list and around what it has
+unknown_entity_grouped : told ((first_person ∷ entities (record { line = 2; name = codes "entities"; value = grouped (list (word (codes "Person") ∷ grouped (word (codes "Nobody")) ∷ [])) }) ∷ []) ∷ []) ≡ at 0 2 kind.UnknownName
+unfolding tables_of said_within truth_of type_named period_named sharing_named attribute_fits told_fits is_keyword number_of_literal
+unknown_entity_grouped = refl
+
+grouped_entities : told ((first_person ∷ entities (record { line = 2; name = codes "entities"; value = grouped (list (grouped (word (codes "Person")) ∷ [])) }) ∷ []) ∷ []) ≡ None
+unfolding tables_of said_within truth_of type_named period_named sharing_named attribute_fits told_fits is_keyword number_of_literal
+grouped_entities = refl
 
 -- an unknown entity or Enum is UnknownName, and a value that is no name BadAttribute, of the attribute's line
 variable_of_nobody : told ((first_person ∷ variable 3 (codes "v") (three 4 (codes "float") (codes "Nobody") (codes "MONTH")) ∷ []) ∷ []) ≡ at 0 4 kind.UnknownName

@@ -1,7 +1,7 @@
 -- What the modules of a rule set declare, or their first fault: names first, then attributes.
-use Rattle.std.specs.Prelude.{ℕ, suc, List, [], ◌∷◌, ◌++◌, map, length, Bool, true, false, ◌==◌, ◌||◌, nat_lt, if◌then◌else◌, Option, Some, None, Result, Ok, Err}
+use Rattle.std.specs.Prelude.{ℕ, List, [], ◌∷◌, ◌++◌, length, Bool, true, false, ◌==◌, ◌||◌, nat_lt, if◌then◌else◌, Result, Ok}
 use Rattle.std.specs.List.{list_any}
-use Rattle.fisca_expressions.specs.Tree.{Tree, Argument, bracketed, positional, name}
+use Rattle.fisca_expressions.specs.Tree.{Tree, Argument, bracketed, positional, keyword, entry, name}
 use Rattle.fisca_params.specs.Results.{and_then}
 use Rattle.fisca_syntax.specs.declared.module.Member.{Member}
 use Rattle.fisca_syntax.specs.Modules.{Assigned, Item, attribute, formula, Statement, entity, entities, choices, variable}
@@ -14,9 +14,9 @@ use Rattle.fisca_names.specs.declared.fault.BuildFault.{BuildFault}
 use Rattle.fisca_names.specs.Clashes.{is_order}
 use Rattle.fisca_names.specs.Names.{Placed, placed_from, fault_at, told_at, names_from}
 use Rattle.fisca_attributes.specs.EntityForms.{entity_of}
-use Rattle.fisca_attributes.specs.Values.{bad_attribute, items, is_among}
-use Rattle.fisca_classes.specs.declared.declared.Declared.{Declared}
-use Rattle.fisca_classes.specs.VariableForms.{Written, unknown_name, item_fits, variable_of}
+use Rattle.fisca_attributes.specs.Values.{bad_attribute, bare, items, is_among}
+use Rattle.fisca_variables.specs.declared.declared.Declared.{Declared}
+use Rattle.fisca_variables.specs.VariableForms.{Written, unknown_name, item_fits, variable_of}
 
 -- What is declared anywhere
 
@@ -24,23 +24,25 @@ abbrev pub members_of : List Member → List (List ℕ × List ℕ)
 members_of [] = []
 members_of (m ∷ ms) = if is_order m then members_of ms else (m.name, content m.text) ∷ members_of ms
 
+abbrev pub constant_of : Statement → List (List ℕ)
+constant_of (entity a) = a.name ∷ []
+constant_of (entities a) = []
+constant_of (choices line n ms) = []
+constant_of (variable line n xs) = []
+
 abbrev pub constants_in : List Placed → List (List ℕ)
 constants_in [] = []
-constants_in (p ∷ ps) = constant_of p.statement ++ constants_in ps where
-  constant_of : Statement → List (List ℕ)
-  constant_of (entity a) = a.name ∷ []
-  constant_of (entities a) = []
-  constant_of (choices line n ms) = []
-  constant_of (variable line n xs) = []
+constants_in (p ∷ ps) = constant_of p.statement ++ constants_in ps
+
+abbrev pub enum_of : Statement → List Choices
+enum_of (entity a) = []
+enum_of (entities a) = []
+enum_of (choices line n ms) = record { name = n; members = members_of ms } ∷ []
+enum_of (variable line n xs) = []
 
 abbrev pub enums_in : List Placed → List Choices
 enums_in [] = []
-enums_in (p ∷ ps) = enum_of p.statement ++ enums_in ps where
-  enum_of : Statement → List Choices
-  enum_of (entity a) = []
-  enum_of (entities a) = []
-  enum_of (choices line n ms) = record { name = n; members = members_of ms } ∷ []
-  enum_of (variable line n xs) = []
+enums_in (p ∷ ps) = enum_of p.statement ++ enums_in ps
 
 abbrev pub declared_in : List Placed → Declared
 declared_in ps = record { constants = constants_in ps; enums = enums_in ps }
@@ -62,17 +64,26 @@ with_entity f e = if and_both e.is_person (has_person f.entities) then bad_attri
   and_both true b = b
   and_both false b = false
 
+abbrev pub names_known : Declared → Tree → Bool
+names_known c (name t) = is_among c.constants t
+names_known c e = false
+
+-- a constant of an entity; parentheses group alone, also around the list
 abbrev pub is_known : Declared → Argument → Bool
-is_known c (positional (name t)) = is_among c.constants t
-is_known c a = false
+is_known c (positional e) = names_known c (bare e)
+is_known c (keyword k e) = false
+is_known c (entry k e) = false
 
 abbrev pub all_known : Declared → List Argument → Bool
 all_known c [] = true
 all_known c (a ∷ more) = if is_known c a then all_known c more else false
 
+abbrev pub listed_within : Tree → List Argument
+listed_within (bracketed b xs) = items xs
+listed_within e = []
+
 abbrev pub listed_in : Tree → List Argument
-listed_in (bracketed b xs) = items xs
-listed_in e = []
+listed_in e = listed_within (bare e)
 
 -- `entities = [NAME, ..]`
 abbrev pub entities_fit : Declared → Assigned → Result (Unit {0}) Kind
@@ -96,11 +107,14 @@ abbrev pub variable_in : Declared → ℕ → ℕ → List ℕ → List Item →
 variable_in c place line n xs =
     and_then (items_fit c place xs [] xs) (λ _. told_at place line (variable_of c place line n xs))
 
+abbrev pub behind_variable : Found → Result Written BuildFault → Result Found BuildFault
+behind_variable f r = and_then r (λ v. Ok (record f { variables = f.variables ++ v ∷ [] }))
+
 abbrev pub statement_found : Declared → Found → ℕ → Statement → Result Found BuildFault
 statement_found c f place (entity a) = told_at place a.line (and_then (entity_of a) (with_entity f))
 statement_found c f place (entities a) = and_then (told_at place a.line (entities_fit c a)) (λ _. Ok f)
 statement_found c f place (choices line n ms) = and_then (told_at place line (members_fit ms)) (λ _. Ok f)
-statement_found c f place (variable line n xs) = and_then (variable_in c place line n xs) (λ v. Ok (record f { variables = f.variables ++ v ∷ [] }))
+statement_found c f place (variable line n xs) = behind_variable f (variable_in c place line n xs)
 
 abbrev pub found_from : Declared → Found → List Placed → Result Found BuildFault
 found_from c f [] = Ok f
@@ -120,10 +134,14 @@ pub record Whole : Type 0 where
 abbrev pub none_yet : Found
 none_yet = record { entities = []; variables = [] }
 
+-- the second pass, which ends with the persons
+abbrev pub second_pass : List Placed → Result Whole BuildFault
+second_pass ps =
+    and_then (and_then (found_from (declared_in ps) none_yet ps) with_person) (λ f.
+    Ok (record { entities = f.entities; enums = enums_in ps; variables = f.variables }))
+
 abbrev pub declared_by : List Placed → Result Whole BuildFault
-declared_by ps =
-    and_then (names_from [] ps) (λ _. and_then (found_from (declared_in ps) none_yet ps) (λ f. and_then (with_person f) (λ g.
-    Ok (record { entities = g.entities; enums = enums_in ps; variables = g.variables }))))
+declared_by ps = and_then (names_from [] ps) (λ _. second_pass ps)
 
 -- what modules declare, or their first fault
 unfoldable pub tables_of : List (List Statement) → Result Whole BuildFault

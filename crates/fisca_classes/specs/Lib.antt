@@ -1,2 +1,4 @@
 pub mod Build
-pub mod VariableForms
+pub mod Passes
+pub mod Scans
+pub mod Views

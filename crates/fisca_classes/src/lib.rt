@@ -1,10 +1,14 @@
-//! What the modules of a rule set declare together, or their first fault: names first, then attributes and entities.
+//! What the modules of a rule set declare together, or the first fault of their attributes and entities.
 #![tactic(auto)]
 
-mod basics;
-mod declared;
-mod told;
+mod constants;
+mod entities;
+mod enums;
+mod faults;
+mod found;
+mod lines;
+mod persons;
+mod statements;
+mod tables;
 
-pub use basics::Basics;
-pub use declared::Declared;
-pub use told::Told;
+pub use tables::tables_found;

@@ -129,12 +129,12 @@ fn tables(alloc: Global, parameters: ParamTree) -> Result<Tables<'static>, Alloc
 }
 
 /// How many locals of the first formula of a module have values, or the place and the kind of its first fault.
-fn counted(
+fn counted<'n>(
     alloc: Global,
-    tables: &Tables<'_>,
+    tables: &'n Tables<'n>,
     entity: usize,
     value_type: ValueType,
-    text: &str,
+    text: &'n str,
 ) -> Result<Option<Result<usize, (usize, Kind)>>, AllocError> {
     let Ok(module) = read_module(alloc, text) else {
         return Ok(None);

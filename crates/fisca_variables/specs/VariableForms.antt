@@ -2,7 +2,7 @@
 use Rattle.std.specs.Prelude.{ℕ, ℤ, pos, negsuc, List, [], ◌∷◌, map, Bool, true, false, not, ◌==◌, ◌&&◌, ◌||◌, nat_lt, slice_get, is_ok, if◌then◌else◌, Option, Some, None, option_map, is_some, Result, Ok, Err, codes}
 use Rattle.std.specs.Result.{result_ok}
 use Rattle.std.specs.Str.{bytes_eq}
-use Rattle.fisca_expressions.specs.Tree.{Tree, name, text, attribute as dotted}
+use Rattle.fisca_expressions.specs.Tree.{Tree, text}
 use Rattle.fisca_expressions.specs.Words.{is}
 use Rattle.fisca_num.specs.Number.{Number, zero_number}
 use Rattle.fisca_params.specs.Results.{and_then}
@@ -15,9 +15,9 @@ use Rattle.fisca_tokens.specs.declared.fault.Kind.{Kind}
 use Rattle.fisca_tokens.specs.declared.fault.Kind.TheVariants as kind
 use Rattle.fisca_typing.specs.Tables.{place_in}
 use Rattle.fisca_tables.specs.declared.choices.Choices.{Choices}
-use Rattle.fisca_classes.specs.declared.declared.Declared.{Declared}
-use Rattle.fisca_classes.specs.declared.basics.Basics.{Basics}
-use Rattle.fisca_classes.specs.declared.told.Told.{Told}
+use Rattle.fisca_variables.specs.declared.declared.Declared.{Declared}
+use Rattle.fisca_variables.specs.declared.basics.Basics.{Basics}
+use Rattle.fisca_variables.specs.declared.told.Told.{Told}
 use Rattle.fisca_tables.specs.declared.variable.DeclaredType.{DeclaredType}
 use Rattle.fisca_tables.specs.declared.variable.DeclaredType.TheVariants as type
 use Rattle.fisca_tables.specs.declared.variable.DefaultValue.{DefaultValue}
@@ -231,7 +231,7 @@ abbrev pub item_fits : Declared → List Item → List Item → Item → Result 
 item_fits c all earlier (attribute a) = if has_attribute a.name earlier then bad_attribute else attribute_fits c all a.name a.value
 item_fits c all earlier (formula f) = if_allowed (may_have_formulas all && not (starts_on f.start earlier)) tt
 
--- A variable as it is declared: what is given, with formulas as they are written. It is seen so in `Records`.
+-- A variable as it is declared: what is given, with formulas as they are written.
 
 pub record Written : Type 0 where
   pub «module» : ℕ

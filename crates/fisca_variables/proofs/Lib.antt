@@ -1,0 +1,4 @@
+pub mod Days
+pub mod Formulas
+pub mod Named
+pub mod Steps

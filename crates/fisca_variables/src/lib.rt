@@ -1,0 +1,23 @@
+//! What the attributes of a variable say, each by itself and beside the others.
+#![tactic(auto)]
+
+mod basics;
+mod before;
+mod declared;
+mod defaults;
+mod fits;
+mod lines;
+mod members;
+mod needed;
+mod said;
+mod told;
+mod types;
+mod variable;
+
+pub use basics::Basics;
+pub use before::Before;
+pub use declared::Declared;
+pub use lines::behind_line;
+pub use told::Told;
+pub use types::may_have_formulas;
+pub use variable::variable_of;

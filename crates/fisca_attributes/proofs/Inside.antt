@@ -1,26 +1,8 @@
--- What stands alone between brackets.
-use Rattle.std.proofs.Common.{◌≡◌, List, [], ◌∷◌, length, Bool, true, false, None, refl}
-use Rattle.std.specs.Prelude.{map}
+-- What stands between brackets.
+use Rattle.std.proofs.Common.{◌≡◌, List, [], ◌∷◌, Bool, true, false, refl}
 use Rattle.fisca_expressions.specs.Tree.{Argument}
-use Rattle.fisca_expressions.specs.Views.{argument_view, series_of}
-use Rattle.fisca_expressions.specs.declared.tree.Argument.{Argument as Given}
-use Rattle.fisca_attributes.specs.Values.{alone, items}
-
-with_comma : (xs : List Argument) → None ≡ alone (series_of true xs)
-with_comma [] = refl
-with_comma (a ∷ []) = refl
-with_comma (a ∷ c ∷ xs) = refl
-
--- nothing does before a comma
-pub alone_comma : (m : Bool) (xs : List Argument) → m ≡ true → None ≡ alone (series_of m xs)
-alone_comma true xs e = with_comma xs
-alone_comma false xs e = cc
-
--- nor where there are none or more
-pub alone_many : (m : Bool) (xs : List Given) → (length xs ≡ 1 → ⊥) → None ≡ alone (series_of m (map argument_view xs))
-alone_many m [] h = refl
-alone_many m (a ∷ []) h = absurd (h refl)
-alone_many m (a ∷ c ∷ xs) h = refl
+use Rattle.fisca_expressions.specs.Views.{series_of}
+use Rattle.fisca_attributes.specs.Values.{items}
 
 -- what stands between brackets is what the commas part
 pub items_of_series : (m : Bool) (xs : List Argument) → items (series_of m xs) ≡ xs

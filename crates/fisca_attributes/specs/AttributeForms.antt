@@ -1,5 +1,6 @@
 -- Attributes of variables, each by itself.
 use Rattle.std.specs.Prelude.{ℕ, List, [], ◌∷◌, if◌then◌else◌, Option, Some, None, Result, Ok, Err, codes}
+use Rattle.fisca_expressions.specs.Groups.{bare}
 use Rattle.fisca_expressions.specs.Tree.{Tree, name, attribute as dotted}
 use Rattle.fisca_expressions.specs.Words.{is}
 use Rattle.fisca_params.specs.Results.{and_then}
@@ -11,7 +12,7 @@ use Rattle.fisca_tables.specs.declared.variable.SetInput.{SetInput}
 use Rattle.fisca_tables.specs.declared.variable.SetInput.TheVariants as set_input
 use Rattle.fisca_attributes.specs.declared.attributes.TypeName.{TypeName}
 use Rattle.fisca_attributes.specs.declared.attributes.TypeName.TheVariants as named
-use Rattle.fisca_attributes.specs.Values.{bad_attribute, bare, name_value}
+use Rattle.fisca_attributes.specs.Values.{bad_attribute, name_value}
 
 -- the value of the first attribute of this name
 abbrev pub value_at : List ℕ → List Item → Option Tree

@@ -1,5 +1,6 @@
 -- Entities and their roles, as they are written.
 use Rattle.std.specs.Prelude.{ℕ, List, [], ◌∷◌, length, Bool, true, false, not, ◌==◌, if◌then◌else◌, Result, Ok, codes}
+use Rattle.fisca_expressions.specs.Groups.{bare}
 use Rattle.fisca_expressions.specs.declared.tree.Bracket.{Bracket}
 use Rattle.fisca_expressions.specs.declared.tree.Bracket.TheVariants as bracket
 use Rattle.fisca_expressions.specs.Tree.{Tree, Series, Argument, bracketed, applied}
@@ -8,7 +9,7 @@ use Rattle.fisca_tokens.specs.declared.fault.Kind.{Kind}
 use Rattle.fisca_syntax.specs.Modules.{Assigned}
 use Rattle.fisca_tables.specs.declared.entity.Entity.{Entity}
 use Rattle.fisca_tables.specs.declared.role.Role.{Role}
-use Rattle.fisca_attributes.specs.Values.{bad_attribute, bare, items, text_value, truth_value, count_value, texts_value, list_value, Field, fields_from, value_of, needed, perhaps, or_else}
+use Rattle.fisca_attributes.specs.Values.{bad_attribute, items, text_value, truth_value, count_value, texts_value, list_value, Field, fields_from, value_of, needed, perhaps, or_else}
 
 abbrev pub role_labels : List (List ℕ)
 role_labels = codes "key" ∷ codes "plural" ∷ codes "label" ∷ codes "doc" ∷ codes "max" ∷ codes "subroles" ∷ []
@@ -65,6 +66,6 @@ abbrev pub arguments_of : Tree → List Argument
 arguments_of (applied s f xs) = items xs
 arguments_of e = []
 
--- `NAME = build_entity(..)`
+-- `NAME = build_entity(..)`, perhaps in parentheses
 abbrev pub entity_of : Assigned → Result Entity Kind
-entity_of a = and_then (fields_from entity_labels [] (arguments_of a.value)) (entity_of_fields a.name)
+entity_of a = and_then (fields_from entity_labels [] (arguments_of (bare a.value))) (entity_of_fields a.name)

@@ -8,7 +8,8 @@ use Rattle.fisca_expressions.specs.declared.tree.Prefix.{Prefix}
 use Rattle.fisca_expressions.specs.declared.tree.Prefix.TheVariants as prefix
 use Rattle.fisca_expressions.specs.declared.tree.Suffix.{Suffix}
 use Rattle.fisca_expressions.specs.declared.tree.Suffix.TheVariants as suffix
-use Rattle.fisca_expressions.specs.Tree.{Tree, Series, Argument, name, number, text, bracketed, attribute, applied, prefixed, binary, compare, nothing, last, next, positional, keyword, entry}
+use Rattle.fisca_expressions.specs.Tree.{Tree, Series, Argument, name, number, text, bracketed, attribute, applied, prefixed, nothing, last, next, positional, keyword, entry}
+use Rattle.fisca_expressions.specs.Groups.{bare}
 use Rattle.fisca_expressions.specs.Words.{is, is_name}
 use Rattle.fisca_num.specs.declared.faults.NumFault.{NumFault}
 use Rattle.fisca_num.specs.Literal.{number_of_literal}
@@ -24,37 +25,6 @@ bad_attribute = Err kind.BadAttribute
 
 abbrev pub or_bad : {X : Type 0} → Option X → Result X Kind
 or_bad o = ok_or o kind.BadAttribute
-
--- Parentheses group alone
-
-abbrev pub unwrapped : Bracket → Option Tree → Tree → Tree
-unwrapped bracket.Round (Some inner) e = inner
-unwrapped bracket.Round None e = e
-unwrapped bracket.Square inner e = e
-unwrapped bracket.Curly inner e = e
-
--- what stands in parentheses, however many
-abbrev mutual
-  pub bare : Tree → Tree
-  bare (name t) = name t
-  bare (number t) = number t
-  bare (text t) = text t
-  bare (bracketed b xs) = unwrapped b (alone xs) (bracketed b xs)
-  bare (attribute e t) = attribute e t
-  bare (applied s f xs) = applied s f xs
-  bare (prefixed p e) = prefixed p e
-  bare (binary o a b) = binary o a b
-  bare (compare o a b) = compare o a b
-
-  pub alone : Series → Option Tree
-  alone nothing = None
-  alone (last a) = bare_argument a
-  alone (next a xs) = None
-
-  pub bare_argument : Argument → Option Tree
-  bare_argument (positional e) = Some (bare e)
-  bare_argument (keyword k e) = None
-  bare_argument (entry k e) = None
 
 -- what the commas part
 abbrev pub items : Series → List Argument

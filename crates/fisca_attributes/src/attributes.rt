@@ -6,8 +6,8 @@ ghost use Rattle.fisca_syntax.specs.Views.{item};
 ghost use Rattle.fisca_nodes.specs.Outcomes.{Gives};
 ghost use Rattle.fisca_attributes.specs.AttributeForms as spec;
 
-use crate::values::{bare, name_value};
-use fisca_expressions::Expr;
+use crate::values::name_value;
+use fisca_expressions::{Expr, bare};
 use fisca_syntax::Item;
 use fisca_tables::{SetInput, Text};
 use fisca_time::Unit;

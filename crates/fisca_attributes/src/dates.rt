@@ -2,6 +2,7 @@
 
 ghost use Rattle.std.specs.Prelude.{◌≡◌, Some, map};
 ghost use Rattle.std.specs.Result.{result_ok};
+ghost use Rattle.fisca_expressions.specs.Groups.{bare as bare_tree};
 ghost use Rattle.fisca_expressions.specs.Views.{tree, argument_view};
 ghost use Rattle.fisca_nodes.specs.Outcomes.{Gives};
 ghost use Rattle.fisca_attributes.specs.Values as spec;
@@ -9,8 +10,8 @@ ghost use Rattle.fisca_time.specs.Instant.{instant_of_text, instant_if_real};
 
 use crate::dotted::Dotted;
 use crate::lists::{parted, positional};
-use crate::values::{bare, name_value, text_value, whole_value};
-use fisca_expressions::{Argument, Expr, Suffix};
+use crate::values::{name_value, text_value, whole_value};
+use fisca_expressions::{Argument, Expr, Suffix, bare};
 use fisca_tables::Text;
 use fisca_time::Instant;
 use fisca_tokens::Kind;
@@ -80,7 +81,7 @@ fn date_of_numbers(numbers: &[u64]) -> Result<Instant, Kind>
 
 /// Whether a call is one of `date`.
 fn is_date(called: &Expr<'_>) -> bool
-    ensures { result ≡ spec.is_date (spec.bare (tree called.now)) }
+    ensures { result ≡ spec.is_date (bare_tree (tree called.now)) }
 {
     match bare(called) {
         Expr::Name(word) => word.as_bytes() == b"date".as_slice(),

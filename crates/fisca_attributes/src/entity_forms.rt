@@ -1,6 +1,7 @@
 //! Entities and their roles, as they are written.
 
 ghost use Rattle.std.specs.Prelude.{◌≡◌, ◌==◌, [], false, length, map, option_map};
+ghost use Rattle.fisca_expressions.specs.Groups.{bare as bare_tree};
 ghost use Rattle.fisca_expressions.specs.Views.{tree, argument_view};
 ghost use Rattle.fisca_syntax.specs.Views.{assigned};
 ghost use Rattle.fisca_attributes.specs.EntityForms as spec;
@@ -10,8 +11,8 @@ ghost use Rattle.fisca_attributes.specs.Values.{each, needed, or_else, perhaps, 
 
 use crate::fields::{Field, Form, read_fields, value_of};
 use crate::lists::{list_of, parted, positional, texts_value};
-use crate::values::{bare, count_value, text_value, truth_value};
-use fisca_expressions::{Argument, Bracket, Expr};
+use crate::values::{count_value, text_value, truth_value};
+use fisca_expressions::{Argument, Bracket, Expr, bare};
 use fisca_syntax::Assignment;
 use fisca_tables::{Entity, Role, Roles, Text, Texts};
 use fisca_tokens::Kind;
@@ -168,11 +169,11 @@ fn entity_of_fields<'a>(
     })
 }
 
-/// The arguments of a call.
+/// The arguments of a call, perhaps in parentheses.
 fn arguments_of<'e, 'a>(value: &'e Expr<'a>) -> &'e [Argument<'a>]
-    ensures { map argument_view result.now ≡ spec.arguments_of (tree value.now) }
+    ensures { map argument_view result.now ≡ spec.arguments_of (bare_tree (tree value.now)) }
 {
-    match value {
+    match bare(value) {
         Expr::Applied(_, _, inside) => parted(inside.items.as_slice(), inside.comma),
         _ => &[],
     }

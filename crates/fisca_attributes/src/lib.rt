@@ -14,4 +14,4 @@ pub use dates::{date_value, dotted_value, instant_value};
 pub use dotted::Dotted;
 pub use entity_forms::{entity_of, perhaps_text};
 pub use lists::{list_of, parted, positional, references_value};
-pub use values::{bare, name_value, number_value, text_value, truth_value};
+pub use values::{name_value, number_value, text_value, truth_value};

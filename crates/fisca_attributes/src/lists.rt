@@ -5,8 +5,8 @@ ghost use Rattle.fisca_expressions.specs.Views.{tree, argument_view, series_of};
 ghost use Rattle.fisca_nodes.specs.Outcomes.{Gives};
 ghost use Rattle.fisca_attributes.specs.Values as spec;
 
-use crate::values::{bare, text_value};
-use fisca_expressions::{Argument, Bracket, Expr};
+use crate::values::text_value;
+use fisca_expressions::{Argument, Bracket, Expr, bare};
 use fisca_tables::{Text, Texts};
 use fisca_tokens::Kind;
 use std::alloc::Global;

@@ -5,66 +5,12 @@ ghost use Rattle.fisca_expressions.specs.Views.{tree, argument_view, series_of};
 ghost use Rattle.fisca_nodes.specs.Outcomes.{Gives};
 ghost use Rattle.fisca_attributes.specs.Values as spec;
 
-use fisca_expressions::{Argument, Bracket, Expr, Prefix, is_name};
+use fisca_expressions::{Argument, Bracket, Expr, Prefix, bare, is_name};
 use fisca_nodes::content;
 use fisca_num::{Fraction, NumFault};
 use fisca_tables::Text;
 use fisca_tokens::Kind;
 use std::alloc::Global;
-
-/// What stands in parentheses, or else the whole.
-fn unwrapped<'e, 'a>(
-    bracket: Bracket,
-    inner: Option<&'e Expr<'a>>,
-    whole: &'e Expr<'a>,
-) -> &'e Expr<'a>
-    ensures { tree result.now ≡ spec.unwrapped bracket (option_map (λ e. tree e.now) inner.entry) (tree whole.now) }
-{
-    if bracket != Bracket::Round {
-        return whole;
-    }
-    inner.unwrap_or(whole)
-}
-
-/// A value without the parentheses around it.
-#[cycle(bare)]
-pub fn bare<'e, 'a>(value: &'e Expr<'a>) -> &'e Expr<'a>
-    ensures { tree result.now ≡ spec.bare (tree value.now) }
-{
-    let Expr::Bracketed(bracket, inside) = value else {
-        return value;
-    };
-    unwrapped(
-        *bracket,
-        alone(inside.items.as_slice(), inside.comma),
-        value,
-    )
-}
-
-/// What stands alone between brackets, if it does, without the parentheses around it.
-#[cycle(bare)]
-fn alone<'e, 'a>(items: &'e [Argument<'a>], comma: bool) -> Option<&'e Expr<'a>>
-    ensures { option_map (λ e. tree e.now) result ≡ spec.alone (series_of comma (map argument_view items.now)) }
-{
-    if comma {
-        return None;
-    }
-    if items.len() != 1 {
-        return None;
-    }
-    bare_argument(&items[0])
-}
-
-/// A value without a label, without the parentheses around it.
-#[cycle(bare)]
-fn bare_argument<'e, 'a>(argument: &'e Argument<'a>) -> Option<&'e Expr<'a>>
-    ensures { option_map (λ e. tree e.now) result ≡ spec.bare_argument (argument_view argument.now) }
-{
-    match argument {
-        Argument::Positional(value) => Some(bare(value)),
-        Argument::Keyword(..) | Argument::Entry(..) => None,
-    }
-}
 
 /// A text in quotes.
 pub fn text_value<'a>(alloc: Global, value: &Expr<'a>) -> Result<Text<'a>, Kind>

@@ -15,7 +15,7 @@ use Rattle.fisca_variables.specs.Lines.{Before, nothing_before}
 use Rattle.fisca_variables.specs.VariableForms.{attribute_fits, has_attribute, if_allowed, may_have_formulas, same_day, starts_on}
 use Rattle.fisca_classes.specs.Build.{items_fit}
 use Rattle.fisca_classes.specs.Passes.{lines_fit}
-use Rattle.fisca_classes.specs.Views.{Tells}
+use Rattle.fisca_names.specs.Outcomes.{Tells}
 
 abbrev names_of : List Item → List (List ℕ)
 names_of [] = []

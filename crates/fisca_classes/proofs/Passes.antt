@@ -7,7 +7,7 @@ use Rattle.fisca_syntax.specs.Modules.{Statement}
 use Rattle.fisca_variables.specs.declared.declared.Declared.{Declared}
 use Rattle.fisca_classes.specs.Build.{Found, found_from, none_yet, statement_found}
 use Rattle.fisca_classes.specs.Passes.{all_found, found_behind}
-use Rattle.fisca_classes.specs.Views.{Tells}
+use Rattle.fisca_names.specs.Outcomes.{Tells}
 use Rattle.fisca_classes.proofs.Fitting.{tells_same}
 
 abbrev Step : Type 0

@@ -1,6 +1,7 @@
 -- What the modules of a rule set declare, or their first fault: names first, then attributes.
 use Rattle.std.specs.Prelude.{ℕ, List, [], ◌∷◌, ◌++◌, length, Bool, true, false, ◌==◌, ◌||◌, nat_lt, if◌then◌else◌, Result, Ok}
 use Rattle.std.specs.List.{list_any}
+use Rattle.fisca_expressions.specs.Groups.{bare}
 use Rattle.fisca_expressions.specs.Tree.{Tree, Argument, bracketed, positional, keyword, entry, name}
 use Rattle.fisca_params.specs.Results.{and_then}
 use Rattle.fisca_syntax.specs.declared.module.Member.{Member}
@@ -14,7 +15,7 @@ use Rattle.fisca_names.specs.declared.fault.BuildFault.{BuildFault}
 use Rattle.fisca_names.specs.Clashes.{is_order}
 use Rattle.fisca_names.specs.Names.{Placed, placed_from, fault_at, told_at, names_from}
 use Rattle.fisca_attributes.specs.EntityForms.{entity_of}
-use Rattle.fisca_attributes.specs.Values.{bad_attribute, bare, items, is_among}
+use Rattle.fisca_attributes.specs.Values.{bad_attribute, items, is_among}
 use Rattle.fisca_variables.specs.declared.declared.Declared.{Declared}
 use Rattle.fisca_variables.specs.VariableForms.{Written, unknown_name, item_fits, variable_of}
 

@@ -1,14 +1,15 @@
 //! Lists of entities.
 
 ghost use Rattle.std.specs.Prelude.{◌≡◌, map};
-ghost use Rattle.fisca_attributes.specs.Values.{bare as unwrapped, is_among};
+ghost use Rattle.fisca_attributes.specs.Values.{is_among};
+ghost use Rattle.fisca_expressions.specs.Groups.{bare as unwrapped};
 ghost use Rattle.fisca_expressions.specs.Views.{tree, argument_view};
 ghost use Rattle.fisca_nodes.specs.Outcomes.{Gives};
 ghost use Rattle.fisca_syntax.specs.Views.{assigned};
 ghost use Rattle.fisca_classes.specs.Build as spec;
 
-use fisca_attributes::{bare, parted};
-use fisca_expressions::{Argument, Expr};
+use fisca_attributes::parted;
+use fisca_expressions::{Argument, Expr, bare};
 use fisca_syntax::Assignment;
 use fisca_tokens::Kind;
 use fisca_variables::Declared;

@@ -7,7 +7,7 @@ ghost use Rattle.fisca_variables.specs.Lines as lines;
 ghost use Rattle.fisca_variables.specs.VariableForms as forms;
 ghost use Rattle.fisca_classes.specs.Build as spec;
 ghost use Rattle.fisca_classes.specs.Passes as passes;
-ghost use Rattle.fisca_classes.specs.Views.{Tells};
+ghost use Rattle.fisca_names.specs.Outcomes.{Tells};
 
 use crate::faults::fault_at;
 use fisca_names::BuildFault;

@@ -2,7 +2,8 @@
 
 ghost use Rattle.std.specs.Prelude.{◌≡◌};
 ghost use Rattle.fisca_classes.specs.Build as spec;
-ghost use Rattle.fisca_classes.specs.Views.{Tells, found as found_view};
+ghost use Rattle.fisca_classes.specs.Views.{found as found_view};
+ghost use Rattle.fisca_names.specs.Outcomes.{Tells};
 ghost use Rattle.fisca_attributes.specs.EntityForms.{entity_of as entity_written};
 ghost use Rattle.fisca_names.specs.Names.{told_at};
 ghost use Rattle.fisca_nodes.specs.Outcomes.{Gives};

@@ -6,7 +6,8 @@ ghost use Rattle.fisca_syntax.specs.Views.{assigned, item, statement as statemen
 ghost use Rattle.fisca_params.specs.Results.{and_then};
 ghost use Rattle.fisca_classes.specs.Build as spec;
 ghost use Rattle.fisca_classes.specs.Passes as passes;
-ghost use Rattle.fisca_classes.specs.Views.{Tells, found as found_view};
+ghost use Rattle.fisca_classes.specs.Views.{found as found_view};
+ghost use Rattle.fisca_names.specs.Outcomes.{Tells};
 
 use crate::entities::entities_fit;
 use crate::enums::members_fit;

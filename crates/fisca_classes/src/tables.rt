@@ -4,7 +4,8 @@ ghost use Rattle.std.specs.Prelude.{◌≡◌, map};
 ghost use Rattle.fisca_names.specs.Names.{placed_from};
 ghost use Rattle.fisca_syntax.specs.Views.{statements};
 ghost use Rattle.fisca_classes.specs.Build.{second_pass};
-ghost use Rattle.fisca_classes.specs.Views.{Tells, whole};
+ghost use Rattle.fisca_classes.specs.Views.{whole};
+ghost use Rattle.fisca_names.specs.Outcomes.{Tells};
 
 use crate::constants::declared_in;
 use crate::found::Found;

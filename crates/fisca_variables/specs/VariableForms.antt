@@ -2,6 +2,7 @@
 use Rattle.std.specs.Prelude.{ℕ, ℤ, pos, negsuc, List, [], ◌∷◌, map, Bool, true, false, not, ◌==◌, ◌&&◌, ◌||◌, nat_lt, slice_get, is_ok, if◌then◌else◌, Option, Some, None, option_map, is_some, Result, Ok, Err, codes}
 use Rattle.std.specs.Result.{result_ok}
 use Rattle.std.specs.Str.{bytes_eq}
+use Rattle.fisca_expressions.specs.Groups.{bare}
 use Rattle.fisca_expressions.specs.Tree.{Tree, text}
 use Rattle.fisca_expressions.specs.Words.{is}
 use Rattle.fisca_num.specs.Number.{Number, zero_number}
@@ -29,7 +30,7 @@ use Rattle.fisca_attributes.specs.declared.attributes.TypeName.{TypeName}
 use Rattle.fisca_attributes.specs.declared.attributes.TypeName.TheVariants as named
 use Rattle.fisca_attributes.specs.AttributeForms.{value_at, type_value, period_value, sharing_value}
 use Rattle.fisca_attributes.specs.declared.dotted.Dotted.{Dotted}
-use Rattle.fisca_attributes.specs.Values.{bad_attribute, bare, text_value, truth_value, name_value, number_value, instant_value, references_value, dotted_value, date_value, or_bad, needed, perhaps, or_else}
+use Rattle.fisca_attributes.specs.Values.{bad_attribute, text_value, truth_value, name_value, number_value, instant_value, references_value, dotted_value, date_value, or_bad, needed, perhaps, or_else}
 
 abbrev pub unknown_name : {X : Type 0} → Result X Kind
 unknown_name = Err kind.UnknownName

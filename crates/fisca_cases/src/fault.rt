@@ -3,6 +3,7 @@
 use crate::written::Written;
 use fisca_commands::Refusal;
 use fisca_grid::AxesFault;
+use fisca_names::BuildFault;
 use fisca_num::NumFault;
 use fisca_params::ParamFault;
 use fisca_time::TimeFault;
@@ -29,6 +30,8 @@ pub enum Fault {
     Formula(#[from] FormulaFault),
     #[error("{0}")]
     Param(#[from] ParamFault),
+    #[error("{0}")]
+    Build(#[from] BuildFault),
     #[error("{0}")]
     Axes(#[from] AxesFault),
     #[error("{0}")]
@@ -59,6 +62,7 @@ impl Fault {
             Fault::Yaml(fault) => push_yaml(&mut told, *fault),
             Fault::Formula(fault) => push_formula(&mut told, *fault),
             Fault::Param(fault) => push_param(&mut told, *fault),
+            Fault::Build(fault) => push_build(&mut told, *fault),
             Fault::Axes(fault) => push(&mut told, *fault as u8, fault),
             Fault::Refused(refusal) => push_refusal(alloc, &mut told, refusal),
         }
@@ -85,6 +89,13 @@ fn push_yaml(told: &mut Written, fault: YamlFault) {
 
 fn push_formula(told: &mut Written, fault: FormulaFault) {
     push(told, fault.kind as u8, &fault.kind);
+    push_line(told, fault.line);
+}
+
+fn push_build(told: &mut Written, fault: BuildFault) {
+    push(told, fault.kind as u8, &fault.kind);
+    told.push(", module ");
+    told.push_number(fault.module as u64);
     push_line(told, fault.line);
 }
 

@@ -13,6 +13,7 @@ mod fault;
 mod grid;
 mod num;
 mod params;
+mod rule_sets;
 mod time;
 mod tokens;
 mod words;
@@ -110,6 +111,7 @@ fn ask(
             "params" => params::answer(alloc, operation.as_str(), files, rest),
             "tokens" => tokens::answer(alloc, operation.as_str(), rest),
             "expressions" => expressions::answer(alloc, operation.as_str(), rest),
+            "rule_sets" => rule_sets::answer(alloc, operation.as_str(), files),
             "grid" => grid::answer(alloc, operation.as_str(), rest),
             "commands" => commands::answer(alloc, operation.as_str(), files, rest),
             _ => Err(Fault::Malformed),

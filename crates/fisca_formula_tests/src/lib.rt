@@ -5,8 +5,6 @@
 #[cfg(test)]
 mod calls;
 #[cfg(test)]
-mod formulas;
-#[cfg(test)]
 mod nodes;
 #[cfg(test)]
 mod tables;

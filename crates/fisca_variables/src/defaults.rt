@@ -2,6 +2,7 @@
 
 ghost use Rattle.std.specs.Prelude.{◌≡◌, Ok, is_ok, option_map};
 ghost use Rattle.fisca_attributes.specs.Values as values;
+ghost use Rattle.fisca_expressions.specs.Groups.{bare as unwrapped};
 ghost use Rattle.fisca_expressions.specs.Views.{tree};
 ghost use Rattle.fisca_nodes.specs.Outcomes.{Gives};
 ghost use Rattle.fisca_variables.specs.VariableForms as spec;
@@ -9,9 +10,9 @@ ghost use Rattle.fisca_variables.specs.VariableForms as spec;
 use crate::declared::Declared;
 use crate::members::enum_default;
 use fisca_attributes::{
-    TypeName, bare, date_value, dotted_value, number_value, text_value, truth_value,
+    TypeName, date_value, dotted_value, number_value, text_value, truth_value,
 };
-use fisca_expressions::Expr;
+use fisca_expressions::{Expr, bare};
 use fisca_num::Fraction;
 use fisca_tables::DefaultValue;
 use fisca_tokens::Kind;
@@ -106,7 +107,7 @@ pub(crate) fn no_default<'a>(value_type: TypeName) -> Result<DefaultValue<'a>, K
 
 /// Whether a value is a text.
 fn is_text(value: &Expr<'_>) -> bool
-    ensures { result ≡ spec.is_text_in (values.bare (tree value.now)) }
+    ensures { result ≡ spec.is_text_in (unwrapped (tree value.now)) }
 {
     matches!(bare(value), Expr::Text(_))
 }

@@ -1,0 +1,36 @@
+//! Rule sets.
+
+use crate::fault::Fault;
+use fisca_params::{ParamTree, SourceFile};
+use fisca_rules::RuleSet;
+use fisca_syntax::{Module, read_module};
+use std::alloc::Global;
+
+/// The answer to a case of rule sets: what the call of this name gives for these files.
+pub fn answer(alloc: Global, operation: &str, files: &[SourceFile]) -> Result<String, Fault> {
+    match operation {
+        "build" => build(alloc, files),
+        _ => Err(Fault::Malformed),
+    }
+}
+
+/// The modules among the files, as they stand there.
+fn modules<'a>(alloc: Global, files: &'a [SourceFile]) -> Result<Vec<Module<'a>>, Fault> {
+    let mut modules = Vec::new(alloc);
+    for file in files {
+        if file.path().ends_with(".py") {
+            modules.push(read_module(alloc, file.text())?)?;
+        }
+    }
+    Ok(modules)
+}
+
+/// How many entities, variables and parameters the rule set of the files has.
+fn build(alloc: Global, files: &[SourceFile]) -> Result<String, Fault> {
+    let parameters = ParamTree::read(alloc, files)?;
+    let rules = RuleSet::build(alloc, parameters, modules(alloc, files)?)?;
+    let entities = rules.tables.entities.as_slice().len();
+    let variables = rules.tables.variables.as_slice().len();
+    let parameters = rules.tables.parameters.count();
+    Ok(format!(in alloc; "entities {entities}, variables {variables}, parameters {parameters}")?)
+}

@@ -1,0 +1,3 @@
+mod Built
+pub mod Each
+mod WorkedRules

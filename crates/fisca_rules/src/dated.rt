@@ -1,0 +1,12 @@
+//! Typed formulas with their first days.
+use fisca_formula::Formula;
+use fisca_time::Instant;
+
+/// A typed formula, and the day from which on it is in force.
+#[derive(Drop)]
+pub struct Dated {
+    /// The first day.
+    pub start: Instant,
+    /// What it works out.
+    pub formula: Formula,
+}

@@ -1,0 +1,158 @@
+//! The third pass: the formulas of all variables.
+ghost use Rattle.std.specs.Prelude.{◌≡◌, [], map, Some};
+ghost use Rattle.fisca_variables.specs.VariableForms.{written};
+ghost use Rattle.fisca_formula.specs.Formulas.{formula_view as seen, Tells as TellsPlace};
+ghost use Rattle.fisca_rules.specs.Rules as spec;
+ghost use Rattle.fisca_formula.specs.Views.{names as names_of};
+ghost use Rattle.fisca_names.specs.Outcomes.{Tells};
+ghost use Rattle.fisca_rules.specs.Views.{dated};
+ghost use Rattle.fisca_syntax.specs.Views.{formula_view};
+ghost use Rattle.fisca_tables.specs.Known.{tables as known};
+ghost use Rattle.fisca_tables.specs.KnownVariables.{value_type as known_type};
+ghost use Rattle.fisca_typing.specs.Formulas as typing;
+
+use crate::dated::Dated;
+use fisca_formula::{Formula as Typed, Names, Refusal, formula_of};
+use fisca_locals::Locals;
+use fisca_names::BuildFault;
+use fisca_syntax::Formula;
+use fisca_tables::{DeclaredType, Tables, Variable};
+use fisca_typing::ValueType;
+use std::alloc::Global;
+
+/// The line of the local at this place, or of the return behind them all.
+fn line_at(formula: &Formula<'_>, place: usize) -> usize
+    ensures { result ≡ spec.line_at (formula_view formula.now) place }
+{
+    match formula.locals.as_slice().get(place) {
+        Some(local) => local.line,
+        None => formula.returned.line,
+    }
+}
+
+/// A fault of a formula, told of the line of its statement.
+fn told(place: usize, formula: &Formula<'_>, refusal: Refusal) -> BuildFault
+    ensures { result ≡ record { «module» = place; line = spec.line_at (formula_view formula.now) refusal.place; kind = refusal.kind } }
+{
+    BuildFault {
+        module: place,
+        line: line_at(formula, refusal.place),
+        kind: refusal.kind,
+    }
+}
+
+/// What is known in a formula of a variable before its first local.
+fn names_for<'n, 'a>(
+    alloc: Global,
+    tables: &'n Tables<'a>,
+    variable: &'n Variable<'a>,
+    formula: &'n Formula<'a>,
+) -> Names<'n, 'a>
+    ensures names { names_of result ≡ spec.names_for (known tables.now) variable.now.entity (formula_view formula.now) }
+    ensures none { result.locals ≡ [] }
+{
+    Names {
+        tables,
+        entity: variable.entity,
+        asker_name: formula.signature.entity.as_bytes(),
+        period_name: formula.signature.period.as_bytes(),
+        reader_name: match &formula.signature.parameters {
+            Some(name) => Some(name.as_bytes()),
+            None => None,
+        },
+        locals: Locals::new(alloc),
+    }
+}
+
+/// What a formula of a variable of a type works out, or its first fault.
+#[tactic(auto, using(crate::proofs::Each::locals_are))]
+fn typed<'n, 'a>(
+    alloc: Global,
+    tables: &'n Tables<'a>,
+    variable: &'n Variable<'a>,
+    value_type: ValueType,
+    formula: &'n Formula<'a>,
+) -> Result<Typed, Refusal>
+    ensures { TellsPlace seen (typing.formula_of (spec.names_for (known tables.now) variable.now.entity (formula_view formula.now)) value_type (map spec.assigned_of (formula_view formula.now).locals) (formula_view formula.now).returned.value) result }
+{
+    let names = names_for(alloc, tables, variable, formula);
+    let locals = formula.locals.as_slice();
+    formula_of(alloc, names, value_type, locals, &formula.returned.value)
+}
+
+/// The same, with the day from which on it is in force.
+fn dated_of<'n, 'a>(
+    alloc: Global,
+    tables: &'n Tables<'a>,
+    variable: &'n Variable<'a>,
+    value_type: ValueType,
+    formula: &'n Formula<'a>,
+) -> Result<Dated, BuildFault>
+    ensures { Tells dated (spec.dated_of (known tables.now) variable.now.module variable.now.entity value_type (formula_view formula.now)) result }
+{
+    match typed(alloc, tables, variable, value_type, formula) {
+        Ok(made) => Ok(Dated {
+            start: formula.start,
+            formula: made,
+        }),
+        Err(refusal) => Err(told(variable.module, formula, refusal)),
+    }
+}
+
+/// The formulas of a variable of a type, from top to bottom, or the first fault.
+#[tactic(auto, using(crate::proofs::Each::all_behind_none))]
+fn formulas_by<'n, 'a>(
+    alloc: Global,
+    tables: &'n Tables<'a>,
+    variable: &'n Variable<'a>,
+    value_type: ValueType,
+) -> Result<Vec<Dated>, BuildFault>
+    ensures { Tells (λ fs. map dated fs.items) (spec.formulas_by (known tables.now) (written variable.now) (Some value_type)) result }
+{
+    let mut made = Vec::new(alloc);
+    for formula in variable.formulas.as_slice() {
+        made.push(dated_of(alloc, tables, variable, value_type, formula)?)?;
+    }
+    Ok(made)
+}
+
+/// The type of a variable's values in formulas. Days and texts have none.
+fn type_in_formulas(value_type: DeclaredType) -> Option<ValueType>
+    ensures { result ≡ known_type value_type }
+{
+    match value_type {
+        DeclaredType::Float | DeclaredType::Int => Some(ValueType::Number),
+        DeclaredType::Bool => Some(ValueType::Bool),
+        DeclaredType::Date | DeclaredType::Text => None,
+        DeclaredType::Enum(choices) => Some(ValueType::Enum(choices)),
+    }
+}
+
+/// The formulas of a variable, or the first fault. Those of days and texts have none.
+fn formulas_of<'n, 'a>(
+    alloc: Global,
+    tables: &'n Tables<'a>,
+    variable: &'n Variable<'a>,
+) -> Result<Vec<Dated>, BuildFault>
+    ensures { Tells (λ fs. map dated fs.items) (spec.formulas_of (known tables.now) (written variable.now)) result }
+{
+    match type_in_formulas(variable.value_type) {
+        Some(value_type) => formulas_by(alloc, tables, variable, value_type),
+        None => Ok(Vec::new(alloc)),
+    }
+}
+
+/// The formulas of each variable, or the first fault.
+#[tactic(auto, using(crate::proofs::Each::all_behind_none))]
+pub(crate) fn formulas_of_tables<'n, 'a>(
+    alloc: Global,
+    tables: &'n Tables<'a>,
+) -> Result<Vec<Vec<Dated>>, BuildFault>
+    ensures { Tells (λ fs. map (λ gs. map dated gs.items) fs.items) (spec.all_of (spec.formulas_of (known tables.now)) (map written tables.now.variables)) result }
+{
+    let mut made = Vec::new(alloc);
+    for variable in tables.variables.as_slice() {
+        made.push(formulas_of(alloc, tables, variable)?)?;
+    }
+    Ok(made)
+}

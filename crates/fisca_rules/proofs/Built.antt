@@ -53,7 +53,7 @@ pub formulas_fault : (ms : List (List Statement)) (t : Tables) (fault : BuildFau
 formulas_fault ms t fault n s f =
     found t.parameters ms (whole_of t) n s
     ∙ ap (λ o. and_then o (λ fs. Ok (record { entities = t.entities; enums = t.enums; variables = map written t.variables; parameters = t.parameters; formulas = fs })))
-        (ap (λ c. all_of (formulas_of c) (map written t.variables)) (sym (tables_known t)) ∙ f)
+    (ap (λ c. all_of (formulas_of c) (map written t.variables)) (sym (tables_known t)) ∙ f)
 
 pub built : (ms : List (List Statement)) (t : Tables) (fs : List (List Dated)) →
     names_from [] (placed_from 0 ms) ≡ Ok tt → second_pass (placed_from 0 ms) ≡ Ok (whole_of t) → all_of (formulas_of (tables.tables t)) (map written t.variables) ≡ Ok fs →
@@ -61,4 +61,4 @@ pub built : (ms : List (List Statement)) (t : Tables) (fs : List (List Dated)) �
 built ms t fs n s f =
     found t.parameters ms (whole_of t) n s
     ∙ ap (λ o. and_then o (λ gs. Ok (record { entities = t.entities; enums = t.enums; variables = map written t.variables; parameters = t.parameters; formulas = gs })))
-        (ap (λ c. all_of (formulas_of c) (map written t.variables)) (sym (tables_known t)) ∙ f)
+    (ap (λ c. all_of (formulas_of c) (map written t.variables)) (sym (tables_known t)) ∙ f)

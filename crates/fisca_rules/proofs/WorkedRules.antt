@@ -45,17 +45,17 @@ local line n e = record { line = line; name = n; value = e }
 -- a number of persons for each month, which begins on this line, with a formula of these locals that returns this
 abbrev computed : ℕ → List ℕ → List Assigned → Tree → Statement
 computed line n locals e = variable line n (
-  set line (codes "value_type") (codes "float")
-  ∷ set line (codes "entity") (codes "Person")
-  ∷ set line (codes "definition_period") (codes "MONTH")
-  ∷ formula (record {
-    line = line;
-    start = record { year = 1; month = 1; day = 1 };
-    signature = record { entity = codes "person"; period = codes "period"; parameters = None };
-    locals = locals;
-    returned = record { line = 90; value = e };
-  })
-  ∷ [])
+    set line (codes "value_type") (codes "float")
+    ∷ set line (codes "entity") (codes "Person")
+    ∷ set line (codes "definition_period") (codes "MONTH")
+    ∷ formula (record {
+      line = line;
+      start = record { year = 1; month = 1; day = 1 };
+      signature = record { entity = codes "person"; period = codes "period"; parameters = None };
+      locals = locals;
+      returned = record { line = 90; value = e };
+    })
+    ∷ [])
 
 abbrev one : Tree
 one = name (codes "True")

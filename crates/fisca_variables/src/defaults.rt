@@ -9,9 +9,7 @@ ghost use Rattle.fisca_variables.specs.VariableForms as spec;
 
 use crate::declared::Declared;
 use crate::members::enum_default;
-use fisca_attributes::{
-    TypeName, date_value, dotted_value, number_value, text_value, truth_value,
-};
+use fisca_attributes::{TypeName, date_value, dotted_value, number_value, text_value, truth_value};
 use fisca_expressions::{Expr, bare};
 use fisca_num::Fraction;
 use fisca_tables::DefaultValue;

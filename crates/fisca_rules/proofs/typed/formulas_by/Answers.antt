@@ -15,7 +15,7 @@ returns-in_err-dated_of c =
     let inside : l.formula-index < length items = omega (arith, c.loop-formula-test.true, l.auto.formula-index-end) in
     let cut = drop-cons items l.formula-index c.formula-item.result inside ∙ ap (λ a. a ∷ drop (suc l.formula-index) items) (sym c.formula-item.is) in
     rw (told.1, told.2) (λ h. behind_fault formula_view (dated_of (known c.args.tables.now) c.args.variable.now.module c.args.variable.now.entity c.args.value_type)
-        items l.formula-index c.formula-item.result _ (map dated l.made.items) (map formula_view c.args.variable.now.formulas) _ l.invariant cut (c.in_err-dated_of.ensures h))
+    items l.formula-index c.formula-item.result _ (map dated l.made.items) (map formula_view c.args.variable.now.formulas) _ l.invariant cut (c.in_err-dated_of.ensures h))
 
 pub returns : goal.returns
 returns c =
@@ -23,4 +23,4 @@ returns c =
     let items = c.as_slice-formula-items.result.now in
     let all : length items ≤ l.formula-index = omega (arith, c.loop-formula-test.false, l.auto.formula-index-end) in
     behind_end formula_view (dated_of (known c.args.tables.now) c.args.variable.now.module c.args.variable.now.entity c.args.value_type)
-        items l.formula-index (map dated l.made.items) (map formula_view c.args.variable.now.formulas) l.invariant all
+    items l.formula-index (map dated l.made.items) (map formula_view c.args.variable.now.formulas) l.invariant all

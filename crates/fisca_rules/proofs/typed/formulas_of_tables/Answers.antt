@@ -15,7 +15,7 @@ returns-in_err-formulas_of c =
     let inside : l.variable-index < length items = omega (arith, c.loop-variable-test.true, l.auto.variable-index-end) in
     let cut = drop-cons items l.variable-index c.variable-item.result inside ∙ ap (λ a. a ∷ drop (suc l.variable-index) items) (sym c.variable-item.is) in
     rw (told.1, told.2) (λ h. behind_fault written (formulas_of (known c.args.tables.now))
-        items l.variable-index c.variable-item.result _ (map (λ gs. map dated gs.items) l.made.items) (map written c.args.tables.now.variables) _ l.invariant cut (c.in_err-formulas_of.ensures h))
+    items l.variable-index c.variable-item.result _ (map (λ gs. map dated gs.items) l.made.items) (map written c.args.tables.now.variables) _ l.invariant cut (c.in_err-formulas_of.ensures h))
 
 pub returns : goal.returns
 returns c =
@@ -23,4 +23,4 @@ returns c =
     let items = c.as_slice-variable-items.result.now in
     let all : length items ≤ l.variable-index = omega (arith, c.loop-variable-test.false, l.auto.variable-index-end) in
     behind_end written (formulas_of (known c.args.tables.now))
-        items l.variable-index (map (λ gs. map dated gs.items) l.made.items) (map written c.args.tables.now.variables) l.invariant all
+    items l.variable-index (map (λ gs. map dated gs.items) l.made.items) (map written c.args.tables.now.variables) l.invariant all

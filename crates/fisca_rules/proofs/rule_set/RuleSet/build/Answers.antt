@@ -11,7 +11,7 @@ returns-in_err-names_differ c =
     let told = err_from_is_err_and c.from_residual.result c.from_residual.ensures.1 in
     let same : c.as_slice.result.now ≡ c.args.modules.items = search rules in
     rw (told.1, told.2) (λ h. names_fault c.args.parameters (map statements c.args.modules.items) _
-        (ap (λ ms. names_from [] (placed_from 0 (map statements ms))) (sym same) ∙ c.in_err-names_differ.ensures h))
+    (ap (λ ms. names_from [] (placed_from 0 (map statements ms))) (sym same) ∙ c.in_err-names_differ.ensures h))
 
 pub returns-in_err-entities : goal.returns-in_err-entities
 returns-in_err-entities c =

@@ -1,12 +1,12 @@
 -- A rule set, pass after pass.
 use Rattle.std.proofs.Common.{◌≡◌, ◌∙◌, sym, ap, List, [], ◌∷◌, map, refl}
-use Rattle.std.specs.Prelude.{Result, Ok, Err}
+use Rattle.std.specs.Prelude.{Ok, Err}
 use Rattle.fisca_classes.specs.Build.{Whole, second_pass, tables_of}
 use Rattle.fisca_names.specs.Names.{names_from, placed_from}
 use Rattle.fisca_names.specs.declared.fault.BuildFault.{BuildFault}
 use Rattle.fisca_params.specs.Results.{and_then}
 use Rattle.fisca_params.specs.Tree.{TreeNode}
-use Rattle.fisca_rules.specs.Rules.{Dated, Rules, all_of, formulas_of, known, known_variable, rules_of, with_formulas}
+use Rattle.fisca_rules.specs.Rules.{Dated, all_of, formulas_of, known, known_variable, rules_of, with_formulas}
 use Rattle.fisca_syntax.specs.Modules.{Statement}
 use Rattle.fisca_tables.specs.Known as tables
 use Rattle.fisca_tables.specs.KnownEntities.{entity}

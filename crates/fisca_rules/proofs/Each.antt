@@ -1,5 +1,5 @@
 -- One after another, up to the first fault.
-use Rattle.std.proofs.Common.{◌≡◌, ◌∙◌, sym, ap, ℕ, suc, ◌≤◌, length, drop, List, [], ◌∷◌, ◌++◌, map, refl, append_assoc, append-nil}
+use Rattle.std.proofs.Common.{◌≡◌, ◌∙◌, sym, ap, ℕ, ◌≤◌, length, drop, List, [], ◌∷◌, ◌++◌, map, refl, append_assoc, append-nil}
 use Rattle.std.proofs.Math.ListN.{drop_of_length-le}
 use Rattle.std.specs.Prelude.{Result, Ok, Err}
 use Rattle.fisca_formula.specs.Formulas.{assigned as local}
@@ -7,7 +7,6 @@ use Rattle.fisca_params.specs.Results.{and_then}
 use Rattle.fisca_rules.specs.Rules.{all_of, assigned_of}
 use Rattle.fisca_syntax.specs.Views.{assigned}
 use Rattle.fisca_syntax.specs.declared.module.Assignment.{Assignment}
-use Rattle.fisca_typing.specs.Formulas as typing
 
 -- behind those that are made
 abbrev pub all_behind : {X Y E : Type 0} → (X → Result Y E) → List Y → List X → Result (List Y) E

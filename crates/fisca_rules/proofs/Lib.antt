@@ -1,3 +1,5 @@
 mod Built
 pub mod Each
+mod Members
+mod Safe
 mod WorkedRules

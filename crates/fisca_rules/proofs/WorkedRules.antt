@@ -3,7 +3,7 @@ use Rattle.std.proofs.Common.{◌≡◌, ℕ, List, [], ◌∷◌, ◌++◌, ref
 use Rattle.std.specs.Prelude.{Option, Some, None, Result, Ok, Err, codes}
 use Rattle.fisca_attributes.specs.AttributeForms.{type_named, period_named}
 use Rattle.fisca_attributes.specs.Values.{truth_of}
-use Rattle.fisca_expressions.specs.Tree.{Tree, name, text, applied, nothing, last, next, keyword}
+use Rattle.fisca_expressions.specs.Tree.{Tree, name, text, applied, last, next, keyword}
 use Rattle.fisca_expressions.specs.Words.{is_keyword}
 use Rattle.fisca_expressions.specs.declared.tree.Suffix.TheVariants as suffix
 use Rattle.fisca_names.specs.declared.fault.BuildFault.{BuildFault}

@@ -1,2 +1,3 @@
 pub mod Rules
+pub mod Safety
 pub mod Views

@@ -2,8 +2,10 @@
 #![tactic(auto)]
 
 mod dated;
+mod law;
 mod rule_set;
 mod typed;
 
 pub use dated::Dated;
+pub use law::rule_sets_are_never_stuck;
 pub use rule_set::RuleSet;

@@ -1,5 +1,5 @@
-use Rattle.std.proofs.Common.{◌≡◌, ap, map}
-use Rattle.std.specs.Prelude.{Ok, Err}
+use Rattle.std.proofs.Common.{ap}
+use Rattle.std.specs.Prelude.{Ok}
 use Rattle.fisca_params.specs.Results.{and_then}
 use Rattle.fisca_rules.specs.Rules.{dated_of, told_in}
 use Rattle.fisca_syntax.specs.Views.{formula_view}

@@ -1,4 +1,4 @@
-use Rattle.std.proofs.Common.{arith, ◌≡◌, ◌∙◌, sym, ap, suc, ◌<◌, ◌≤◌, ◌∷◌, map, drop, drop-cons, length}
+use Rattle.std.proofs.Common.{arith, ◌∙◌, sym, ap, suc, ◌<◌, ◌≤◌, ◌∷◌, map, drop, drop-cons, length}
 use Rattle.std.proofs.lemmas.Result.{err_from_is_err_and}
 use Rattle.fisca_rules.specs.Rules.{dated_of}
 use Rattle.fisca_rules.specs.Views.{dated}

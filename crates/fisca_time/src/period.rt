@@ -280,8 +280,9 @@ impl Period {
     fn month_count(self) -> u32
         ensures { result ≡ months_of self }
     {
-        let parts = self.parts();
-        u32::from(months_in(parts.unit)) * u32::from(parts.size)
+        // The months in one of its unit, by the unit's place among all: 0 where none are counted.
+        const MONTHS: [u32; 4] = [0, 1, 12, 0];
+        MONTHS[(self.key >> 48) as usize] * (self.key % (1 << 16)) as u32
     }
 
     /// The number of days, 1 to 438,291. `None` for eternity.

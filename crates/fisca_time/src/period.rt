@@ -264,7 +264,8 @@ impl Period {
 
     /// The number of the first month, and for days of the first day.
     fn first(self) -> u32
-        ensures { result ≡ first_of self }
+        ensures value { result ≡ first_of self }
+        ensures period { IsTrue (is_period self) }
     {
         ((self.key >> 16) % (1 << 32)) as u32
     }
@@ -282,7 +283,7 @@ impl Period {
     {
         // The months in one of its unit, by the unit's place among all: 0 where none are counted.
         const MONTHS: [u32; 4] = [0, 1, 12, 0];
-        MONTHS[(self.key >> 48) as usize] * (self.key % (1 << 16)) as u32
+        MONTHS[(self.key >> 48) as usize % 4] * (self.key % (1 << 16)) as u32
     }
 
     /// The number of days, 1 to 438,291. `None` for eternity.
@@ -360,13 +361,18 @@ impl Period {
     fn length_in(self, unit: Unit) -> u32
         ensures { result ≡ length (subs self unit) }
     {
-        let parts = self.parts();
-        match (unit, parts.unit) {
-            (Unit::Day, _) => self.stop_day() - self.start_day(),
+        match unit {
+            Unit::Day => self.stop_day() - self.start_day(),
             // Days and eternity are not counted in months and have 0.
-            (Unit::Month, _) => self.month_count(),
-            (Unit::Year, Unit::Year) => u32::from(parts.size),
-            (Unit::Year, Unit::Day | Unit::Month | Unit::Eternity) | (Unit::Eternity, _) => 0,
+            Unit::Month => self.month_count(),
+            Unit::Year => {
+                let parts = self.parts();
+                match parts.unit {
+                    Unit::Year => u32::from(parts.size),
+                    Unit::Day | Unit::Month | Unit::Eternity => 0,
+                }
+            }
+            Unit::Eternity => 0,
         }
     }
 
@@ -377,8 +383,8 @@ impl Period {
     {
         match unit {
             Unit::Day => day_at(self.start_day() + i),
-            Unit::Month => month_at(self.parts().first + i),
-            Unit::Year => year_at(self.parts().first / 12 + i),
+            Unit::Month => month_at(self.first() + i),
+            Unit::Year => year_at(self.first() / 12 + i),
             Unit::Eternity => unreachable!(),
         }
     }

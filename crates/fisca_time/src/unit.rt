@@ -58,7 +58,7 @@ impl Unit {
         requires { rank ≤ 3 }
         ensures { result ≡ unit_ranked rank }
     {
-        match rank {
+        match rank % 4 {
             0 => Unit::Day,
             1 => Unit::Month,
             2 => Unit::Year,

@@ -187,7 +187,7 @@ impl Period {
         if form.unit == Unit::Day {
             Period::from_day(size, i128::from(start.day_number()))
         } else {
-            Period::from_month(form.unit, size, i128::from(start.month_number()))
+            Period::from_month(form.unit, size, i64::from(start.month_number()))
         }
     }
 
@@ -479,9 +479,7 @@ impl Period {
         let Parts { unit, first, size } = self.parts();
         match unit {
             Unit::Day => Period::from_day(size, i128::from(first) + i128::from(k)),
-            Unit::Month | Unit::Year => {
-                Period::from_month(unit, size, later_month(first, k, unit))
-            }
+            Unit::Month | Unit::Year => Period::months_moved(unit, size, first, k, unit),
             Unit::Eternity => Err(TimeFault::OutOfRange),
         }
     }
@@ -515,10 +513,18 @@ impl Period {
         requires counted { IsTrue (is_month own || is_year own) }
         requires some { 1 ≤ size }
         requires most { size ≤ 1200 }
+        requires first { first < 120_000 }
         ensures { result ≡ months_moved k unit own first size }
     {
         match unit {
-            Unit::Month | Unit::Year => Period::from_month(own, size, later_month(first, k, unit)),
+            Unit::Month | Unit::Year => {
+                // By more than that it leaves the calendar, and by less no sum leaves 64 bits.
+                if k < -120_000 || k > 120_000 {
+                    return Err(TimeFault::OutOfRange);
+                }
+                let first = i64::from(first) + k * i64::from(months_in(unit));
+                Period::from_month(own, size, first)
+            }
             Unit::Day | Unit::Eternity => Err(TimeFault::OutOfRange),
         }
     }
@@ -558,14 +564,14 @@ impl Period {
     }
 
     /// The period of that unit and size from a month on.
-    fn from_month(unit: Unit, size: u16, first: i128) -> Result<Period, TimeFault>
+    fn from_month(unit: Unit, size: u16, first: i64) -> Result<Period, TimeFault>
         requires counted { IsTrue (is_month unit || is_year unit) }
         requires some { 1 ≤ size }
         requires most { size ≤ 1200 }
         ensures { result ≡ months_from unit size first }
     {
         let months = u32::from(months_in(unit)) * u32::from(size);
-        if first < i128::from(FIRST_MONTH) || first > i128::from(END_MONTH - months) {
+        if first < i64::from(FIRST_MONTH) || first > i64::from(END_MONTH - months) {
             return Err(TimeFault::OutOfRange);
         }
         Ok(Period::of(unit, first as u32, size))

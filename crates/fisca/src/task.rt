@@ -29,8 +29,8 @@ const CHECK_ABOUT: &str = "Check the rule files of a folder";
 const CHECK_LONG: &str = "Check the rule files of a folder, and print what they hold.
 
 It reads the parameter files, parameters/**/*.yaml and .yml, and then the modules, entities.py and
-variables/**/*.py, at most 8 folders deep, each in the order of their paths, and prints one line:
-entities E, variables V, parameters P. What modules declare is not counted yet. A file that is
+variables/**/*.py, at most 8 folders deep, each in the order of their paths, builds the rule set
+that they make together, and prints one line: entities E, variables V, parameters P. What is
 refused is told by one line on standard error: fisca: PATH:LINE: FAULT.";
 
 const CHECK_EXAMPLE: &str = "Example:

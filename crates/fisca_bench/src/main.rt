@@ -6,6 +6,7 @@ mod modules;
 mod numbers;
 mod params;
 mod periods;
+mod rules;
 mod trees;
 mod yaml;
 
@@ -26,6 +27,7 @@ fn main(rt: HostRuntime) -> io::Result<()> {
             "numbers" => numbers::run(&rt, rt.alloc(), rest),
             "params" => params::run(&rt, rt.alloc(), rest),
             "periods" => periods::run(&rt, rt.alloc(), rest),
+            "rules" => rules::run(&rt, rt.alloc(), rest),
             "trees" => trees::run(&rt, rt.alloc(), rest),
             "yaml" => yaml::run(&rt, rt.alloc(), rest),
             _ => list(&rt),
@@ -41,6 +43,7 @@ fn list(rt: &impl Print) -> io::Result<()> {
     println!(rt; "numbers add|mul|cmp|text|decimal whole|hundredths|unlike COUNT")?;
     println!(rt; "params read|value_at|calc [whole|hundredths] COUNT")?;
     println!(rt; "periods read|text|offset|named|sub|compare|hash COUNT")?;
+    println!(rt; "rules read|build NAME COUNT")?;
     println!(rt; "trees FILE")?;
     println!(rt; "yaml NAME COUNT")
 }

@@ -61,7 +61,7 @@ pub fn run(
 }
 
 /// The files of a text that has of each its path and its text, each with the byte 1 behind it.
-fn files_of(alloc: Global, text: &str) -> Result<Vec<SourceFile>, AllocError> {
+pub(crate) fn files_of(alloc: Global, text: &str) -> Result<Vec<SourceFile>, AllocError> {
     let mut files = Vec::new(alloc);
     let mut path = None;
     for part in text.split('\u{1}') {

@@ -4,3 +4,4 @@ mod FirstModule
 mod Endings
 mod Looks
 mod FirstFiles
+mod Written

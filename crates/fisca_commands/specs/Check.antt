@@ -1,16 +1,17 @@
 -- What `fisca check` answers and writes.
-use Rattle.std.specs.Prelude.{◌≡◌, ℕ, ◌<◌, ◌≤◌, ◌++◌, Bool, true, false, List, [], count_by, codes, slice_get, string_bytes, Option, Some, None, Result, Ok, Err, ⊤}
+use Rattle.std.specs.Prelude.{◌≡◌, ℕ, ◌<◌, ◌≤◌, ◌++◌, Bool, true, false, List, [], count_by, length, codes, slice_get, string_bytes, Option, Some, None, Result, Ok, Err, ⊤}
 use Rattle.std.specs.Fmt.{decimal}
 use Rattle.std.specs.Io.KnownBytes.{Appends, Keeps}
 use Rattle.fisca_grid.specs.Run.{AppendsPart}
 use Rattle.fisca_params.specs.Answers.{Refuses}
 use Rattle.fisca_params.specs.Source.{Source}
-use Rattle.fisca_params.specs.Files.{tree_of, in_path_order}
+use Rattle.fisca_params.specs.Files.{tree_of}
 use Rattle.fisca_params.specs.Tree.{TreeNode}
+use Rattle.fisca_rules.specs.Rules.{Rules}
 use Rattle.fisca_params.specs.Lookup.{is_counted}
 use Rattle.fisca_params.specs.declared.fault.ParamFault.{ParamFault}
 use Rattle.fisca_params.specs.declared.fault.ParamFault.TheVariants as params
-use Rattle.fisca_commands.specs.Modules.{is_rule_path, first_fault, IsModuleCheck}
+use Rattle.fisca_commands.specs.Modules.{is_rule_path, rules_by, IsRefusalOf}
 use Rattle.fisca_commands.specs.declared.refusal.Refusal.{Refusal}
 use Rattle.fisca_commands.specs.declared.refusal.Refusal.TheVariants.{Params, Formula, Axes, BadWord, BadCondition, Run, Write, Memory, TooManyFiles}
 
@@ -18,21 +19,22 @@ use Rattle.fisca_commands.specs.declared.refusal.Refusal.TheVariants.{Params, Fo
 abbrev pub count_of_files : List Source → ℕ
 count_of_files = count_by (λ file. is_rule_path file.path)
 
--- the line of so many dated parameters and scales
-abbrev pub text_of_count : ℕ → List ℕ
-text_of_count parameters = codes "entities 0, variables 0, parameters " ++ decimal parameters ++ codes "\n"
+-- the line of so many entities, variables, and dated parameters with scales
+abbrev pub text_of_counts : ℕ → ℕ → ℕ → List ℕ
+text_of_counts entities variables parameters =
+    codes "entities " ++ (decimal entities ++ (codes ", variables " ++ (decimal variables ++ (codes ", parameters " ++ (decimal parameters ++ codes "\n")))))
 
 -- the line of a rule set
-abbrev pub text_of : List TreeNode → List ℕ
-text_of tree = text_of_count (count_by is_counted tree)
+abbrev pub text_of : Rules → List ℕ
+text_of rules = text_of_counts (length rules.entities) (length rules.variables) (count_by is_counted rules.parameters)
 
 -- the files are not too many, and the parameter files make this tree
 abbrev pub HasTree : List Source → List TreeNode → Type 0
 HasTree files tree = (count_of_files files ≤ 1000) × (tree_of files ≡ Ok tree)
 
--- and each module can be read
-abbrev pub IsAccepted : List Source → List TreeNode → Type 0
-IsAccepted files tree = HasTree files tree × (first_fault (in_path_order files) ≡ None)
+-- and the modules make this rule set beside them
+abbrev pub IsAccepted : List Source → Rules → Type 0
+IsAccepted files rules = (tree : List TreeNode) × HasTree files tree × (rules_by tree files ≡ Ok rules)
 
 -- the file of a fault, by its place among the files, and the line there
 abbrev pub place_of : ParamFault → Option (ℕ × ℕ)
@@ -55,18 +57,31 @@ StandsAt files (Some place) path line = (path ≡ path_of (slice_get files place
 
 -- what the check of files answers, and what a sink that held `old` then holds
 abbrev pub IsCheck : List Source → Option (List ℕ) → Option (List ℕ) → Result Unit Refusal → Type 0
-IsCheck files old new (Ok done) = (tree : List TreeNode) × IsAccepted files tree × Appends old new (text_of tree)
+IsCheck files old new (Ok done) = (rules : Rules) × IsAccepted files rules × Appends old new (text_of rules)
 IsCheck files old new (Err TooManyFiles) = (1000 < count_of_files files) × Keeps old new
 IsCheck files old new (Err (Params path line fault)) =
     (count_of_files files ≤ 1000) × Refuses fault (tree_of files) × StandsAt files (place_of fault) (string_bytes path) line × Keeps old new
 IsCheck files old new (Err (Formula path line kind)) =
-    ((tree : List TreeNode) × HasTree files tree) × (IsModuleCheck (first_fault (in_path_order files)) (Err (Formula path line kind)) × Keeps old new)
-IsCheck files old new (Err Write) = (tree : List TreeNode) × IsAccepted files tree × AppendsPart (text_of tree) old new
+    (tree : List TreeNode) × HasTree files tree × IsRefusalOf (rules_by tree files) (Formula path line kind) × Keeps old new
+IsCheck files old new (Err Write) = (rules : Rules) × IsAccepted files rules × AppendsPart (text_of rules) old new
 IsCheck files old new (Err Memory) = Keeps old new
 IsCheck files old new (Err (Axes fault)) = ⊥
 IsCheck files old new (Err BadWord) = ⊥
 IsCheck files old new (Err BadCondition) = ⊥
 IsCheck files old new (Err (Run fault)) = ⊥
+
+-- what the writing of a line answers, and what a sink that held `old` then holds
+abbrev pub IsWritten : List ℕ → Option (List ℕ) → Option (List ℕ) → Result Unit Refusal → Type 0
+IsWritten text old new (Ok done) = Appends old new text
+IsWritten text old new (Err TooManyFiles) = ⊥
+IsWritten text old new (Err (Params path line fault)) = ⊥
+IsWritten text old new (Err (Formula path line kind)) = ⊥
+IsWritten text old new (Err Write) = AppendsPart text old new
+IsWritten text old new (Err Memory) = Keeps old new
+IsWritten text old new (Err (Axes fault)) = ⊥
+IsWritten text old new (Err BadWord) = ⊥
+IsWritten text old new (Err BadCondition) = ⊥
+IsWritten text old new (Err (Run fault)) = ⊥
 
 -- the refusal tells this fault and where it stands, or that memory was refused
 abbrev pub IsToldOf : List Source → ParamFault → Refusal → Type 0

@@ -1,11 +1,16 @@
--- The modules of a rule set, and the first of them that is refused.
-use Rattle.std.specs.Prelude.{◌≡◌, is_some, ℕ, Bool, ◌||◌, List, [], ◌∷◌, codes, string_bytes, Option, Some, None, option_and_then, Result, Ok, Err, if◌then◌else◌, ⊤}
+-- The rule set that files make: what their modules declare beside parameters, or the first fault.
+use Rattle.std.specs.Prelude.{◌≡◌, is_some, ℕ, Bool, ◌||◌, List, [], ◌∷◌, slice_get, codes, string_bytes, Option, Some, None, option_and_then, Result, Ok, Err, if◌then◌else◌, ⊤}
 use Rattle.std.specs.Str.{bytes_eq}
+use Rattle.fisca_names.specs.declared.fault.BuildFault.{BuildFault}
+use Rattle.fisca_params.specs.Files.{Placed, in_path_order}
+use Rattle.fisca_params.specs.Paths.{names_of, after_start, without_ending}
+use Rattle.fisca_params.specs.Results.{and_then}
+use Rattle.fisca_params.specs.Source.{Source}
+use Rattle.fisca_params.specs.Tree.{TreeNode}
+use Rattle.fisca_rules.specs.Rules.{Rules, all_of, rules_of}
+use Rattle.fisca_syntax.specs.Modules.{Statement}
 use Rattle.fisca_syntax.specs.Reading.{module_of}
 use Rattle.fisca_tokens.specs.declared.fault.FormulaFault.{FormulaFault}
-use Rattle.fisca_params.specs.Files.{Placed}
-use Rattle.fisca_params.specs.Paths.{names_of, after_start, without_ending}
-use Rattle.fisca_params.specs.Source.{Source}
 use Rattle.fisca_commands.specs.declared.refusal.Refusal.{Refusal}
 use Rattle.fisca_commands.specs.declared.refusal.Refusal.TheVariants.{Params, Formula, Axes, BadWord, BadCondition, Run, Write, Memory, TooManyFiles}
 
@@ -21,22 +26,39 @@ is_rule_path path = is_some (names_of path) || is_module path
 abbrev pub FileFault : Type 0
 FileFault = List ℕ × FormulaFault
 
-abbrev pub fault_in : {X : Type 0} → List ℕ → Result X FormulaFault → Option FileFault
-fault_in path (Ok x) = None
-fault_in path (Err fault) = Some (path, fault)
+-- the modules among these files
+abbrev pub modules_in : List Placed → List Source
+modules_in [] = []
+modules_in (f ∷ fs) = if is_module f.1.path then f.1 ∷ modules_in fs else modules_in fs
 
--- what is wrong with a file, where it is a module
-abbrev pub fault_of_file : Source → Option FileFault
-fault_of_file file = if is_module file.path then fault_in file.path (module_of file.text) else None
+abbrev pub told_with : {X : Type 0} → List ℕ → Result X FormulaFault → Result X FileFault
+told_with path (Ok x) = Ok x
+told_with path (Err fault) = Err (path, fault)
 
-abbrev pub before : Option FileFault → Option FileFault → Option FileFault
-before None later = later
-before (Some fault) later = Some fault
+-- what a module declares, or its fault
+abbrev pub declared_in : Source → Result (List Statement) FileFault
+declared_in f = told_with f.path (module_of f.text)
 
--- the fault of the first module that has one
-abbrev pub first_fault : List Placed → Option FileFault
-first_fault [] = None
-first_fault (f ∷ fs) = before (fault_of_file f.1) (first_fault fs)
+-- what each of these declares, or the fault of the first that cannot be read
+abbrev pub declared_by : List Source → Result (List (List Statement)) FileFault
+declared_by = all_of declared_in
+
+-- the module at a place; where there is none, the file that is to declare the persons
+abbrev pub path_or : Option Source → List ℕ
+path_or None = codes "entities.py"
+path_or (Some f) = f.path
+
+abbrev pub told_by : {X : Type 0} → List Source → Result X BuildFault → Result X FileFault
+told_by fs (Ok x) = Ok x
+told_by fs (Err fault) = Err (path_or (slice_get fs fault.module), record { line = fault.line; kind = fault.kind })
+
+-- the rule set of these modules beside parameters
+abbrev pub rules_in : List TreeNode → List Source → Result Rules FileFault
+rules_in tree fs = and_then (declared_by fs) (λ ms. told_by fs (rules_of tree ms))
+
+-- the same of the modules among all files, in order of their paths
+abbrev pub rules_by : List TreeNode → List Source → Result Rules FileFault
+rules_by tree files = rules_in tree (modules_in (in_path_order files))
 
 -- a refusal tells this fault, or that memory was refused
 abbrev pub IsFaultOf : FileFault → Refusal → Type 0
@@ -50,17 +72,12 @@ IsFaultOf fault BadWord = ⊥
 IsFaultOf fault BadCondition = ⊥
 IsFaultOf fault (Run other) = ⊥
 
--- what the reading of modules answers, where this is their first fault or they have none
-abbrev pub IsModuleCheck : Option FileFault → Result Unit Refusal → Type 0
-IsModuleCheck None (Ok done) = ⊤
-IsModuleCheck None (Err (Formula path line kind)) = ⊥
-IsModuleCheck None (Err Memory) = ⊤
-IsModuleCheck None (Err (Params path line told)) = ⊥
-IsModuleCheck None (Err TooManyFiles) = ⊥
-IsModuleCheck None (Err Write) = ⊥
-IsModuleCheck None (Err (Axes other)) = ⊥
-IsModuleCheck None (Err BadWord) = ⊥
-IsModuleCheck None (Err BadCondition) = ⊥
-IsModuleCheck None (Err (Run other)) = ⊥
-IsModuleCheck (Some fault) (Ok done) = ⊥
-IsModuleCheck (Some fault) (Err refusal) = IsFaultOf fault refusal
+-- this fault is told; where there is none, only want of memory
+abbrev pub IsRefusalOf : {X : Type 0} → Result X FileFault → Refusal → Type 0
+IsRefusalOf (Ok x) refusal = refusal ≡ Memory
+IsRefusalOf (Err fault) refusal = IsFaultOf fault refusal
+
+-- what this outcome says, seen in this way, or its fault; or else memory ran out
+abbrev pub TellsFile : {X Y : Type 0} → (X → Y) → Result Y FileFault → Result X Refusal → Type 0
+TellsFile view outcome (Ok x) = outcome ≡ Ok (view x)
+TellsFile view outcome (Err refusal) = IsRefusalOf outcome refusal

@@ -4,12 +4,14 @@ ghost use Rattle.std.specs.Prelude.{◌≡◌, nat_lt, ℕ, ◌<◌, cond, IfOk,
 ghost use Rattle.fisca_grid.specs.Sink.{CountsFailure};
 ghost use Rattle.fisca_params.specs.Answers.{file_of, Refuses};
 ghost use Rattle.fisca_params.specs.Files.{tree_of};
-ghost use Rattle.fisca_commands.specs.Check.{count_of_files, text_of_count, IsCheck, IsToldOf, IsToldAt, is_check_write};
+ghost use Rattle.fisca_rules.specs.Views.{rule_set};
+ghost use Rattle.fisca_commands.specs.Check.{count_of_files, text_of, text_of_counts, IsCheck, IsToldOf, IsWritten, IsToldAt, is_check_write};
 
-use super::modules::{is_rule_path, read_modules};
+use super::modules::{build_rules, is_rule_path};
 use super::refusal::Refusal;
 use fisca_grid::{RowSink, hand_over};
 use fisca_params::{ParamFault, ParamTree, SourceFile};
+use fisca_rules::RuleSet;
 use std::alloc::{AllocError, Global};
 
 /// A rule set has at most so many files.
@@ -32,11 +34,29 @@ fn are_too_many(files: &[SourceFile]) -> bool
     count_files(files) > MOST_FILES
 }
 
-/// The line that `fisca check` prints of so many parameters and scales.
-fn text_of_count(alloc: Global, parameters: usize) -> Result<String, AllocError>
-    ensures { IfOk result (λ text. string_bytes text ≡ text_of_count parameters) }
+/// The line that `fisca check` prints of so many entities, variables, and parameters with scales.
+fn text_of_counts(
+    alloc: Global,
+    entities: usize,
+    variables: usize,
+    parameters: usize,
+) -> Result<String, AllocError>
+    ensures { IfOk result (λ text. string_bytes text ≡ text_of_counts entities variables parameters) }
 {
-    format!(in alloc; "entities 0, variables 0, parameters {parameters}\n")
+    format!(in alloc; "entities {entities}, variables {variables}, parameters {parameters}\n")
+}
+
+/// The line of a rule set.
+fn text_of(alloc: Global, rules: &RuleSet<'_>) -> Result<String, AllocError>
+    ensures { IfOk result (λ text. string_bytes text ≡ text_of (rule_set rules.now)) }
+{
+    let tables = &rules.tables;
+    text_of_counts(
+        alloc,
+        tables.entities.as_slice().len(),
+        tables.variables.as_slice().len(),
+        tables.parameters.count(),
+    )
 }
 
 /// The refusal of parameter files for a fault, with the path of the file that it names.
@@ -67,16 +87,33 @@ fn tell(alloc: Global, path: &str, line: usize, fault: ParamFault) -> Refusal
     }
 }
 
+/// Writes the line of a rule set: `Memory` before anything is written, `Write` where the sink failed.
+fn write_counts<S: RowSink>(
+    alloc: Global,
+    rules: &RuleSet<'_>,
+    sink: &mut S,
+) -> Result<(), Refusal>
+    ensures answer { IsWritten (text_of (rule_set rules.now)) (S.taken sink.old) (S.taken sink.new) result }
+    ensures failures { CountsFailure (is_check_write result) (S.failures sink.old) (S.failures sink.new) }
+{
+    let text = text_of(alloc, rules)?;
+    match hand_over(sink, text.as_bytes()) {
+        Ok(()) => Ok(()),
+        Err(_) => Err(Refusal::Write),
+    }
+}
+
 /// Checks the files of a rule set, and writes one line: how many entities, variables and dated parameters with scales
-/// it has. At present modules are read, and what they declare is not counted yet.
+/// it has.
 ///
 /// The first refusal in this order is told, and nothing is written before it:
 ///
 /// - `TooManyFiles` exactly where more than 1,000 of the files are not ignored.
 /// - `Params` exactly where the parameter files make no tree: what is wrong with the first file, in order of the paths,
 ///   that makes none with those before it, its path, and the line that the fault names.
-/// - `Formula` exactly where each file before it is accepted and modules cannot be read: the path of the first that cannot,
-///   in order of the paths, and the line and the kind of its first fault.
+/// - `Formula` exactly where the parameter files make a tree and the modules no rule set beside it: the path, the line and the kind of
+///   the first fault. Modules that cannot be read come first, in order of their paths, and then what all of them declare (`RuleSet::build`
+///   says in which order). That the persons are missing is told of `entities.py` where there is no module.
 /// - `Write` only where the sink failed in this call: it has a proper beginning of the line.
 /// - `Memory` only where memory was refused.
 ///
@@ -96,10 +133,6 @@ pub fn check_rules<S: RowSink>(
         Ok(tree) => tree,
         Err(fault) => return Err(refuse(alloc, files, fault)),
     };
-    read_modules(alloc, files)?;
-    let text = text_of_count(alloc, tree.count())?;
-    match hand_over(sink, text.as_bytes()) {
-        Ok(()) => Ok(()),
-        Err(_) => Err(Refusal::Write),
-    }
+    let rules = build_rules(alloc, tree, files)?;
+    write_counts(alloc, &rules, sink)
 }

@@ -9,7 +9,7 @@ use super::shown::write_shown;
 use fisca_grid::{AxesFault, RunFault};
 use fisca_params::ParamFault;
 use fisca_tokens::Kind;
-use std::alloc::{AllocError, Global};
+use std::alloc::{AllocError, AllocFailed, Global};
 use std::convert::Infallible;
 use std::fmt::Write;
 use thiserror::Error;
@@ -52,6 +52,16 @@ impl From<AllocError> for Refusal {
     ghost from_gives = { λ _ refusal. refusal ≡ Memory };
 
     fn from(_error: AllocError) -> Refusal {
+        Refusal::Memory
+    }
+}
+
+impl<T: Drop> From<AllocFailed<T>> for Refusal {
+    ghost use Rattle.fisca_commands.specs.declared.refusal.Refusal.TheVariants.{Memory};
+
+    ghost from_gives = { λ _ refusal. refusal ≡ Memory };
+
+    fn from(_error: AllocFailed<T>) -> Refusal {
         Refusal::Memory
     }
 }

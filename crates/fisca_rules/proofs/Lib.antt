@@ -1,5 +1,6 @@
 mod Built
 pub mod Each
 mod Members
+mod Named
 mod Safe
 mod WorkedRules

@@ -1,3 +1,4 @@
+pub mod Names
 pub mod Rules
 pub mod Safety
 pub mod Views

@@ -1,9 +1,11 @@
 //! Rule sets.
 ghost use Rattle.std.specs.Prelude.{◌≡◌, map};
+ghost use Rattle.fisca_rules.specs.Names.{entity_named, variable_named};
 ghost use Rattle.fisca_rules.specs.Rules as spec;
 ghost use Rattle.fisca_names.specs.Outcomes.{Tells};
 ghost use Rattle.fisca_rules.specs.Views.{rule_set};
 ghost use Rattle.fisca_syntax.specs.Views.{statements};
+ghost use Rattle.fisca_variables.specs.VariableForms.{written};
 
 use crate::dated::Dated;
 use crate::typed::formulas_of_tables;
@@ -11,7 +13,7 @@ use fisca_classes::tables_found;
 use fisca_names::{BuildFault, names_differ};
 use fisca_params::ParamTree;
 use fisca_syntax::Module;
-use fisca_tables::Tables;
+use fisca_tables::{Choices, Entity, Tables, Variable};
 use std::alloc::Global;
 
 /// What the modules of a rule set declare beside its parameters, with typed formulas.
@@ -53,5 +55,57 @@ impl<'a> RuleSet<'a> {
         };
         let formulas = formulas_of_tables(alloc, &tables)?;
         Ok(RuleSet { tables, formulas })
+    }
+
+    /// The entities in the order of the modules.
+    pub fn entities(&self) -> &[Entity<'a>]
+        ensures { result.now ≡ (rule_set self.now).entities }
+    {
+        self.tables.entities.as_slice()
+    }
+
+    /// The place of the entity that this is the key or the plural of, among `entities`.
+    pub fn entity(&self, name: &str) -> Option<usize>
+        ensures { result ≡ entity_named (rule_set self.now) name.now }
+    {
+        for (place, entity) in self.entities().iter().enumerate() {
+            if entity.key.as_bytes() == name.as_bytes()
+                || entity.plural.as_bytes() == name.as_bytes()
+            {
+                return Some(place);
+            }
+        }
+        None
+    }
+
+    /// The variables in the order of the modules; `formulas` has the typed formulas of each.
+    pub fn variables(&self) -> &[Variable<'a>]
+        ensures { map written result.now ≡ (rule_set self.now).variables }
+    {
+        self.tables.variables.as_slice()
+    }
+
+    /// The place of the variable of this name, among `variables`.
+    pub fn variable(&self, name: &str) -> Option<usize>
+        ensures { result ≡ variable_named (rule_set self.now) name.now }
+    {
+        match self.tables.variables.of_name(name.as_bytes()) {
+            Some((place, _)) => Some(place),
+            None => None,
+        }
+    }
+
+    /// The Enums in the order of the modules.
+    pub fn enums(&self) -> &[Choices<'a>]
+        ensures { result.now ≡ (rule_set self.now).enums }
+    {
+        self.tables.enums.as_slice()
+    }
+
+    /// The parameters and scales.
+    pub fn parameters(&self) -> &ParamTree
+        ensures { result.now ≡ (rule_set self.now).parameters }
+    {
+        &self.tables.parameters
     }
 }

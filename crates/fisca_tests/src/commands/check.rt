@@ -50,7 +50,10 @@ fn files(alloc: Global, count: u32) -> Result<Vec<SourceFile>, AllocError> {
 #[test]
 fn the_first_module_that_is_refused_is_told(rt: HostRuntime) -> Result<(), Fail> {
     let alloc = rt.alloc();
-    let people = ("entities.py", "Person = build_entity(key='person')\n");
+    let people = (
+        "entities.py",
+        "Person = build_entity(key='person', plural='persons', is_person=True)\n",
+    );
     let late = ("variables/b/c.py", "import x\nx = 1\n");
     let early = (
         "variables/a.py",
@@ -60,7 +63,7 @@ fn the_first_module_that_is_refused_is_told(rt: HostRuntime) -> Result<(), Fail>
     let above = ("variable.py", "x = 1\n");
     assert_eq!(rt;
         told(alloc, &[people, other, above])?.as_str(),
-        "entities 0, variables 0, parameters 0\n"
+        "entities 1, variables 0, parameters 0\n"
     );
     assert_eq!(rt;
         told(alloc, &[late, people, early])?.as_str(),

@@ -1,21 +1,24 @@
-use Rattle.std.proofs.Common.{ap, ◌∙◌, map, List, ℕ, Bor}
+use Rattle.std.proofs.Common.{arith, ◌≡◌, ◌∙◌, sym, ap, suc, ◌<◌, ◌≤◌, ◌∷◌, map, drop, drop-cons, length}
 use Rattle.std.proofs.lemmas.Result.{err_from_is_err_and}
-use Rattle.fisca_params.specs.Files.{Placed}
-use Rattle.fisca_params.specs.Source.{Source}
-use Rattle.fisca_commands.specs.Modules.{before, fault_of_file, first_fault}
-use Rattle.fisca_commands.proofs.FirstModule.{faultless, first_told}
+use Rattle.fisca_rules.proofs.Each.{behind_end, behind_fault}
+use Rattle.fisca_syntax.specs.Views.{statements}
+use Rattle.fisca_commands.specs.Modules.{declared_in, declared_by}
+use Rattle.fisca_commands.proofs.FirstModule.{first_told}
 use Rattle.fisca_commands.proofs.modules.read_modules.Goals as goal
-
-abbrev placed_of : (Bor (List ℕ) × ℕ) × Bor Source → Placed
-placed_of e = (e.0.1, e.1.now)
-
-pub loop-place-preserved : goal.loop-place-preserved
-loop-place-preserved c =
-    c.loop-place.invariant ∙ ap (λ es. first_fault (map placed_of es)) c.in-Some.ensures.steps
-    ∙ ap (λ o. before o (first_fault (map placed_of c.next.new.self))) (faultless (fault_of_file c.in-Some.file.now.now) c.in_ok-read_file.field-0 c.in_ok-read_file.ensures)
 
 pub returns-in_err-read_file : goal.returns-in_err-read_file
 returns-in_err-read_file c =
-    let told = err_from_is_err_and c.from_residual-in_err-read_file.result c.from_residual-in_err-read_file.ensures.1 in
-    let whole = c.loop-place.invariant ∙ ap (λ es. first_fault (map placed_of es)) c.in-Some.ensures.steps in
-    rw (told.1, told.2, whole) (first_told (fault_of_file c.in-Some.file.now.now) (first_fault (map placed_of c.next.new.self)) _ c.in_err-read_file.ensures)
+    let l = c.loop-file in
+    let items = c.args.files.now in
+    let told = err_from_is_err_and c.from_residual.result c.from_residual.ensures.1 in
+    let inside : l.file-index < length items = omega (arith, c.loop-file-test.true, l.auto.file-index-end) in
+    let cut = drop-cons items l.file-index c.file-item.result inside ∙ ap (λ a. a ∷ drop (suc l.file-index) items) (sym c.file-item.is) in
+    rw (told.1, told.2) (first_told (declared_in c.file-item.result.now) (declared_by (map (λ f. f.now) items)) _ c.in_err-read_file.ensures
+        (λ fault e. behind_fault (λ f. f.now) declared_in items l.file-index c.file-item.result _ (map statements l.modules.items) (map (λ f. f.now) items) fault l.invariant cut e))
+
+pub returns : goal.returns
+returns c =
+    let l = c.loop-file in
+    let items = c.args.files.now in
+    let all : length items ≤ l.file-index = omega (arith, c.loop-file-test.false, l.auto.file-index-end) in
+    behind_end (λ f. f.now) declared_in items l.file-index (map statements l.modules.items) (map (λ f. f.now) items) l.invariant all

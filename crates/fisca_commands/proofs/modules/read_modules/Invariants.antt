@@ -1,8 +1,9 @@
-use Rattle.std.proofs.Common.{◌≡◌, map}
-use Rattle.fisca_params.specs.Files.{in_path_order}
-use Rattle.fisca_commands.specs.Modules.{first_fault}
+use Rattle.std.proofs.Common.{◌≡◌, [], map, drop}
+use Rattle.fisca_rules.proofs.Each.{all_behind}
+use Rattle.fisca_syntax.specs.Views.{statements}
+use Rattle.fisca_commands.specs.Modules.{declared_in}
 use Rattle.fisca_commands.proofs.modules.read_modules.Given as goal
 
--- the modules so far have no fault
-abbrev pub invariant-loop-place : goal.invariant-loop-place
-invariant-loop-place l = first_fault (in_path_order l.files) ≡ first_fault (map (λ e. (e.0.1, e.1.now)) l._place-iterator)
+-- what the modules so far declare, and those that are left
+abbrev pub invariant-loop-file : goal.invariant-loop-file
+invariant-loop-file l = all_behind declared_in (map statements l.modules.items) (map (λ f. f.now) (drop l.file-index l.files)) ≡ all_behind declared_in [] (map (λ f. f.now) l.files)

@@ -1,0 +1,98 @@
+//! Building the rule sets that `bench/texts_rules` writes, beside reading their modules.
+use crate::params::files_of;
+use crate::{Measured, list, show};
+use fisca_params::{ParamTree, SourceFile};
+use fisca_rules::RuleSet;
+use fisca_syntax::{Module, read_module};
+use std::alloc::Global;
+use std::rt::{Clock, Files};
+use std::time::Instant;
+use std::{fs, io};
+
+/// `rules read|build NAME COUNT`: the time of reading the modules so often, or of building the rule set of what was read.
+pub fn run(
+    rt: &(impl Print + Clock + Files + Alloc),
+    alloc: Global,
+    words: &[String],
+) -> io::Result<()> {
+    let [operation, name, count] = words else {
+        return list(rt);
+    };
+    let path = format!(in alloc; "bench/out/rules/{name}")?;
+    let text = fs::read_to_string(rt, path.as_str())?;
+    let files = files_of(alloc, text.as_str())?;
+    let count: u64 = count.as_str().parse().unwrap_or(0);
+    let measured = match operation.as_str() {
+        "read" => read(rt, alloc, files.as_slice(), count)?,
+        "build" => build(rt, alloc, files.as_slice(), count)?,
+        _ => return list(rt),
+    };
+    show(rt, measured)
+}
+
+/// The modules among the files, as they stand there, or none where one cannot be read.
+fn modules<'a>(alloc: Global, files: &'a [SourceFile]) -> Vec<Module<'a>> {
+    let mut modules = Vec::new(alloc);
+    for file in files {
+        if file.path().ends_with(".py") {
+            match read_module(alloc, file.text()) {
+                Ok(module) => {
+                    if modules.push(module).is_err() {
+                        return Vec::new(alloc);
+                    }
+                }
+                Err(_) => return Vec::new(alloc),
+            }
+        }
+    }
+    modules
+}
+
+/// Reads the modules so often. The checksum is of their statements.
+fn read(rt: &impl Clock, alloc: Global, files: &[SourceFile], count: u64) -> io::Result<Measured> {
+    let mut checksum = 0;
+    let start = Instant::now(rt)?;
+    for _run in 0..count {
+        checksum = statements(modules(alloc, files).as_slice());
+    }
+    let nanoseconds = start.elapsed(rt)?.as_nanos();
+    Ok(Measured {
+        nanoseconds,
+        checksum,
+    })
+}
+
+fn statements(modules: &[Module<'_>]) -> u64 {
+    let mut sum = 0u64;
+    for module in modules {
+        sum = sum.wrapping_add(module.statements.len() as u64);
+    }
+    sum
+}
+
+/// Builds the rule set so often, dropped within the time, each time of modules and parameters that were read before. The
+/// checksum is of its variables.
+fn build(rt: &impl Clock, alloc: Global, files: &[SourceFile], count: u64) -> io::Result<Measured> {
+    let mut checksum = 0;
+    let mut nanoseconds = 0u128;
+    for _run in 0..count {
+        let Ok(parameters) = ParamTree::read(alloc, files) else {
+            break;
+        };
+        let read = modules(alloc, files);
+        let start = Instant::now(rt)?;
+        checksum = built(alloc, parameters, read);
+        nanoseconds = nanoseconds.saturating_add(start.elapsed(rt)?.as_nanos());
+    }
+    Ok(Measured {
+        nanoseconds,
+        checksum,
+    })
+}
+
+fn built(alloc: Global, parameters: ParamTree, modules: Vec<Module<'_>>) -> u64 {
+    match RuleSet::build(alloc, parameters, modules) {
+        Ok(rules) => rules.tables.variables.as_slice().len() as u64,
+        Err(_) => u64::MAX,
+    }
+}

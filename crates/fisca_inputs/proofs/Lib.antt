@@ -2,5 +2,6 @@ pub mod Givens
 pub mod Looked
 pub mod Numbers
 pub mod Puts
+pub mod Shares
 pub mod Sums
 mod Worked

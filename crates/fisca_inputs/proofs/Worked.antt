@@ -19,7 +19,7 @@ use Rattle.fisca_inputs.specs.Faults.{at_line}
 use Rattle.fisca_inputs.specs.Inputs.{inputs_of, and_given, without_marked}
 use Rattle.fisca_inputs.specs.Order.{in_order}
 use Rattle.fisca_inputs.specs.Rules.{Rule, is_accepted}
-use Rattle.fisca_inputs.proofs.Numbers.{whole, difference_is, quotient_is, over_is}
+use Rattle.fisca_inputs.proofs.Numbers.{whole, difference_is, part_is}
 
 abbrev rule : Unit → Option SetInput → Value → Rule
 rule u s d = record { entity = 0; unit = u; set_input = s; default = Some d }
@@ -63,7 +63,7 @@ is_100 month = (key 0 0 (month_at month), v.Number n100)
 year_beside_a_month : inputs_of rules one_person (given 0 0 year_2017 (v.Number n1200) 2 ∷ given 0 0 january (v.Number n100) 3 ∷ [])
     ≡ Ok (map is_100 (range_with_len 24204 12))
 year_beside_a_month =
-    rw (difference_is n1200 n100 (whole 1100 (lit< tt)) refl (lit< tt), over_is 11 (whole 11 (lit< tt)) refl, quotient_is (whole 1100 (lit< tt)) (whole 11 (lit< tt)) n100 refl (lit< tt)) refl
+    rw (difference_is n1200 n100 (whole 1100 (lit< tt)) refl (lit< tt), part_is (whole 1100 (lit< tt)) 11 n100 refl (lit< tt)) refl
 
 abbrev monthly_100 : ℕ → Given
 monthly_100 month = given 0 0 (month_at month) (v.Number n100) 3
@@ -93,12 +93,10 @@ three_lengths : inputs_of rules one_person (given 0 0 year_2017 (v.Number n1200)
 three_lengths =
     rw (
       difference_is (whole 200 (lit< tt)) (whole 50 (lit< tt)) (whole 150 (lit< tt)) refl (lit< tt),
-      over_is 1 (whole 1 (lit< tt)) refl,
-      quotient_is (whole 150 (lit< tt)) (whole 1 (lit< tt)) (whole 150 (lit< tt)) refl (lit< tt),
+      part_is (whole 150 (lit< tt)) 1 (whole 150 (lit< tt)) refl (lit< tt),
       difference_is n1200 (whole 50 (lit< tt)) (whole 1150 (lit< tt)) refl (lit< tt),
       difference_is (whole 1150 (lit< tt)) (whole 150 (lit< tt)) (whole 1000 (lit< tt)) refl (lit< tt),
-      over_is 10 (whole 10 (lit< tt)) refl,
-      quotient_is (whole 1000 (lit< tt)) (whole 10 (lit< tt)) n100 refl (lit< tt),
+      part_is (whole 1000 (lit< tt)) 10 n100 refl (lit< tt),
     ) refl
 
 abbrev ten : Value
@@ -144,8 +142,7 @@ unfolding day_count days_of_years days_of_months
 days_divided =
     rw (
       difference_is n100 (whole 19 (lit< tt)) (whole 81 (lit< tt)) refl (lit< tt),
-      over_is 27 (whole 27 (lit< tt)) refl,
-      quotient_is (whole 81 (lit< tt)) (whole 27 (lit< tt)) (whole 3 (lit< tt)) refl (lit< tt),
+      part_is (whole 81 (lit< tt)) 27 (whole 3 (lit< tt)) refl (lit< tt),
     ) refl
 
 -- Defaults

@@ -1,9 +1,10 @@
 -- Given inputs, one after another, as values of keys.
-use Rattle.std.specs.Prelude.{ℕ, pos, ◌==◌, Bool, not, List, [], ◌∷◌, map, filter, length, if◌then◌else◌, slice_get, Option, Some, None, Result, Ok, Err}
+use Rattle.std.specs.Prelude.{ℕ, suc, pos, ◌*◌, ◌==◌, List, [], ◌∷◌, map, if◌then◌else◌, slice_get, Option, Some, None, Result, Ok, Err}
 use Rattle.std.specs.Ordering.{int_eq}
 use Rattle.fisca_meaning.specs.Questions.{fits, key_period}
 use Rattle.fisca_num.specs.Number.{Number}
-use Rattle.fisca_num.specs.Operations.{difference_of, quotient_of, number_over}
+use Rattle.fisca_num.specs.Rational.{Ratio}
+use Rattle.fisca_num.specs.Operations.{number_of, difference_of}
 use Rattle.fisca_num.specs.declared.faults.NumFault.{NumFault}
 use Rattle.fisca_params.specs.Results.{and_then}
 use Rattle.fisca_tables.specs.declared.variable.SetInput.{SetInput}
@@ -38,10 +39,15 @@ rest_of line es [] n = Ok n
 rest_of line es (k ∷ ks) n = and_then (without line (value_at es k) n) (rest_of line es ks)
 
 abbrev pub count_free : Entries → List Key → ℕ
-count_free es ks = length (filter (λ k. not (has es k)) ks)
+count_free es [] = 0
+count_free es (k ∷ ks) = if has es k then count_free es ks else suc (count_free es ks)
+
+-- one of so many equal parts of a number
+abbrev pub part_ratio : Number → ℕ → Ratio
+part_ratio n count = record { numerator = n.numerator; denominator = n.denominator * count }
 
 abbrev pub share_of : ℕ → Number → ℕ → Result Number SituationFault
-share_of line n count = computed line (and_then (number_over (pos count) (pos 1)) (quotient_of n))
+share_of line n count = computed line (number_of (part_ratio n count))
 
 -- equally over those that have none; where all have one, nothing may be left
 abbrev pub spread : ℕ → ℕ → List Key → Entries → Number → Result Entries SituationFault

@@ -59,6 +59,7 @@ looked-put_free line x k es new q h = by (value_at es k) refl h
     stays : (b : Bool) → same_key q k ≡ b → (y : Value) → value_at es k ≡ Some y → value_at es q ≡ otherwise (value_at es q) (if b then Some x else None)
     stays true same y there = let e : value_at es q ≡ Some y = looked-like q k same es ∙ there in e ∙ ap (λ o. otherwise o (Some x)) (sym e)
     stays false same y there = sym (otherwise_none (value_at es q))
+
     by : (o : Option Value) → value_at es k ≡ o → (if is_some o then Ok es else put line k x es) ≡ Ok new
         → value_at new q ≡ otherwise (value_at es q) (if same_key q k then Some x else None)
     by (Some y) there e = let same : es ≡ new = cc in ap (λ fs. value_at fs q) (sym same) ∙ stays (same_key q k) refl y there
@@ -75,6 +76,7 @@ looked-put_all line x (k ∷ ks) es new q h = by (λ mid rest. looked-put_all li
     both true b None = refl
     both false b (Some y) = refl
     both false b None = refl
+
     by : ((mid : Entries) → put_all line x ks mid ≡ Ok new → value_at new q ≡ otherwise (value_at mid q) (if list_any (same_key q) ks then Some x else None))
         → (r : Result Entries SituationFault) → put_free line x k es ≡ r → and_then r (put_all line x ks) ≡ Ok new
         → value_at new q ≡ otherwise (value_at es q) (if list_any (same_key q) (k ∷ ks) then Some x else None)

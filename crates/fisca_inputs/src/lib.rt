@@ -6,10 +6,12 @@ mod fault;
 mod given;
 mod inputs;
 mod key;
+mod law;
 mod periods;
 
 pub use fault::{SituationFault, SituationKind};
 pub use given::{Given, GivenInputs, Value};
 pub use inputs::Inputs;
 pub use key::Key;
+pub use law::shares_add_up;
 pub use periods::{key_period, takes};

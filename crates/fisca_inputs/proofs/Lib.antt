@@ -1,8 +1,11 @@
 pub mod Givens
 pub mod Looked
 pub mod Numbers
+pub mod Parting
 pub mod Puts
+pub mod Rests
 pub mod SharedLaws
 pub mod Shares
+pub mod Steps
 pub mod Sums
 mod Worked

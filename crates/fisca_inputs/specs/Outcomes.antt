@@ -12,3 +12,8 @@ Tells view outcome (Err f) = (f.kind ≢ Memory → outcome ≡ Err f) × (f.kin
 abbrev pub Becomes : {X Y : Type 0} → Result Y SituationFault → Y → Result X SituationFault → Type 0
 Becomes outcome new (Ok x) = outcome ≡ Ok new
 Becomes outcome new (Err f) = (f.kind ≢ Memory → outcome ≡ Err f) × (f.kind ≡ Memory → f.line ≡ 0)
+
+-- what a function that takes no memory tells
+abbrev pub Answers : {X Y : Type 0} → (X → Y) → Result Y SituationFault → Result X SituationFault → Type 0
+Answers view outcome (Ok x) = outcome ≡ Ok (view x)
+Answers view outcome (Err f) = (outcome ≡ Err f) × (f.kind ≢ Memory)

@@ -10,6 +10,7 @@ use Rattle.fisca_params.specs.Results.{and_then}
 use Rattle.fisca_tables.specs.declared.variable.SetInput.{SetInput}
 use Rattle.fisca_tables.specs.declared.variable.SetInput.TheVariants as sharing
 use Rattle.fisca_time.specs.Period.{Span, subs}
+use Rattle.fisca_time.specs.declared.unit.Unit.{Unit}
 use Rattle.fisca_inputs.specs.Entries.{Entries, key, value_at, has, put, put_all}
 use Rattle.fisca_inputs.specs.Faults.{at_line}
 use Rattle.fisca_inputs.specs.Rules.{Rule, is_longer}
@@ -71,8 +72,11 @@ abbrev pub alone : ℕ → Key → Value → Entries → Result Entries Situatio
 alone line k x es = if has es k then Err (at_line line InconsistentInput) else put line k x es
 
 -- the keys of the parts of a period by the definition period, in order of time
+abbrev pub parts_by : Unit → Given → List Key
+parts_by unit g = map (λ p. key g.variable g.member p) (subs g.period unit)
+
 abbrev pub parts_of : Rule → Given → List Key
-parts_of r g = map (λ p. key g.variable g.member p) (subs g.period r.unit)
+parts_of r g = parts_by r.unit g
 
 -- dispatched, each part that has no value gets the whole
 abbrev pub over_parts : Option SetInput → Given → List Key → Entries → Result Entries SituationFault
@@ -80,9 +84,13 @@ over_parts None g ks es = Err (at_line g.line PeriodMismatch)
 over_parts (Some sharing.DivideByPeriod) g ks es = divided_value g.line g.value ks es
 over_parts (Some sharing.DispatchByPeriod) g ks es = put_all g.line g.value ks es
 
+-- its key where it is of the definition period
+abbrev pub own_key : Rule → Given → Key
+own_key r g = key g.variable g.member (key_period r.unit g.period)
+
 abbrev pub shared : Rule → Given → Entries → Result Entries SituationFault
 shared r g es =
-    if fits r.unit g.period then alone g.line (key g.variable g.member (key_period r.unit g.period)) g.value es
+    if fits r.unit g.period then alone g.line (own_key r g) g.value es
     else (if is_longer r.unit g.period then over_parts r.set_input g (parts_of r g) es else Err (at_line g.line PeriodMismatch))
 
 abbrev pub shared_by : Option Rule → Given → Entries → Result Entries SituationFault

@@ -8,6 +8,7 @@ mod inputs;
 mod key;
 mod law;
 mod periods;
+mod sharing;
 
 pub use fault::{SituationFault, SituationKind};
 pub use given::{Given, GivenInputs, Value};

@@ -7,7 +7,9 @@ mod given;
 mod inputs;
 mod key;
 mod law;
+mod order;
 mod periods;
+mod share;
 mod sharing;
 
 pub use fault::{SituationFault, SituationKind};

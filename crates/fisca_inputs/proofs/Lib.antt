@@ -1,6 +1,7 @@
 pub mod Givens
 pub mod Looked
 pub mod Numbers
+pub mod Ordered
 pub mod Parting
 pub mod Puts
 pub mod Rests

@@ -4,6 +4,7 @@ pub mod Faults
 pub mod Inputs
 pub mod Order
 pub mod Outcomes
+pub mod Ranks
 pub mod Rules
 pub mod Seen
 pub mod Sharing

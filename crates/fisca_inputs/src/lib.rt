@@ -2,6 +2,7 @@
 //! defaults were given beside other members' inputs.
 #![tactic(auto)]
 
+mod defaults;
 mod fault;
 mod given;
 mod inputs;

@@ -1,6 +1,8 @@
 //! The order in which given inputs are shared.
 
-ghost use Rattle.std.specs.Prelude.{◌≡◌, map, IfOk};
+ghost use Rattle.std.specs.Prelude.{◌≡◌, map, IfOk, OnOk};
+ghost use Rattle.std.specs.BTreeMap.{insert_entry};
+ghost use Rattle.fisca_inputs.specs.Ranks.{rank_cmp};
 ghost use Rattle.fisca_inputs.specs.Order as spec;
 ghost use Rattle.fisca_inputs.specs.Rules.{rule_of};
 ghost use Rattle.fisca_time.specs.Period.{start_of, unit_of};
@@ -50,6 +52,20 @@ fn rank_of(variables: &[Variable<'_>], given: &Given, place: usize) -> Rank
     (length, (given.period.start(), (given.period.unit(), place)))
 }
 
+/// Puts a given input at its rank. No other has this rank.
+fn insert<'g>(
+    sorted: &mut BTreeMap<Rank, &'g Given>,
+    rank: Rank,
+    given: &'g Given,
+) -> Result<(), AllocError>
+    ensures { OnOk result (sorted.new.entries ≡ insert_entry rank_cmp sorted.old.entries rank given.entry) }
+{
+    match sorted.insert(rank, given) {
+        Ok(_) => Ok(()),
+        Err(_) => Err(AllocError),
+    }
+}
+
 /// The given inputs by length, then start, then unit, the smaller first, and those that agree in all three as they stand here (this
 /// project's own order). `AllocError` only where a growth was refused.
 pub(crate) fn in_order<'g>(
@@ -62,7 +78,7 @@ pub(crate) fn in_order<'g>(
     let mut sorted = BTreeMap::new(alloc);
     for (place, given) in givens.iter().enumerate() {
         let rank = rank_of(variables, given, place);
-        sorted.insert(rank, given)?;
+        insert(&mut sorted, rank, given)?;
     }
     Ok(sorted)
 }

@@ -1,5 +1,5 @@
 -- Inputs while they are read, by their keys.
-use Rattle.std.proofs.Common.{◌≡◌, ◌≢◌, ℕ, List, [], ◌∷◌, ◌++◌, map, Bool, true, false, refl, ap, sym, ◌∙◌, if◌then◌else◌, ◌||◌}
+use Rattle.std.proofs.Common.{◌≡◌, List, [], ◌∷◌, ◌++◌, map, Bool, true, false, refl, ap, sym, ◌∙◌, if◌then◌else◌, ◌||◌}
 use Rattle.std.specs.Prelude.{Result, Ok, Err}
 use Rattle.std.specs.List.{list_any}
 use Rattle.fisca_params.specs.Results.{and_then}
@@ -7,7 +7,7 @@ use Rattle.fisca_inputs.specs.Entries.{same_key}
 use Rattle.fisca_inputs.specs.Inputs.{and_given, key_given, with_key}
 use Rattle.fisca_inputs.specs.Faults.{at_line}
 use Rattle.fisca_inputs.specs.declared.fault.SituationFault.{SituationFault}
-use Rattle.fisca_inputs.specs.declared.fault.SituationKind.TheVariants.{InconsistentInput, Memory}
+use Rattle.fisca_inputs.specs.declared.fault.SituationKind.TheVariants.{InconsistentInput}
 use Rattle.fisca_inputs.specs.declared.given.Given.{Given}
 use Rattle.fisca_inputs.specs.declared.key.Key.{Key}
 

@@ -5,6 +5,7 @@ pub mod Ordered
 pub mod Parting
 pub mod Puts
 pub mod Rests
+pub mod Rows
 pub mod SharedLaws
 pub mod Shares
 pub mod Steps

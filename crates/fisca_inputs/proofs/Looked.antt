@@ -1,10 +1,10 @@
 -- What is found in entries when more are put.
-use Rattle.std.proofs.Common.{◌≡◌, ℕ, ◌+◌, List, [], ◌∷◌, ◌++◌, length, Bool, true, false, cond, Option, Some, None, is_some, refl, sym, ap, ◌∙◌, if◌then◌else◌, ◌||◌, subst}
+use Rattle.std.proofs.Common.{◌≡◌, ℕ, List, [], ◌∷◌, ◌++◌, length, Bool, true, false, cond, Option, Some, None, is_some, refl, sym, ap, ◌∙◌, if◌then◌else◌, ◌||◌}
 use Rattle.std.specs.Prelude.{Result, Ok, Err, nat_lt}
 use Rattle.std.specs.Map.{lookup}
 use Rattle.std.specs.List.{list_any}
 use Rattle.fisca_typing.specs.Tables.{otherwise}
-use Rattle.fisca_inputs.specs.Entries.{Entries, same_key, value_at, has, limit, put, put_free, put_all}
+use Rattle.fisca_inputs.specs.Entries.{Entries, same_key, value_at, limit, put, put_free, put_all}
 use Rattle.fisca_params.specs.Results.{and_then}
 use Rattle.fisca_inputs.specs.contracts.key.KeyEq.TheImpl.Laws.{laws-law}
 use Rattle.fisca_inputs.specs.Faults.{at_line}

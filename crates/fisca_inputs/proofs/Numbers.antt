@@ -1,5 +1,5 @@
 -- Small numbers, and what operations on them give.
-use Rattle.std.proofs.Common.{◌≡◌, ℕ, ◌<◌, ◌*◌, ◌^◌, sym, lit<}
+use Rattle.std.proofs.Common.{◌≡◌, ℕ, ◌<◌, ◌*◌, ◌^◌, sym}
 use Rattle.std.specs.Prelude.{pos, Ok}
 use Rattle.fisca_num.specs.Rational.{IsSame, ratio_difference}
 use Rattle.fisca_num.specs.Number.{Number, ratio_of, whole_number}

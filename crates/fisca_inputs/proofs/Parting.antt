@@ -1,11 +1,10 @@
 -- A number divided by a whole number.
-use Rattle.std.proofs.Common.{◌≡◌, ℕ, ◌*◌, ◌<◌, ◌^◌, ℤ, pos, negsuc, ◌*ℤ◌, arith, ap, sym, ◌∙◌, refl, lit<}
-use Rattle.std.specs.Prelude.{Ok, Err, Result}
+use Rattle.std.proofs.Common.{◌≡◌, ℕ, ◌<◌, ◌^◌, ℤ, pos, ◌*ℤ◌, arith, ap, sym, ◌∙◌, refl, lit<}
+use Rattle.std.specs.Prelude.{Ok, Err}
 use Rattle.std.proofs.Math.Nat.{mul_comm}
-use Rattle.std.proofs.lemmas.Int.{ints}
 use borrow.Author.Differences.{product_is, same_in}
-use Rattle.fisca_num.specs.Rational.{Ratio, over, ratio_quotient}
-use Rattle.fisca_num.specs.Number.{Number, ratio_of, whole_number}
+use Rattle.fisca_num.specs.Rational.{over}
+use Rattle.fisca_num.specs.Number.{Number}
 use Rattle.fisca_num.specs.Operations.{number_of, number_over, quotient_of, only_number_of}
 use Rattle.fisca_num.specs.declared.faults.NumFault.{NumFault}
 use Rattle.fisca_inputs.specs.Sharing.{part_ratio}

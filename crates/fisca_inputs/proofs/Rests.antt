@@ -1,5 +1,5 @@
 -- What is left of a number, part by part.
-use Rattle.std.proofs.Common.{◌≡◌, ◌≢◌, ℕ, suc, ◌+◌, List, ◌∷◌, drop, Option, Some, None, slice_get, arith, sym, ap, ◌∙◌, refl, is_some, if◌then◌else◌}
+use Rattle.std.proofs.Common.{◌≡◌, ◌≢◌, ℕ, suc, ◌+◌, List, drop, Option, Some, None, slice_get, arith, sym, ap, ◌∙◌, refl, is_some, if◌then◌else◌}
 use Rattle.std.specs.Prelude.{Result, Ok, Err}
 use Rattle.fisca_num.specs.Number.{Number}
 use Rattle.fisca_num.specs.Operations.{difference_of}
@@ -8,7 +8,6 @@ use Rattle.fisca_inputs.specs.Entries.{Entries, value_at}
 use Rattle.fisca_inputs.specs.Faults.{at_line}
 use Rattle.fisca_inputs.specs.Sharing.{computed, without, rest_of, count_free}
 use Rattle.fisca_inputs.specs.declared.fault.SituationFault.{SituationFault}
-use Rattle.fisca_inputs.specs.declared.fault.SituationKind.{SituationKind}
 use Rattle.fisca_inputs.specs.declared.fault.SituationKind.TheVariants.{BadValue, Memory}
 use Rattle.fisca_inputs.specs.declared.given.Value.{Value}
 use Rattle.fisca_inputs.specs.declared.given.Value.TheVariants as v

@@ -1,9 +1,8 @@
 -- Laws of one given input.
-use Rattle.std.proofs.Common.{◌≡◌, ℕ, List, Bool, true, false, Option, Some, refl, sym, ap, ◌∙◌, subst, if◌then◌else◌}
+use Rattle.std.proofs.Common.{◌≡◌, Bool, true, false, Some, sym, ap, ◌∙◌, if◌then◌else◌}
 use Rattle.std.specs.Prelude.{Ok, Err, Result}
 use Rattle.fisca_meaning.specs.Questions.{fits, key_period}
 use Rattle.fisca_num.specs.Number.{Number}
-use Rattle.fisca_tables.specs.declared.variable.SetInput.{SetInput}
 use Rattle.fisca_tables.specs.declared.variable.SetInput.TheVariants as sharing
 use Rattle.fisca_inputs.specs.Entries.{Entries, key}
 use Rattle.fisca_inputs.specs.Faults.{at_line}
@@ -13,9 +12,7 @@ use Rattle.fisca_inputs.specs.Totals.{AddUpTo}
 use Rattle.fisca_inputs.specs.declared.fault.SituationFault.{SituationFault}
 use Rattle.fisca_inputs.specs.declared.fault.SituationKind.TheVariants.{PeriodMismatch}
 use Rattle.fisca_inputs.specs.declared.given.Given.{Given}
-use Rattle.fisca_inputs.specs.declared.given.Value.{Value}
 use Rattle.fisca_inputs.specs.declared.given.Value.TheVariants as v
-use Rattle.fisca_inputs.specs.declared.key.Key.{Key}
 use Rattle.fisca_inputs.proofs.Shares.{divided_adds}
 
 pub divided_input_adds : (r : Rule) (g : Given) (n : Number) (es after : Entries) → fits r.unit g.period ≡ false → r.set_input ≡ Some sharing.DivideByPeriod

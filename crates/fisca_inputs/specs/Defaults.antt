@@ -1,10 +1,10 @@
 -- Defaults beside another member's input.
-use Rattle.std.specs.Prelude.{ℕ, ◌==◌, List, [], ◌∷◌, map, if◌then◌else◌, slice_get, Option, Some, None, Result, Ok, Err}
-use Rattle.std.specs.List.{range_with_len}
+use Rattle.std.specs.Prelude.{ℕ, ◌==◌, List, [], ◌∷◌, ◌++◌, map, if◌then◌else◌, slice_get, Option, Some, None, Result, Ok}
+use Rattle.std.specs.List.{range_with_len, list_any}
 use Rattle.std.specs.Option.{unwrap_or}
 use Rattle.fisca_params.specs.Results.{and_then}
 use Rattle.fisca_time.specs.Period.{Span}
-use Rattle.fisca_inputs.specs.Entries.{Entries, key, put_all}
+use Rattle.fisca_inputs.specs.Entries.{Entries, key, same_key, put_all}
 use Rattle.fisca_inputs.specs.Rules.{Rule}
 use Rattle.fisca_inputs.specs.declared.fault.SituationFault.{SituationFault}
 use Rattle.fisca_inputs.specs.declared.given.Given.{Given}
@@ -36,7 +36,22 @@ beside_by (Some r) counts gs k es = row_with (first_line gs k.variable) r.defaul
 abbrev pub beside : List Rule → List ℕ → List Given → Key → Entries → Result Entries SituationFault
 beside rules counts gs k es = beside_by (slice_get rules k.variable) counts gs k es
 
--- beside each of these entries
-abbrev pub with_defaults : List Rule → List ℕ → List Given → Entries → Entries → Result Entries SituationFault
+-- the key of the first member stands for all at its variable and period
+abbrev pub row_key : Key → Key
+row_key k = key k.variable 0 k.period
+
+abbrev pub and_row : List Key → Key → List Key
+and_row rows k = if list_any (same_key k) rows then rows else rows ++ k ∷ []
+
+abbrev pub rows_with : List Key → Entries → List Key
+rows_with rows [] = rows
+rows_with rows (e ∷ es) = rows_with (and_row rows (row_key e.0)) es
+
+-- the variables and periods that some member has a value for, each once
+abbrev pub rows_of : Entries → List Key
+rows_of es = rows_with [] es
+
+-- beside each of these
+abbrev pub with_defaults : List Rule → List ℕ → List Given → List Key → Entries → Result Entries SituationFault
 with_defaults rules counts gs [] es = Ok es
-with_defaults rules counts gs (e ∷ others) es = and_then (beside rules counts gs e.0 es) (with_defaults rules counts gs others)
+with_defaults rules counts gs (k ∷ ks) es = and_then (beside rules counts gs k es) (with_defaults rules counts gs ks)

@@ -2,7 +2,7 @@
 use Rattle.std.specs.Prelude.{ℕ, ◌==◌, not, List, [], ◌∷◌, ◌++◌, if◌then◌else◌, filter, Bool, Result, Ok, Err}
 use Rattle.std.specs.List.{list_any}
 use Rattle.fisca_params.specs.Results.{and_then}
-use Rattle.fisca_inputs.specs.Defaults.{with_defaults}
+use Rattle.fisca_inputs.specs.Defaults.{rows_of, with_defaults}
 use Rattle.fisca_inputs.specs.Entries.{Entries, key, same_key}
 use Rattle.fisca_inputs.specs.Faults.{at_line}
 use Rattle.fisca_inputs.specs.Order.{in_order}
@@ -16,7 +16,7 @@ use Rattle.fisca_inputs.specs.declared.key.Key.{Key}
 -- The inputs that are given, in the order of the file, with the number of members of each kind: the shorter are shared first, and then each
 -- member that has none gets the default beside another's.
 abbrev pub inputs_of : List Rule → List ℕ → List Given → Result Entries SituationFault
-inputs_of rules counts gs = and_then (all_shared rules (in_order rules gs) []) (λ es. with_defaults rules counts gs es es)
+inputs_of rules counts gs = and_then (all_shared rules (in_order rules gs) []) (λ es. with_defaults rules counts gs (rows_of es) es)
 
 -- Reading
 

@@ -9,7 +9,7 @@ use Rattle.fisca_num.specs.declared.faults.NumFault.{NumFault}
 use Rattle.fisca_params.specs.Results.{and_then}
 use Rattle.fisca_tables.specs.declared.variable.SetInput.{SetInput}
 use Rattle.fisca_tables.specs.declared.variable.SetInput.TheVariants as sharing
-use Rattle.fisca_time.specs.Period.{Span, subs}
+use Rattle.fisca_time.specs.Period.{subs}
 use Rattle.fisca_time.specs.declared.unit.Unit.{Unit}
 use Rattle.fisca_inputs.specs.Entries.{Entries, key, value_at, has, put, put_all}
 use Rattle.fisca_inputs.specs.Faults.{at_line}

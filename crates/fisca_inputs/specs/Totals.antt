@@ -1,6 +1,6 @@
 -- Sums of numbers, and what accepted inputs keep.
-use Rattle.std.specs.Prelude.{◌≡◌, ◌⊎◌, ℕ, ◌<◌, ℤ, pos, ◌+ℤ◌, List, [], ◌∷◌, Some, None}
-use Rattle.std.specs.List.{AllZip, All}
+use Rattle.std.specs.Prelude.{◌≡◌, ℕ, ◌<◌, ℤ, pos, ◌+ℤ◌, List, [], ◌∷◌, Some}
+use Rattle.std.specs.List.{AllZip}
 use Rattle.fisca_num.specs.Number.{Number, ratio_of}
 use Rattle.fisca_num.specs.Rational.{IsSame}
 use Rattle.fisca_inputs.specs.Entries.{Entries, value_at}

@@ -1,14 +1,15 @@
 //! The table of inputs.
 
-ghost use Rattle.std.specs.Prelude.{◌≡◌, [], false};
+ghost use Rattle.std.specs.Prelude.{◌≡◌, [], false, IfOk};
+ghost use Rattle.fisca_inputs.specs.Defaults.{rows_of};
 ghost use Rattle.fisca_inputs.specs.Entries as spec;
 ghost use Rattle.fisca_inputs.specs.Outcomes.{Becomes};
 
 use crate::fault::{SituationFault, SituationKind};
 use crate::given::Value;
 use crate::key::Key;
-use indexmap::IndexMap;
-use std::alloc::Global;
+use indexmap::{IndexMap, IndexSet};
+use std::alloc::{AllocError, Global};
 use std::marker::Model;
 
 /// The largest number of inputs.
@@ -73,5 +74,20 @@ impl Inputs {
             return Ok(());
         }
         self.put(line, key, value)
+    }
+
+    /// The variables and periods that some member has a value for, each once, by the key of the first member.
+    pub(crate) fn rows(&self, alloc: Global) -> Result<IndexSet<Key>, AllocError>
+        ensures { IfOk result (λ rows. rows.keys ≡ rows_of self.now) }
+    {
+        let mut rows = IndexSet::new(alloc);
+        for (key, _value) in self.entries.iter() {
+            rows.insert(Key {
+                variable: key.variable,
+                member: 0,
+                period: key.period,
+            })?;
+        }
+        Ok(rows)
     }
 }

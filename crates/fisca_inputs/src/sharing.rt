@@ -185,7 +185,11 @@ impl Inputs {
     /// `InconsistentInput` where its key has a value, or where a divided one leaves something that no part takes; `BadValue` where a
     /// divided one is no number, or a difference or a share is too wide; `PeriodMismatch` where the period is neither; `TooMany` where
     /// there would be more than 100,000 inputs; all at its line.
-    pub(crate) fn put_given(&mut self, variable: &Variable<'_>, given: &Given) -> Result<(), SituationFault>
+    pub(crate) fn put_given(
+        &mut self,
+        variable: &Variable<'_>,
+        given: &Given,
+    ) -> Result<(), SituationFault>
         ensures { Becomes (spec.shared (rule_of variable.now) given.now self.old) self.new result }
     {
         let unit = variable.definition_period;

@@ -1,8 +1,8 @@
-use Rattle.std.proofs.Common.{◌≡◌, ℕ, suc, ◌+◌, List, ◌∷◌, ap, sym, ◌∙◌, subst, drop, drop-cons, add-one, map, arith}
+use Rattle.std.proofs.Common.{◌≡◌, suc, ◌+◌, List, ◌∷◌, ap, sym, ◌∙◌, subst, drop, drop-cons, add-one, map, arith}
 use Rattle.fisca_inputs.specs.Order.{in_order_with, put_in_order}
 use Rattle.fisca_inputs.specs.Rules.{Rule, rule_of}
 use Rattle.fisca_inputs.specs.declared.given.Given.{Given}
-use Rattle.fisca_inputs.proofs.Ordered.{Entry, IsRank, Kept, given_of, insert-in_order, Kept-insert}
+use Rattle.fisca_inputs.proofs.Ordered.{IsRank, Kept, given_of, insert-in_order, Kept-insert}
 use Rattle.fisca_inputs.proofs.order.in_order.Goals as goal
 
 pub loop-place-preserved : goal.loop-place-preserved

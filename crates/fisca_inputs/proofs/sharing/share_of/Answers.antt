@@ -1,4 +1,4 @@
-use Rattle.std.proofs.Common.{◌≡◌, ◌<◌, ◌^◌, ◌∙◌, ap, sym, pos, arith}
+use Rattle.std.proofs.Common.{◌≡◌, ◌∙◌, ap, sym, pos, arith}
 use Rattle.std.proofs.lemmas.Int.{ints}
 use Rattle.fisca_num.specs.Operations.{number_over}
 use Rattle.fisca_inputs.specs.Sharing.{computed}

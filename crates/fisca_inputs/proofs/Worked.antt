@@ -219,5 +219,6 @@ years_from_april = refl
 
 -- Neutralised variables
 
-without_one : without_marked (5 ∷ []) ((key 5 0 january, ten) ∷ (key 1 0 january, seven) ∷ []) ≡ (key 1 0 january, seven) ∷ []
+without_one : without_marked (false ∷ false ∷ true ∷ []) ((key 2 0 year_2017, ten) ∷ (key 1 0 january, seven) ∷ (key 5 0 january, ten) ∷ [])
+    ≡ (key 1 0 january, seven) ∷ (key 5 0 january, ten) ∷ []
 without_one = refl

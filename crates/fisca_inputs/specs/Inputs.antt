@@ -1,6 +1,7 @@
 -- The inputs of a situation.
-use Rattle.std.specs.Prelude.{ℕ, ◌==◌, not, List, [], ◌∷◌, ◌++◌, if◌then◌else◌, filter, Bool, Result, Ok, Err}
+use Rattle.std.specs.Prelude.{ℕ, false, slice_get, not, List, [], ◌∷◌, ◌++◌, if◌then◌else◌, filter, Bool, Result, Ok, Err}
 use Rattle.std.specs.List.{list_any}
+use Rattle.std.specs.Option.{unwrap_or}
 use Rattle.fisca_params.specs.Results.{and_then}
 use Rattle.fisca_inputs.specs.Defaults.{rows_of, with_defaults}
 use Rattle.fisca_inputs.specs.Entries.{Entries, key, same_key}
@@ -33,9 +34,10 @@ and_given gs g = if list_any (λ h. same_key (key_given g) (key_given h)) gs the
 
 -- Neutralised variables
 
-abbrev pub is_marked : List ℕ → ℕ → Bool
-is_marked marked x = list_any (λ y. x == y) marked
+-- marks by the places of variables; there is none past the last
+abbrev pub is_marked : List Bool → ℕ → Bool
+is_marked marks x = unwrap_or (slice_get marks x) false
 
 -- without the entries of these variables
-abbrev pub without_marked : List ℕ → Entries → Entries
-without_marked marked es = filter (λ e. not (is_marked marked e.0.variable)) es
+abbrev pub without_marked : List Bool → Entries → Entries
+without_marked marks es = filter (λ e. not (is_marked marks e.0.variable)) es

@@ -1,6 +1,7 @@
 //! The table of inputs.
 
-ghost use Rattle.std.specs.Prelude.{◌≡◌, [], false, IfOk};
+ghost use Rattle.std.specs.Prelude.{◌≡◌, [], false, not, IfOk};
+ghost use Rattle.fisca_inputs.specs.Inputs.{is_marked, without_marked};
 ghost use Rattle.fisca_inputs.specs.Defaults.{rows_of};
 ghost use Rattle.fisca_inputs.specs.Entries as spec;
 ghost use Rattle.fisca_inputs.specs.Outcomes.{Becomes};
@@ -89,5 +90,26 @@ impl Inputs {
             })?;
         }
         Ok(rows)
+    }
+
+    /// Takes out the inputs of the variables that have a mark, by their places. There is none past the last mark.
+    pub fn neutralize(&mut self, marks: &[bool])
+        ensures { self.new ≡ without_marked marks.now self.old }
+    {
+        self.entries.retain(
+            |key: &Key, value: &mut Value| -> bool
+                ensures { (result ≡ not (is_marked marks.entry.now key.now.variable)) × (value.new ≡ value.old) }
+            { !is_marked(marks, key.variable) },
+        );
+    }
+}
+
+/// Whether the variable at this place has a mark.
+fn is_marked(marks: &[bool], variable: usize) -> bool
+    ensures { result ≡ is_marked marks.now variable }
+{
+    match marks.get(variable) {
+        Some(mark) => *mark,
+        None => false,
     }
 }

@@ -1,3 +1,4 @@
+pub mod Beside
 pub mod Givens
 pub mod Looked
 pub mod Numbers

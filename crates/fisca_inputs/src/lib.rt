@@ -17,5 +17,5 @@ pub use fault::{SituationFault, SituationKind};
 pub use given::{Given, GivenInputs, Value};
 pub use inputs::Inputs;
 pub use key::Key;
-pub use law::shares_add_up;
+pub use law::{defaults_stand_beside, shares_add_up};
 pub use periods::{key_period, takes};

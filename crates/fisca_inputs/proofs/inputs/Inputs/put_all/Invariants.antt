@@ -1,0 +1,8 @@
+use Rattle.std.proofs.Common.{◌≡◌, drop}
+use Rattle.fisca_inputs.specs.Entries.{put_all}
+use Rattle.fisca_inputs.specs.Sharing.{parts_by}
+use Rattle.fisca_inputs.proofs.inputs.Inputs.put_all.Given as goal
+
+-- what is left, put into what there is, gives the whole
+abbrev pub invariant-loop-i : goal.invariant-loop-i
+invariant-loop-i l = put_all l.given.line l.value (drop l.i (parts_by l.unit l.given)) l.self ≡ put_all l.fn.given.line l.fn.value (parts_by l.fn.unit l.fn.given) l.fn.self

@@ -1,0 +1,21 @@
+//! The inputs of a situation: a value for each key that has one, after longer inputs were shared over their parts and
+//! defaults were given beside other members' inputs.
+#![tactic(auto)]
+
+mod defaults;
+mod fault;
+mod given;
+mod inputs;
+mod key;
+mod law;
+mod order;
+mod periods;
+mod share;
+mod sharing;
+
+pub use fault::{SituationFault, SituationKind};
+pub use given::{Given, GivenInputs, Value};
+pub use inputs::Inputs;
+pub use key::Key;
+pub use law::{defaults_stand_beside, shares_add_up};
+pub use periods::{key_period, takes};

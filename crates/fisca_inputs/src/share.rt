@@ -1,0 +1,72 @@
+//! All given inputs, one after another.
+
+ghost use Rattle.std.specs.Prelude.{◌≡◌, map, slice_get};
+ghost use Rattle.fisca_inputs.specs.Outcomes.{Becomes, Tells};
+ghost use Rattle.fisca_inputs.specs.Inputs.{inputs_of};
+ghost use Rattle.fisca_inputs.specs.Rules.{rule_of};
+ghost use Rattle.fisca_inputs.specs.Sharing as spec;
+
+use crate::fault::{SituationFault, SituationKind};
+use crate::given::Given;
+use crate::inputs::Inputs;
+use crate::order::{Rank, in_order};
+use crate::sharing::fault;
+use fisca_tables::Variable;
+use std::alloc::Global;
+use std::collections::BTreeMap;
+
+impl Inputs {
+    /// The inputs of a situation: those that are given, in the order of the file, beside the variables of a rule set and the number of
+    /// members of each entity, by its place.
+    ///
+    /// First the given ones, the shorter before the longer ones, then those that start earlier, then those of the smaller unit: each of its
+    /// variable's definition period as it is, a longer one divided or dispatched over its parts. Then, where a member has a value, each
+    /// other of its kind that has none for the variable and period gets the variable's default.
+    ///
+    /// Else the first fault: `InconsistentInput`, `BadValue`, `PeriodMismatch`, `UnknownVariable` or `TooMany` at the line of the input that
+    /// is shared, `TooMany` of defaults at the line of the variable's first input, and `Memory` at line 0 where a growth was refused. (This
+    /// project's own rules.)
+    pub fn share(
+        alloc: Global,
+        variables: &[Variable<'_>],
+        counts: &[u32],
+        givens: &[Given],
+    ) -> Result<Inputs, SituationFault>
+        ensures { Tells (λ i. i) (inputs_of (map rule_of variables.now) counts.now givens.now) result }
+    {
+        let sorted = in_order(alloc, variables, givens)?;
+        let mut inputs = Inputs::new(alloc);
+        inputs.put_givens(variables, &sorted)?;
+        let rows = inputs.rows(alloc)?;
+        inputs.put_defaults(variables, counts, givens, &rows)?;
+        Ok(inputs)
+    }
+
+    /// Puts a given input by what its variable says. `UnknownVariable` at its line where there is none.
+    fn put_by_variable(
+        &mut self,
+        variables: &[Variable<'_>],
+        given: &Given,
+    ) -> Result<(), SituationFault>
+        ensures { Becomes (spec.shared_by (slice_get (map rule_of variables.now) given.now.variable) given.now self.old) self.new result }
+    {
+        match variables.get(given.variable) {
+            Some(variable) => self.put_given(variable, given),
+            None => Err(fault(given.line, SituationKind::UnknownVariable)),
+        }
+    }
+
+    /// Puts given inputs one after another, in this order.
+    pub(crate) fn put_givens(
+        &mut self,
+        variables: &[Variable<'_>],
+        givens: &BTreeMap<Rank, &Given>,
+    ) -> Result<(), SituationFault>
+        ensures { Becomes (spec.all_shared (map rule_of variables.now) (map (λ e. e.1.now) givens.now.entries) self.old) self.new result }
+    {
+        for (_rank, given) in givens.iter() {
+            self.put_by_variable(variables, given)?;
+        }
+        Ok(())
+    }
+}

@@ -1,0 +1,7 @@
+pub mod Faults
+pub mod Groups
+pub mod Members
+pub mod Outcomes
+pub mod Persons
+pub mod Sections
+pub mod Views

@@ -1,0 +1,34 @@
+-- Laws of one given input.
+use Rattle.std.proofs.Common.{◌≡◌, ℕ, List, Bool, true, false, Option, Some, refl, sym, ap, ◌∙◌, subst, if◌then◌else◌}
+use Rattle.std.specs.Prelude.{Ok, Err, Result}
+use Rattle.fisca_meaning.specs.Questions.{fits, key_period}
+use Rattle.fisca_num.specs.Number.{Number}
+use Rattle.fisca_tables.specs.declared.variable.SetInput.{SetInput}
+use Rattle.fisca_tables.specs.declared.variable.SetInput.TheVariants as sharing
+use Rattle.fisca_inputs.specs.Entries.{Entries, key}
+use Rattle.fisca_inputs.specs.Faults.{at_line}
+use Rattle.fisca_inputs.specs.Rules.{Rule, is_longer}
+use Rattle.fisca_inputs.specs.Sharing.{shared, parts_of, over_parts, divided_value, alone}
+use Rattle.fisca_inputs.specs.Totals.{AddUpTo}
+use Rattle.fisca_inputs.specs.declared.fault.SituationFault.{SituationFault}
+use Rattle.fisca_inputs.specs.declared.fault.SituationKind.TheVariants.{PeriodMismatch}
+use Rattle.fisca_inputs.specs.declared.given.Given.{Given}
+use Rattle.fisca_inputs.specs.declared.given.Value.{Value}
+use Rattle.fisca_inputs.specs.declared.given.Value.TheVariants as v
+use Rattle.fisca_inputs.specs.declared.key.Key.{Key}
+use Rattle.fisca_inputs.proofs.Shares.{divided_adds}
+
+pub divided_input_adds : (r : Rule) (g : Given) (n : Number) (es after : Entries) → fits r.unit g.period ≡ false → r.set_input ≡ Some sharing.DivideByPeriod
+    → g.value ≡ v.Number n → shared r g es ≡ Ok after → AddUpTo after (parts_of r g) n
+divided_input_adds r g n es after own divides number h =
+    by (is_longer r.unit g.period) (ap (λ b. if b then alone g.line (key g.variable g.member (key_period r.unit g.period)) g.value es else whole (is_longer r.unit g.period)) (sym own) ∙ h)
+  where
+    whole : Bool → Result Entries SituationFault
+    whole b = if b then over_parts r.set_input g (parts_of r g) es else Err (at_line g.line PeriodMismatch)
+
+    by : (b : Bool) → (if b then over_parts r.set_input g (parts_of r g) es else Err (at_line g.line PeriodMismatch)) ≡ Ok after → AddUpTo after (parts_of r g) n
+    by true e =
+        let plain : divided_value g.line (v.Number n) (parts_of r g) es ≡ Ok after =
+        ap (λ x. divided_value g.line x (parts_of r g) es) (sym number) ∙ ap (λ s. over_parts s g (parts_of r g) es) (sym divides) ∙ e in
+        divided_adds g.line n (parts_of r g) es after plain
+    by false e = cc

@@ -1,0 +1,10 @@
+pub mod Defaults
+pub mod Entries
+pub mod Faults
+pub mod Inputs
+pub mod Order
+pub mod Outcomes
+pub mod Rules
+pub mod Seen
+pub mod Sharing
+pub mod Totals

@@ -1,0 +1,41 @@
+-- What inputs turn on of a variable, and the periods that one is given for.
+use Rattle.std.specs.Prelude.{ℕ, Bool, true, false, ◌&&◌, ◌||◌, nat_lt, length, Option, Some, None}
+use Rattle.fisca_meaning.specs.Questions.{fits}
+use Rattle.fisca_tables.specs.declared.variable.DefaultValue.{DefaultValue}
+use Rattle.fisca_tables.specs.declared.variable.DefaultValue.TheVariants as default
+use Rattle.fisca_tables.specs.declared.variable.SetInput.{SetInput}
+use Rattle.fisca_tables.specs.declared.variable.Variable.{Variable}
+use Rattle.fisca_time.specs.Period.{Span, subs}
+use Rattle.fisca_time.specs.declared.unit.Unit.{Unit}
+use Rattle.fisca_inputs.specs.declared.given.Value.{Value}
+use Rattle.fisca_inputs.specs.declared.given.Value.TheVariants as v
+
+-- its entity, its definition period, how longer inputs are shared, and what stands beside another member's input
+pub record Rule : Type 0 where
+  pub entity : ℕ
+  pub unit : Unit
+  pub set_input : Option SetInput
+  pub default : Option Value
+
+-- days and texts have no inputs here
+abbrev pub default_of : DefaultValue → Option Value
+default_of (default.Number n) = Some (v.Number n)
+default_of (default.Bool b) = Some (v.Bool b)
+default_of (default.Member i) = Some (v.Member i)
+default_of (default.Date d) = None
+default_of (default.Text t) = None
+
+abbrev pub rule_of : Variable → Rule
+rule_of x = record { entity = x.entity; unit = x.definition_period; set_input = x.set_input; default = default_of x.default_value }
+
+-- the period has more than one of the variable's definition periods
+abbrev pub is_longer : Unit → Span → Bool
+is_longer unit p = nat_lt 1 (length (subs p unit))
+
+abbrev pub is_some_rule : Option SetInput → Bool
+is_some_rule None = false
+is_some_rule (Some s) = true
+
+-- one definition period, or more where there is a rule that shares them; any period for an eternal variable
+abbrev pub is_accepted : Rule → Span → Bool
+is_accepted r p = fits r.unit p || (is_some_rule r.set_input && is_longer r.unit p)

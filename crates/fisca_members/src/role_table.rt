@@ -11,7 +11,7 @@ use std::marker::Model;
 
 /// The roles of a group, seen as a list. Each is found by its plural, or by its key if it has none.
 #[derive(Drop)]
-pub(crate) struct RoleTable<'e, 'r> {
+pub struct RoleTable<'e, 'r> {
     items: &'e [Role<'r>],
     names: Names<'e>,
 }
@@ -80,7 +80,7 @@ pub(crate) fn first_role(roles: &[Role<'_>]) -> RolePlace
 
 impl<'e, 'r> RoleTable<'e, 'r> {
     /// These roles.
-    pub(crate) fn new(alloc: Global, roles: &'e [Role<'r>]) -> Result<RoleTable<'e, 'r>, AllocError>
+    pub fn new(alloc: Global, roles: &'e [Role<'r>]) -> Result<RoleTable<'e, 'r>, AllocError>
         ensures { IfOk result (λ t. t ≡ known_roles roles.now) }
     {
         let names = titles_of(alloc, roles)?;
@@ -91,7 +91,7 @@ impl<'e, 'r> RoleTable<'e, 'r> {
     }
 
     /// The place of the role of this name.
-    pub(crate) fn of_name(&self, name: &[u8]) -> Option<usize>
+    pub fn of_name(&self, name: &[u8]) -> Option<usize>
         ensures { result ≡ spec.role_named self.now name.now }
     {
         self.names.place_of(name)

@@ -2,7 +2,7 @@
 use Rattle.std.specs.Prelude.{ℕ, Result, Ok, Err}
 use Rattle.std.specs.Option.{unwrap_or}
 use Rattle.fisca_yaml.specs.Find.{begins_on}
-use Rattle.fisca_yaml.specs.Node.{Node, null, scalar, list, map, Entries}
+use Rattle.fisca_yaml.specs.Node.{Node, null, scalar, list, map, Entries, no_entries}
 use Rattle.fisca_members.specs.declared.fault.Kind.{Kind}
 use Rattle.fisca_members.specs.declared.fault.Kind.TheVariants as kind
 use Rattle.fisca_members.specs.declared.fault.MembersFault.{MembersFault}
@@ -20,3 +20,10 @@ entries_at line null = bad_value line null
 entries_at line (scalar t q l) = bad_value line (scalar t q l)
 entries_at line (list is) = bad_value line (list is)
 entries_at line (map es) = Ok es
+
+-- the same of what has been read; of another shape there are none
+abbrev pub entries_in : Node → Entries
+entries_in null = no_entries
+entries_in (scalar t q l) = no_entries
+entries_in (list is) = no_entries
+entries_in (map es) = es

@@ -143,7 +143,7 @@ fn groups_in(
     ensures { Leaves members.new (spec.groups_in (known entities.now) persons.now members.old (input_view input.now)) result }
 {
     match input {
-        Input::Nothing | Input::OnePerson(_) => Ok(()),
+        Input::OnePerson(_) => Ok(()),
         Input::Sections(sections) => {
             sections_read(alloc, entities, persons, members, sections.as_slice())
         }

@@ -171,7 +171,7 @@ pub(crate) fn persons_in<'t>(
     ensures { Tells (λ p. p) (spec.persons_in (known entities.now) line (input_view input.now)) result }
 {
     match input {
-        Input::Nothing | Input::OnePerson(_) => person_alone(alloc, entities, line),
+        Input::OnePerson(_) => person_alone(alloc, entities, line),
         Input::Sections(sections) => persons_among(alloc, entities, line, sections.as_slice()),
     }
 }

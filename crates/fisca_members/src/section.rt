@@ -1,6 +1,6 @@
 //! What the keys of an input name.
 
-use fisca_yaml::{Entry, Tree};
+use fisca_yaml::Tree;
 
 /// An entity, by its plural or by its key.
 #[derive(Clone, Copy, Debug, PartialEq, Eq)]
@@ -27,10 +27,8 @@ pub struct Section<'t, 'a> {
 /// An input: the variables of the only person, or the members of entities.
 #[derive(Drop)]
 pub enum Input<'t, 'a> {
-    /// Nothing: one person of whom nothing is said.
-    Nothing,
-    /// The variables of the only person.
-    OnePerson(&'t [Entry<'a>]),
+    /// A map of the variables of the only person, or nothing.
+    OnePerson(&'t Tree<'a>),
     /// The members of entities, from top to bottom.
     Sections(Vec<Section<'t, 'a>>),
 }

@@ -90,12 +90,11 @@ pub fn input_of<'t, 'a>(
     ensures { Tells input_view (spec.input_of titles.now line (node tree.now)) result }
 {
     match tree {
-        Tree::Null => Ok(Input::Nothing),
         Tree::Map(entries) if names_some(titles, entries) => {
             let sections = sections_of(alloc, titles, entries)?;
             Ok(Input::Sections(sections))
         }
-        Tree::Map(entries) => Ok(Input::OnePerson(entries.as_slice())),
+        Tree::Null | Tree::Map(_) => Ok(Input::OnePerson(tree)),
         Tree::Scalar { .. } | Tree::List(_) => Err(bad_value(line, tree)),
     }
 }

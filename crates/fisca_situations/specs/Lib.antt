@@ -1,3 +1,4 @@
 pub mod Reading
 pub mod Situations
 pub mod Values
+pub mod Views

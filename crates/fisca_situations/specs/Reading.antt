@@ -8,7 +8,9 @@ use Rattle.fisca_inputs.specs.declared.fault.SituationFault.{SituationFault}
 use Rattle.fisca_inputs.specs.declared.fault.SituationKind.{SituationKind}
 use Rattle.fisca_inputs.specs.declared.fault.SituationKind.TheVariants as kind
 use Rattle.fisca_inputs.specs.declared.given.Given.{Given}
+use Rattle.fisca_inputs.specs.declared.given.Value.{Value}
 use Rattle.fisca_meaning.specs.Questions.{is_eternity, key_period}
+use Rattle.fisca_members.specs.Faults.{entries_in}
 use Rattle.fisca_members.specs.Groups.{role_named}
 use Rattle.fisca_members.specs.Persons.{most_members}
 use Rattle.fisca_members.specs.Sections.{Input, one_person, sections, Section}
@@ -37,9 +39,12 @@ pub record Place : Type 0 where
 
 -- One value
 
-abbrev pub given_of : Place → Span → ℕ → Said → List Given → Node → Result (List Given) SituationFault
-given_of x p line (input w) gs n =
+abbrev pub with_value : Place → List Given → ℕ → Span → Value → Result (List Given) SituationFault
+with_value x gs line p w =
     and_given gs (record { variable = x.variable; member = x.member; period = key_period x.declared.definition_period p; value = w; line = line })
+
+abbrev pub given_of : Place → Span → ℕ → Said → List Given → Node → Result (List Given) SituationFault
+given_of x p line (input w) gs n = with_value x gs line p w
 given_of x p line unused gs n = Ok gs
 given_of x p line unreadable gs n = fault_at (unwrap_or (begins_on n) line) kind.BadValue
 
@@ -108,12 +113,6 @@ member_given c default entity member rs gs (entry key line n es) =
 
 -- Members
 
-abbrev pub entries_in : Node → Entries
-entries_in null = no_entries
-entries_in (scalar t q l) = no_entries
-entries_in (list is) = no_entries
-entries_in (map es) = es
-
 -- members past the limit have no inputs; they are told of before
 unfoldable pub member_below : Tables → Option Span → ℕ → List Role → ℕ → List Given → ℕ → Entries → Result (List Given) SituationFault
 member_below c default entity rs member gs line es =
@@ -124,7 +123,7 @@ members_given c default entity rs member gs no_entries = Ok gs
 members_given c default entity rs member gs (entry name line n es) =
     and_then (member_below c default entity rs member gs line (entries_in n)) (λ hs. members_given c default entity rs (suc member) hs es)
 
-abbrev pub section_by : Tables → Option Span → List Given → Section → List Role → Result (List Given) SituationFault
+unfoldable pub section_by : Tables → Option Span → List Given → Section → List Role → Result (List Given) SituationFault
 section_by c default gs s rs =
     if s.named.is_plural then members_given c default s.named.entity rs 0 gs (entries_in s.value)
     else member_below c default s.named.entity rs 0 gs s.line (entries_in s.value)

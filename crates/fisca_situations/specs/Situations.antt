@@ -7,7 +7,6 @@ use Rattle.fisca_inputs.specs.Rules.{rule_of}
 use Rattle.fisca_inputs.specs.declared.fault.SituationFault.{SituationFault}
 use Rattle.fisca_inputs.specs.declared.fault.SituationKind.{SituationKind}
 use Rattle.fisca_inputs.specs.declared.fault.SituationKind.TheVariants as situation
-use Rattle.fisca_inputs.specs.declared.given.Given.{Given}
 use Rattle.fisca_members.specs.declared.entity_members.EntityMembers.{EntityMembers}
 use Rattle.fisca_members.specs.declared.fault.Kind.{Kind}
 use Rattle.fisca_members.specs.declared.fault.Kind.TheVariants as members
@@ -19,6 +18,7 @@ use Rattle.fisca_tables.specs.Known.{tables as known}
 use Rattle.fisca_tables.specs.declared.tables.Tables.{Tables}
 use Rattle.fisca_time.specs.Period.{Span}
 use Rattle.fisca_yaml.specs.Node.{Node}
+use Rattle.fisca_situations.specs.declared.reading.Reading.{Reading}
 use Rattle.fisca_situations.specs.Reading.{inputs_given}
 
 pub record Situation : Type 0 where
@@ -43,11 +43,6 @@ told (Err f) = Err (fault_of f)
 
 abbrev pub counts_of : List EntityMembers → List ℕ
 counts_of = map (λ k. length k.names)
-
--- what an input says: the members of entities, and what is given of them
-pub record Reading : Type 0 where
-  pub members : List EntityMembers
-  pub given : List Given
 
 -- of an input whose key stands on the line
 unfoldable pub reading_in : Tables → Option Span → ℕ → Input → Result Reading SituationFault

@@ -1,5 +1,6 @@
 pub mod Faults
 pub mod Groups
+pub mod Lookup
 pub mod Members
 pub mod Outcomes
 pub mod Persons

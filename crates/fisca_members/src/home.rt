@@ -1,7 +1,8 @@
 //! Where persons belong.
 
-ghost use Rattle.std.specs.Prelude.{◌≡◌, length, replicate, Some, None, IfOk};
+ghost use Rattle.std.specs.Prelude.{◌≡◌, length, replicate, slice_get, Some, None, IfOk};
 ghost use Rattle.fisca_members.specs.Groups as spec;
+ghost use Rattle.fisca_members.specs.Lookup.{if_held};
 
 use fisca_typing::RolePlace;
 use std::alloc::{AllocError, Global};
@@ -46,6 +47,16 @@ impl Homes {
         ensures { result.now ≡ self.now }
     {
         self.items.as_slice()
+    }
+
+    /// The group that holds a person, and the role there.
+    pub fn get(&self, person: usize) -> Option<Home>
+        ensures { result ≡ if_held (slice_get self.now person) }
+    {
+        match self.items.as_slice().get(person) {
+            Some(home) => *home,
+            None => None,
+        }
     }
 
     /// Whether a group holds this person.

@@ -1,8 +1,9 @@
 //! The members of all entities.
 
-ghost use Rattle.std.specs.Prelude.{◌≡◌, map, IfOk};
+ghost use Rattle.std.specs.Prelude.{◌≡◌, map, option_map, IfOk};
 ghost use Rattle.fisca_tables.specs.KnownEntities.{entity as known_one, entities as known};
 ghost use Rattle.fisca_yaml.specs.Views.{node};
+ghost use Rattle.fisca_members.specs.Lookup as lookup;
 ghost use Rattle.fisca_members.specs.Members as spec;
 ghost use Rattle.fisca_members.specs.Outcomes.{Leaves, Tells};
 ghost use Rattle.fisca_members.specs.Persons.{names_of as all_names};
@@ -11,7 +12,7 @@ ghost use Rattle.fisca_members.specs.Views.{section as section_view, input_view}
 use crate::entity_members::{EntityMembers, MemberNames};
 use crate::fault::MembersFault;
 use crate::groups::groups_at;
-use crate::home::Homes;
+use crate::home::{Home, Homes};
 use crate::own::own_groups;
 use crate::person::Persons;
 use crate::persons::persons_in;
@@ -45,6 +46,49 @@ impl Members {
         ensures { result.now ≡ self.now }
     {
         self.items.as_slice()
+    }
+
+    /// How many members the entity at a place has; none where there is no entity.
+    pub fn count(&self, entity: usize) -> u32
+        ensures { result ≡ lookup.count_at self.now entity }
+    {
+        match self.items.as_slice().get(entity) {
+            Some(members) => members.names.len() as u32,
+            None => 0,
+        }
+    }
+
+    /// The name of the member at a place, where there is one.
+    pub fn name(&self, entity: usize, member: u32) -> Option<&[u8]>
+        ensures { option_map (λ n. n.now) result ≡ lookup.name_at self.now entity member }
+    {
+        match self.items.as_slice().get(entity) {
+            Some(members) => members.names.get(member as usize),
+            None => None,
+        }
+    }
+
+    /// The group of an entity that holds a person, and the role there.
+    pub fn home(&self, entity: usize, person: u32) -> Option<Home>
+        ensures { result ≡ lookup.home_at self.now entity person }
+    {
+        match self.items.as_slice().get(entity) {
+            Some(members) => members.homes.get(person as usize),
+            None => None,
+        }
+    }
+
+    /// How many members each entity has.
+    pub fn counts(&self, alloc: Global) -> Result<Vec<u32>, AllocError>
+        ensures { IfOk result (λ c. c.items ≡ lookup.counts_of self.now) }
+    {
+        let mut counts = Vec::new(alloc);
+        for members in self.items.as_slice() {
+            counts
+                .push(members.names.len() as u32)
+                .map_err(AllocError::from)?;
+        }
+        Ok(counts)
     }
 }
 

@@ -30,6 +30,10 @@ use Rattle.fisca_time.specs.declared.unit.Unit.TheVariants as unit
 use Rattle.fisca_yaml.specs.Flow.{flow_value, series}
 use Rattle.fisca_yaml.specs.Grouping.{document, block}
 use Rattle.fisca_yaml.specs.Node.{Node}
+use Rattle.fisca_members.specs.declared.entity_members.EntityMembers.{EntityMembers}
+use Rattle.fisca_meaning.specs.Questions.{Point, persons_at}
+use Rattle.fisca_typing.specs.Tables.{subrole_of, whole_role}
+use Rattle.fisca_situations.specs.Grouped.{grouped}
 use Rattle.fisca_situations.specs.Reading.{dated_given, entry_given, inputs_given, member_below, named_given, section_by, section_given, value_given, variable_given}
 use Rattle.fisca_situations.specs.declared.reading.Reading.{Reading}
 use Rattle.fisca_situations.specs.Situations.{reading_in, reading_of}
@@ -419,3 +423,28 @@ twice_in_eternity = rw (five, seven) refl
 entities_first : read (codes "persons: {Ann: {foo: 5}}\nhousehold:\n  parents: Zoe") ≡ fault 3 kind.UnknownPerson
 unfolding document block flow_value series with_person value_given dated_given variable_given named_given entry_given member_below section_by section_given members_in inputs_given reading_in reading_of
 entities_first = refl
+
+-- How formulas see the groups: Ann and Cid are parents of one household with Bob as a child, and Dan has one of his own.
+
+abbrev four : List EntityMembers
+four = record {
+  names = codes "home" ∷ codes "Dan" ∷ [];
+  homes =
+      Some (record { group = 0; role = subrole_of 0 0 }) ∷ Some (record { group = 0; role = whole_role 1 }) ∷ Some (record { group = 0; role = subrole_of 0 1 })
+      ∷ Some (record { group = 1; role = subrole_of 0 0 }) ∷ [];
+} ∷ record { names = codes "Ann" ∷ codes "Bob" ∷ codes "Cid" ∷ codes "Dan" ∷ []; homes = [] } ∷ []
+
+abbrev at_home : Point
+at_home = record { entity = 0; member = 0; person = None; period = january }
+
+of_home : (grouped four).persons 0 0 ≡ 0 ∷ 1 ∷ 2 ∷ []
+of_home = refl
+
+of_dan : ((grouped four).group_of 0 3 ≡ 1) × ((grouped four).role_of 0 3 ≡ subrole_of 0 0)
+of_dan = (refl, refl)
+
+parents_at_home : persons_at (grouped four) at_home (Some (whole_role 0)) ≡ 0 ∷ 2 ∷ []
+parents_at_home = refl
+
+second_parent : persons_at (grouped four) at_home (Some (subrole_of 0 1)) ≡ 2 ∷ []
+second_parent = refl

@@ -1,3 +1,4 @@
+pub mod Grouped
 pub mod Reading
 pub mod Situations
 pub mod Values

@@ -1,6 +1,6 @@
 -- Situations: the members of entities and their inputs, or the first fault. Entities come first, then the inputs from top to bottom, then
 -- their sharing.
-use Rattle.std.specs.Prelude.{ℕ, List, map, length, Option, Result, Ok, Err}
+use Rattle.std.specs.Prelude.{ℕ, List, map, Option, Result, Ok, Err}
 use Rattle.fisca_inputs.specs.Entries.{Entries}
 use Rattle.fisca_inputs.specs.Inputs.{inputs_of}
 use Rattle.fisca_inputs.specs.Rules.{rule_of}
@@ -11,6 +11,7 @@ use Rattle.fisca_members.specs.declared.entity_members.EntityMembers.{EntityMemb
 use Rattle.fisca_members.specs.declared.fault.Kind.{Kind}
 use Rattle.fisca_members.specs.declared.fault.Kind.TheVariants as members
 use Rattle.fisca_members.specs.declared.fault.MembersFault.{MembersFault}
+use Rattle.fisca_members.specs.Lookup.{counts_of}
 use Rattle.fisca_members.specs.Members.{members_in}
 use Rattle.fisca_members.specs.Sections.{Input, input_of, titles_of}
 use Rattle.fisca_params.specs.Results.{and_then}
@@ -40,9 +41,6 @@ fault_of f = record { line = f.line; kind = kind_of f.kind }
 abbrev pub told : {X : Type 0} → Result X MembersFault → Result X SituationFault
 told (Ok x) = Ok x
 told (Err f) = Err (fault_of f)
-
-abbrev pub counts_of : List EntityMembers → List ℕ
-counts_of = map (λ k. length k.names)
 
 -- of an input whose key stands on the line
 unfoldable pub reading_in : Tables → Option Span → ℕ → Input → Result Reading SituationFault

@@ -1,5 +1,5 @@
 -- What is read off the members of a situation.
-use Rattle.std.specs.Prelude.{ℕ, List, length, slice_get, Option, None, Some, map}
+use Rattle.std.specs.Prelude.{ℕ, suc, List, [], ◌∷◌, length, slice_get, Bool, false, ◌==◌, if◌then◌else◌, Option, None, Some, map}
 use Rattle.fisca_members.specs.declared.entity_members.EntityMembers.{EntityMembers}
 use Rattle.fisca_members.specs.declared.home.Home.{Home}
 
@@ -34,3 +34,13 @@ home_at ks entity person = home_in person (slice_get ks entity)
 -- how many members each entity has
 abbrev pub counts_of : List EntityMembers → List ℕ
 counts_of = map (λ k. length k.names)
+
+abbrev pub is_in : ℕ → Option Home → Bool
+is_in group None = false
+is_in group (Some home) = home.group == group
+
+-- the persons that a group holds, in order, from the one at a place on
+abbrev pub holders_from : ℕ → ℕ → List (Option Home) → List ℕ
+holders_from group person [] = []
+holders_from group person (home ∷ homes) =
+    if is_in group home then person ∷ holders_from group (suc person) homes else holders_from group (suc person) homes

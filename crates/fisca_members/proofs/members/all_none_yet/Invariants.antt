@@ -1,0 +1,7 @@
+use Rattle.std.proofs.Common.{◌≡◌, ◌++◌, drop, map}
+use Rattle.fisca_tables.specs.KnownEntities.{entities}
+use Rattle.fisca_members.specs.Members.{none_yet}
+use Rattle.fisca_members.proofs.members.all_none_yet.Given as goal
+
+abbrev pub invariant-loop-entity : goal.invariant-loop-entity
+invariant-loop-entity l = l.items.items ++ map (none_yet l.persons) (entities (drop l.entity-index l.entities)) ≡ map (none_yet l.persons) (entities l.entities)

@@ -1,0 +1,10 @@
+use Rattle.std.proofs.Common.{◌≡◌, drop, map}
+use Rattle.fisca_tables.specs.KnownEntities.{entities}
+use Rattle.fisca_members.specs.Members.{sections_read}
+use Rattle.fisca_members.specs.Views.{section}
+use Rattle.fisca_members.proofs.members.sections_read.Given as goal
+
+abbrev pub invariant-loop-section : goal.invariant-loop-section
+invariant-loop-section l =
+    sections_read (entities l.entities) l.persons l.initial.members (map section l.sections)
+    ≡ sections_read (entities l.entities) l.persons l.members (map section (drop l.section-index l.sections))

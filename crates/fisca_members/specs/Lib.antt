@@ -1,0 +1,8 @@
+pub mod Faults
+pub mod Groups
+pub mod Lookup
+pub mod Members
+pub mod Outcomes
+pub mod Persons
+pub mod Sections
+pub mod Views

@@ -1,0 +1,106 @@
+//! The roles of a group, by the names that inputs give them.
+
+ghost use Rattle.std.specs.Prelude.{◌≡◌, ◌<◌, map, length, option_map, slice_get, IfOk};
+ghost use Rattle.fisca_tables.specs.KnownRoles.{role as known_role, roles as known_roles};
+ghost use Rattle.fisca_members.specs.Groups as spec;
+
+use fisca_tables::{Names, Role, Text};
+use fisca_typing::RolePlace;
+use std::alloc::{AllocError, Global};
+use std::marker::Model;
+
+/// The roles of a group, seen as a list. Each is found by its plural, or by its key if it has none.
+#[derive(Drop)]
+pub struct RoleTable<'e, 'r> {
+    items: &'e [Role<'r>],
+    names: Names<'e>,
+}
+
+impl<'e, 'r> Model for RoleTable<'e, 'r> {
+    ghost use Rattle.std.specs.Prelude.{◌≡◌, List};
+    ghost use Rattle.fisca_typing.specs.Tables.{Role};
+    ghost use Rattle.fisca_tables.specs.KnownRoles.{roles};
+    ghost use Rattle.fisca_members.specs.Groups.{role_titles};
+
+    ghost Value = { List Role };
+
+    ghost view = { λ t. roles t.items.now };
+
+    ghost invariant = { λ t. t.names ≡ role_titles (roles t.items.now) };
+}
+
+/// The name that inputs give a role: its plural, or its key if it has none.
+fn title<'e>(role: &'e Role<'_>) -> Text<'e>
+    ensures { result ≡ spec.title (known_role role.now) }
+{
+    match &role.plural {
+        Some(plural) => Text::borrowed(plural.as_bytes()),
+        None => Text::borrowed(role.key.as_bytes()),
+    }
+}
+
+/// The names that inputs give roles.
+fn titles_of<'e>(alloc: Global, roles: &'e [Role<'_>]) -> Result<Names<'e>, AllocError>
+    ensures { IfOk result (λ n. n ≡ spec.role_titles (known_roles roles.now)) }
+{
+    let mut names = Names::new(alloc);
+    for role in roles {
+        names = names.with(alloc, title(role))?;
+    }
+    Ok(names)
+}
+
+/// The place of a role that is taken by a person behind so many others: persons of a role with subroles take these in order.
+pub(crate) fn taken(place: usize, role: &Role<'_>, count: usize) -> RolePlace
+    ensures { result ≡ spec.taken place (known_role role.now) count }
+{
+    let subrole = if role.subroles.as_slice().is_empty() {
+        None
+    } else {
+        Some(count)
+    };
+    RolePlace {
+        role: place,
+        subrole,
+    }
+}
+
+/// The first role, or its first subrole.
+pub(crate) fn first_role(roles: &[Role<'_>]) -> RolePlace
+    ensures { result ≡ spec.first_role (known_roles roles.now) }
+{
+    match roles.first() {
+        Some(role) => taken(0, role, 0),
+        None => RolePlace {
+            role: 0,
+            subrole: None,
+        },
+    }
+}
+
+impl<'e, 'r> RoleTable<'e, 'r> {
+    /// These roles.
+    pub fn new(alloc: Global, roles: &'e [Role<'r>]) -> Result<RoleTable<'e, 'r>, AllocError>
+        ensures { IfOk result (λ t. t ≡ known_roles roles.now) }
+    {
+        let names = titles_of(alloc, roles)?;
+        Ok(RoleTable {
+            items: roles,
+            names,
+        })
+    }
+
+    /// The place of the role of this name.
+    pub fn of_name(&self, name: &[u8]) -> Option<usize>
+        ensures { result ≡ spec.role_named self.now name.now }
+    {
+        self.names.place_of(name)
+    }
+
+    /// The role at a place.
+    pub(crate) fn get(&self, place: usize) -> Option<&'e Role<'r>>
+        ensures { option_map (λ r. known_role r.now) result ≡ slice_get self.now place }
+    {
+        self.items.get(place)
+    }
+}

@@ -1,0 +1,5 @@
+pub mod Grouped
+pub mod Reading
+pub mod Situations
+pub mod Values
+pub mod Views

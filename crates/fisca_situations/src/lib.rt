@@ -1,0 +1,12 @@
+//! Situations: the members of entities and their inputs, as a YAML tree says them.
+#![tactic(auto)]
+
+mod given;
+mod place;
+mod reading;
+mod said;
+mod sections;
+mod variables;
+
+pub use reading::{Reading, reading_of};
+pub use said::{Said, said_of};

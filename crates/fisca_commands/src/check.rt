@@ -88,11 +88,7 @@ fn tell(alloc: Global, path: &str, line: usize, fault: ParamFault) -> Refusal
 }
 
 /// Writes the line of a rule set: `Memory` before anything is written, `Write` where the sink failed.
-fn write_counts<S: RowSink>(
-    alloc: Global,
-    rules: &RuleSet<'_>,
-    sink: &mut S,
-) -> Result<(), Refusal>
+fn write_counts<S: RowSink>(alloc: Global, rules: &RuleSet<'_>, sink: &mut S) -> Result<(), Refusal>
     ensures answer { IsWritten (text_of (rule_set rules.now)) (S.taken sink.old) (S.taken sink.new) result }
     ensures failures { CountsFailure (is_check_write result) (S.failures sink.old) (S.failures sink.new) }
 {

@@ -38,10 +38,7 @@ pub(crate) fn is_rule_path(path: &str) -> bool
 }
 
 /// The modules among these files, in order of their paths.
-fn modules_in<'a>(
-    alloc: Global,
-    files: &'a [SourceFile],
-) -> Result<Vec<&'a SourceFile>, AllocError>
+fn modules_in<'a>(alloc: Global, files: &'a [SourceFile]) -> Result<Vec<&'a SourceFile>, AllocError>
     ensures { IfOk result (λ fs. map (λ f. f.now) fs.items ≡ spec.modules_in (in_path_order files.now)) }
 {
     let sorted = in_path_order(alloc, files)?;
@@ -65,10 +62,7 @@ fn read_file<'a>(alloc: Global, file: &'a SourceFile) -> Result<Module<'a>, Refu
 }
 
 /// What each of these modules declares, or the fault of the first that cannot be read.
-fn read_modules<'a>(
-    alloc: Global,
-    files: &[&'a SourceFile],
-) -> Result<Vec<Module<'a>>, Refusal>
+fn read_modules<'a>(alloc: Global, files: &[&'a SourceFile]) -> Result<Vec<Module<'a>>, Refusal>
     ensures { TellsFile (λ ms. map statements ms.items) (spec.declared_by (map (λ f. f.now) files.now)) result }
 {
     let mut modules = Vec::new(alloc);

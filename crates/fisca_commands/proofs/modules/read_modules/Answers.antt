@@ -14,7 +14,7 @@ returns-in_err-read_file c =
     let inside : l.file-index < length items = omega (arith, c.loop-file-test.true, l.auto.file-index-end) in
     let cut = drop-cons items l.file-index c.file-item.result inside ∙ ap (λ a. a ∷ drop (suc l.file-index) items) (sym c.file-item.is) in
     rw (told.1, told.2) (first_told (declared_in c.file-item.result.now) (declared_by (map (λ f. f.now) items)) _ c.in_err-read_file.ensures
-        (λ fault e. behind_fault (λ f. f.now) declared_in items l.file-index c.file-item.result _ (map statements l.modules.items) (map (λ f. f.now) items) fault l.invariant cut e))
+    (λ fault e. behind_fault (λ f. f.now) declared_in items l.file-index c.file-item.result _ (map statements l.modules.items) (map (λ f. f.now) items) fault l.invariant cut e))
 
 pub returns : goal.returns
 returns c =

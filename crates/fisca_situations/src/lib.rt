@@ -6,7 +6,9 @@ mod place;
 mod reading;
 mod said;
 mod sections;
+mod situation;
 mod variables;
 
 pub use reading::{Reading, reading_of};
 pub use said::{Said, said_of};
+pub use situation::Situation;

@@ -3,6 +3,7 @@
 use crate::written::Written;
 use fisca_commands::Refusal;
 use fisca_grid::AxesFault;
+use fisca_inputs::SituationFault;
 use fisca_names::BuildFault;
 use fisca_num::NumFault;
 use fisca_params::ParamFault;
@@ -32,6 +33,8 @@ pub enum Fault {
     Param(#[from] ParamFault),
     #[error("{0}")]
     Build(#[from] BuildFault),
+    #[error("{0}")]
+    Situation(#[from] SituationFault),
     #[error("{0}")]
     Axes(#[from] AxesFault),
     #[error("{0}")]
@@ -63,6 +66,7 @@ impl Fault {
             Fault::Formula(fault) => push_formula(&mut told, *fault),
             Fault::Param(fault) => push_param(&mut told, *fault),
             Fault::Build(fault) => push_build(&mut told, *fault),
+            Fault::Situation(fault) => push_situation(&mut told, *fault),
             Fault::Axes(fault) => push(&mut told, *fault as u8, fault),
             Fault::Refused(refusal) => push_refusal(alloc, &mut told, refusal),
         }
@@ -96,6 +100,11 @@ fn push_build(told: &mut Written, fault: BuildFault) {
     push(told, fault.kind as u8, &fault.kind);
     told.push(", module ");
     told.push_number(fault.module as u64);
+    push_line(told, fault.line);
+}
+
+fn push_situation(told: &mut Written, fault: SituationFault) {
+    push(told, fault.kind.number(), &fault.kind);
     push_line(told, fault.line);
 }
 

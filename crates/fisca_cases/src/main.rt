@@ -14,6 +14,7 @@ mod grid;
 mod num;
 mod params;
 mod rule_sets;
+mod situations;
 mod time;
 mod tokens;
 mod words;
@@ -112,6 +113,7 @@ fn ask(
             "tokens" => tokens::answer(alloc, operation.as_str(), rest),
             "expressions" => expressions::answer(alloc, operation.as_str(), rest),
             "rule_sets" => rule_sets::answer(alloc, operation.as_str(), files),
+            "situations" => situations::answer(alloc, operation.as_str(), files, rest),
             "grid" => grid::answer(alloc, operation.as_str(), rest),
             "commands" => commands::answer(alloc, operation.as_str(), files, rest),
             _ => Err(Fault::Malformed),

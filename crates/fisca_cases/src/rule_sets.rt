@@ -25,10 +25,15 @@ fn modules<'a>(alloc: Global, files: &'a [SourceFile]) -> Result<Vec<Module<'a>>
     Ok(modules)
 }
 
+/// The rule set of the files.
+pub fn rules_of<'a>(alloc: Global, files: &'a [SourceFile]) -> Result<RuleSet<'a>, Fault> {
+    let parameters = ParamTree::read(alloc, files)?;
+    Ok(RuleSet::build(alloc, parameters, modules(alloc, files)?)?)
+}
+
 /// How many entities, variables and parameters the rule set of the files has.
 fn build(alloc: Global, files: &[SourceFile]) -> Result<String, Fault> {
-    let parameters = ParamTree::read(alloc, files)?;
-    let rules = RuleSet::build(alloc, parameters, modules(alloc, files)?)?;
+    let rules = rules_of(alloc, files)?;
     let entities = rules.tables.entities.as_slice().len();
     let variables = rules.tables.variables.as_slice().len();
     let parameters = rules.tables.parameters.count();

@@ -1,0 +1,123 @@
+//! Situations.
+
+use crate::fault::Fault;
+use crate::rule_sets::rules_of;
+use crate::words::{number, two};
+use crate::written::Written;
+use fisca_inputs::{Key, Value};
+use fisca_members::Home;
+use fisca_num::Fraction;
+use fisca_params::SourceFile;
+use fisca_rules::RuleSet;
+use fisca_situations::Situation;
+use fisca_time::Period;
+use fisca_yaml::read;
+use std::alloc::Global;
+
+/// The answer to a case of situations: what the call of this name gives for these files and words, of which the last two are the default
+/// period, or `-` for none, and the input.
+pub fn answer(
+    alloc: Global,
+    operation: &str,
+    files: &[SourceFile],
+    words: &[String],
+) -> Result<String, Fault> {
+    let rules = rules_of(alloc, files)?;
+    match operation {
+        "members" => members(alloc, &rules, words),
+        "input" => input(alloc, &rules, words),
+        _ => Err(Fault::Malformed),
+    }
+}
+
+/// The situation of an input whose key stands on line 1.
+fn situation(
+    alloc: Global,
+    rules: &RuleSet<'_>,
+    default: &str,
+    text: &str,
+) -> Result<Situation, Fault> {
+    let default = match default {
+        "-" => None,
+        word => Some(Period::read(word)?),
+    };
+    let tree = read(alloc, text)?;
+    Ok(Situation::read(alloc, &rules.tables, default, 1, &tree)?)
+}
+
+/// A line for each entity: its members, and behind a bar for each person the group, and the role with its subrole.
+fn members(alloc: Global, rules: &RuleSet<'_>, words: &[String]) -> Result<String, Fault> {
+    let (default, text) = two(words)?;
+    let found = situation(alloc, rules, default, text)?;
+    let mut shown = Written::new(alloc);
+    for (place, entity) in rules.entities().iter().enumerate() {
+        if place != 0 {
+            shown.push("\n");
+        }
+        shown.push(str::from_utf8(entity.key.as_bytes()).unwrap_or("?"));
+        shown.push(":");
+        push_names(&mut shown, &found, place);
+        push_homes(&mut shown, &found, place);
+    }
+    Ok(shown.finish()?)
+}
+
+fn push_names(shown: &mut Written, found: &Situation, entity: usize) {
+    for member in 0..found.members(entity) {
+        let name = found.name(entity, member).unwrap_or(b"?".as_slice());
+        shown.push(" ");
+        shown.push(str::from_utf8(name).unwrap_or("?"));
+    }
+}
+
+/// As many persons as have a group of this kind.
+fn push_homes(shown: &mut Written, found: &Situation, entity: usize) {
+    for person in 0..1000u32 {
+        match found.members.home(entity, person) {
+            Some(home) => push_home(shown, person, home),
+            None => return,
+        }
+    }
+}
+
+fn push_home(shown: &mut Written, person: u32, home: Home) {
+    shown.push(if person == 0 { " | " } else { ", " });
+    shown.push_number(home.group as u64);
+    shown.push(" ");
+    shown.push_number(home.role.role as u64);
+    if let Some(subrole) = home.role.subrole {
+        shown.push(".");
+        shown.push_number(subrole as u64);
+    }
+}
+
+/// The input of `VARIABLE MEMBER PERIOD`, after sharing.
+fn input(alloc: Global, rules: &RuleSet<'_>, words: &[String]) -> Result<String, Fault> {
+    let [variable, member, period, default, text] = words else {
+        return Err(Fault::Malformed);
+    };
+    let found = situation(alloc, rules, default.as_str(), text.as_str())?;
+    let Some(variable) = rules.variable(variable.as_str()) else {
+        return Err(Fault::Malformed);
+    };
+    let key = Key {
+        variable,
+        member: number(member.as_str())?,
+        period: Period::read(period.as_str())?,
+    };
+    let value = found.input(&key);
+    shown(alloc, &value)
+}
+
+fn shown(alloc: Global, value: &Option<Value>) -> Result<String, Fault> {
+    match value {
+        None => Ok(String::from_str(alloc, "none")?),
+        Some(Value::Number(number)) => number_text(alloc, *number),
+        Some(Value::Bool(value)) => Ok(format!(in alloc; "{value}")?),
+        Some(Value::Member(place)) => Ok(format!(in alloc; "member {place}")?),
+    }
+}
+
+fn number_text(alloc: Global, number: Fraction) -> Result<String, Fault> {
+    Ok(number.text(alloc)?)
+}

@@ -5,6 +5,10 @@ A must-fail edit, crates/NAME/must-fail/*.edit, puts a wrong body in place of a 
 with it, since a clause of a contract fails. First these crates are checked as they stand, over what earlier checks of this checkout
 keep in out/. Then the edits are tried in copies of their crates, over that work, several side by side: so each costs what it
 changes, and not a proof from nothing. A line tells of each edit, and the last one counts them.
+
+Edits of different functions are tried in one check: what a function promises stays the same under an edit of a body, so whether
+another function is proved does not hang on it. Such a check has to say of the very function that an edit changes that it is not
+proved, and by a clause of its own; where it says anything else, the edit is tried alone.
 """
 import concurrent.futures
 import os
@@ -18,11 +22,13 @@ import time
 
 TOP = pathlib.Path(__file__).resolve().parent.parent
 PROVED = ("src", "specs", "proofs")
-# the edits of a crate that are tried one after another in one copy of it
-AT_ONCE = 9
+# the edits of a crate that are tried in one copy of it
+AT_ONCE = 30
 # what a proof file says that only names what an edit took away
 NAMES_ALONE = re.compile(r"(\./)?proofs/.*(has no field|is not in scope|has no `|was not admitted)")
 SAID = re.compile(r"(note: )?\S+:\d+:\d+:")
+HEAD = re.compile(r"^( *)(?:pub(?:\(\w+\))? )?fn (\w+)", re.M)
+IMPL = re.compile(r"^impl(?:<[^>]*>)? (?:(\w+)\S* for )?(\w+)", re.M)
 
 
 def crates(top=TOP):
@@ -50,9 +56,26 @@ def edits_of(name):
     return sorted((TOP / "crates" / name / "must-fail").glob("*.edit"))
 
 
-def edited(edit, folder):
-    """The texts of the files that an edit changes, by their paths in the crate. Each 'old:' text stands once in its file."""
-    path, old, texts = None, None, {}
+def function_at(path, text, at):
+    """How the prover's name of the function ends in whose body a place of a file's text lies, if it lies in one. The name of a
+    function that stands alone has its module's name before it, that of a method its type's, with the trait's behind it."""
+    heads = list(HEAD.finditer(text, 0, at))
+    if not heads:
+        return None
+    indent, name = heads[-1].groups()
+    body = re.compile(rf"^{indent}(?:\{{.*\}}$|(?:\{{|\S.* \{{)$(?:\n(?!{indent}\}}).*)*)", re.M).search(text, heads[-1].start())
+    if not body or not body.start() <= at <= body.end():
+        return None
+    impls = list(IMPL.finditer(text, 0, at)) if indent else []
+    module = "::".join(it for it in path.removeprefix("src/").removesuffix(".rt").split("/") if it != "lib")
+    owner = f"{impls[-1][2]}{impls[-1][1] or ''}" if impls else module
+    return f"::{owner}::{name}".replace("::::", "::")
+
+
+def changes(edit, folder):
+    """The texts of the files that an edit changes, by their paths in the crate, and the functions whose bodies it changes,
+    by the ends of their names (None for a change outside of one). Each 'old:' text stands once in its file."""
+    path, old, texts, functions = None, None, {}, set()
     for line in edit.read_text().split("\n"):
         if line.startswith("file: "):
             path = line.removeprefix("file: ").strip()
@@ -64,11 +87,17 @@ def edited(edit, folder):
         elif line.startswith("new:"):
             if path is None or old is None or texts[path].count(old) != 1:
                 raise ValueError(f"its text 'old: {old}' does not stand once in {path}")
+            functions.add(function_at(path, texts[path], texts[path].index(old)))
             texts[path] = texts[path].replace(old, line.removeprefix("new:").removeprefix(" "))
             old = None
     if not texts:
         raise ValueError("it changes nothing")
-    return texts
+    return texts, functions
+
+
+def edited(edit, folder):
+    """The texts of the files that an edit changes, by their paths in the crate."""
+    return changes(edit, folder)[0]
 
 
 def copied(name, known, top, room):
@@ -107,6 +136,64 @@ def judged(status, lines):
     return True, f"refused, as it must be: {(telling or lines)[0][:160]}"
 
 
+def refused_for(function, lines):
+    """What a check said of the function whose name ends so, where it is not proved by a clause of its own; None where it says
+    anything else."""
+    places = [at for at, line in enumerate(lines) if re.match(rf"fn \w[\w:]*{function}: ", line)]
+    if len(places) != 1 or re.search(": (proved$|no proof: it calls )", lines[places[0]]):
+        return None
+    folder = "/".join(lines[places[0]].removeprefix("fn ").partition(": ")[0].split("::")[1:])
+    own = [line for line in lines if ": error" in line and line.startswith(f"./proofs/{folder}/") and not NAMES_ALONE.match(line)]
+    for line in reversed(lines[: places[0]]):
+        if line.startswith("fn "):
+            break
+        own += [line] * line.startswith("note: src/")
+    return own[0] if own else None
+
+
+def rounds(edits, folder):
+    """Rounds of edits: in each those of functions that differ."""
+    found = []
+    for edit in edits:
+        try:
+            functions = changes(edit, folder)[1]
+        except (OSError, ValueError):
+            continue
+        if len(functions) == 1 and None not in functions:
+            function = min(functions)
+            free = next((it for it in found if function not in it), None)
+            if free is None:
+                found.append(free := {})
+            free[function] = edit
+    return [it for it in found if len(it) > 1]
+
+
+def together(folder, some):
+    """Tries edits of functions that differ in one check of a copy of their crate, and puts its texts back. Answers what the check
+    said of each edit that it surely refused."""
+    kept, tried = {}, []
+    try:
+        for function, edit in some.items():
+            try:
+                texts = edited(edit, folder)
+            except ValueError:
+                continue
+            for path, text in texts.items():
+                kept.setdefault(path, (folder / path).read_text())
+                (folder / path).write_text(text)
+            tried.append(function)
+        lines = check(folder)[1]
+    finally:
+        restore(folder, kept)
+    return {some[it]: line for it in tried if (line := refused_for(it, lines))}
+
+
+def restore(folder, kept):
+    """Puts texts of files back."""
+    for path, text in kept.items():
+        (folder / path).write_text(text)
+
+
 def attempt(folder, edit):
     """Tries one edit in a copy of its crate, and puts the crate's texts back."""
     try:
@@ -119,8 +206,7 @@ def attempt(folder, edit):
             (folder / path).write_text(text)
         return judged(*check(folder))
     finally:
-        for path, text in kept.items():
-            (folder / path).write_text(text)
+        restore(folder, kept)
 
 
 def attempts(name, edits, known, top, tell):
@@ -132,12 +218,21 @@ def attempts(name, edits, known, top, tell):
         if status:
             tell(f"must-fail {name}: the crate itself is not proved in a copy: {(lines or [''])[-1][:160]}")
             return refused
-        for edit in edits:
+        left = list(edits)
+        for some in rounds(edits, folder):
+            began = time.monotonic()
+            said = together(folder, some)
+            tell(f"must-fail {name}: {len(said)} of {len(some)} edits refused in one check ({time.monotonic() - began:.0f} s)")
+            for edit, line in said.items():
+                tell(f"must-fail {name}/{edit.name}: refused, as it must be: {line[:160]}")
+                left.remove(edit)
+                refused.append(edit.name)
+        for edit in left:
             began = time.monotonic()
             well, said = attempt(folder, edit)
             tell(f"must-fail {name}/{edit.name}: {said} ({time.monotonic() - began:.0f} s)")
             refused += [edit.name] * well
-    return refused
+    return sorted(refused)
 
 
 def check_all(names, workers, top, tell):

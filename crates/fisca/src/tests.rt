@@ -1,3 +1,5 @@
+//! Tests of the program over its parts.
+
 use super::*;
 use fisca_commands::Refusal;
 use std::alloc::{AllocError, Global};

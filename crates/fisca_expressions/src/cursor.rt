@@ -1,3 +1,5 @@
+//! The tokens that are left to a reader.
+
 ghost use Rattle.std.specs.Prelude.{◌≡◌, [], ◌∷◌, length, IfOk, MatchOption};
 ghost use Rattle.fisca_expressions.specs.Reading as spec;
 ghost use Rattle.fisca_expressions.specs.Reading.{Reads};

@@ -1,3 +1,5 @@
+//! What marks do before and behind expressions.
+
 ghost use Rattle.std.specs.Prelude.{◌≡◌};
 ghost use Rattle.fisca_expressions.specs.Marks as spec;
 

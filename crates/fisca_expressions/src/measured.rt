@@ -1,3 +1,5 @@
+//! Expressions with their heights.
+
 ghost use Rattle.std.specs.Prelude.{◌≡◌};
 ghost use Rattle.fisca_expressions.specs.Tree.{height as height_of_tree, height_all as height_of_series, height_of as height_of_argument};
 ghost use Rattle.fisca_expressions.specs.Views.{tree, series_view, argument_view};

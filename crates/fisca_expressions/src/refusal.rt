@@ -1,3 +1,5 @@
+//! Refusals of expressions.
+
 use fisca_tokens::Kind;
 use std::alloc::{AllocError, AllocFailed};
 

@@ -1,3 +1,5 @@
+//! Tokens without their places, as definitions see them.
+
 ghost use Rattle.std.specs.Prelude.{◌≡◌};
 ghost use Rattle.fisca_expressions.specs.Signs as spec;
 

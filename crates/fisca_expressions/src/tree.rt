@@ -1,3 +1,5 @@
+//! Expressions.
+
 use crate::sign::Slice;
 
 /// What stands between two operands.

@@ -1,3 +1,5 @@
+//! Words of Python that are no names here.
+
 ghost use Rattle.std.specs.Prelude.{◌≡◌};
 ghost use Rattle.fisca_expressions.specs.Words as spec;
 

@@ -1,3 +1,5 @@
+//! Modules, read from their texts.
+
 ghost use Rattle.std.specs.Prelude.{List, IfOk};
 ghost use Rattle.fisca_syntax.specs.Grammar.{IsModule};
 ghost use Rattle.fisca_syntax.specs.Modules.{Statement};

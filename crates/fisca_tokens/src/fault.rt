@@ -1,3 +1,5 @@
+//! The faults of modules and rule sets.
+
 ghost use Rattle.std.specs.Prelude.{◌≡◌};
 ghost use Rattle.fisca_tokens.specs.Faults.{name_of};
 

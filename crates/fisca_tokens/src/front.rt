@@ -1,3 +1,5 @@
+//! Pieces in front of a text.
+
 ghost use Rattle.std.specs.Prelude.{◌≡◌, ◌≤◌, ◌<◌, length, take, IfOk, Ok, true};
 ghost use Rattle.std.specs.List.{prefix_len};
 ghost use Rattle.fisca_tokens.specs.Marks.{single};

@@ -1,3 +1,5 @@
+//! Lines, indentations and brackets between tokens.
+
 ghost use Rattle.std.specs.Prelude.{◌≡◌, ◌≢◌, ◌≤◌, ◌<◌, ◌+◌, ◌^◌, MatchResult, OnOk, Ok, Err, Some};
 ghost use Rattle.fisca_tokens.specs.Layout as spec;
 ghost use Rattle.fisca_tokens.specs.declared.token.Form.TheVariants as form;

@@ -1,3 +1,5 @@
+//! Open indentations.
+
 ghost use Rattle.std.specs.Prelude.{◌≡◌, ◌≤◌, OnOk, OnErr, IfOk};
 ghost use Rattle.fisca_tokens.specs.Layout as spec;
 

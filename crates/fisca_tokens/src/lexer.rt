@@ -1,3 +1,5 @@
+//! The tokens of a text.
+
 ghost use Rattle.std.specs.Prelude.{◌≡◌, ◌≢◌, ◌≤◌, ◌<◌, ◌+◌, ◌^◌, length, MatchResult, OnOk, IfErr, Err};
 ghost use Rattle.fisca_tokens.specs.Layout.{start, step};
 ghost use Rattle.fisca_tokens.specs.declared.layout.Layout.{Layout as State};

@@ -1,3 +1,5 @@
+//! Marks, in front of a text.
+
 ghost use Rattle.std.specs.Prelude.{◌≡◌};
 ghost use Rattle.fisca_tokens.specs.Marks as spec;
 

@@ -1,3 +1,5 @@
+//! Numbers, in front of a text.
+
 ghost use Rattle.std.specs.Prelude.{◌≡◌, ◌≤◌, ◌<◌, length, false, true, take, IfOk};
 ghost use Rattle.std.specs.Str.{IsAscii};
 ghost use Rattle.fisca_tokens.specs.Pieces as spec;

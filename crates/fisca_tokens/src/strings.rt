@@ -1,3 +1,5 @@
+//! Texts in quotes, in front of a text.
+
 ghost use Rattle.std.specs.Prelude.{◌≡◌, ◌≤◌, ◌<◌, length, false, IfSome};
 ghost use Rattle.fisca_tokens.specs.Strings as spec;
 

@@ -1,3 +1,5 @@
+//! Texts in quotes that stand side by side.
+
 ghost use Rattle.std.specs.Prelude.{◌≡◌, true, false};
 ghost use Rattle.fisca_tokens.specs.Texts as spec;
 

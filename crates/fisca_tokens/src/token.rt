@@ -1,3 +1,5 @@
+//! Tokens.
+
 /// An operator or a sign of punctuation.
 #[derive(Clone, Copy, Debug, PartialEq, Eq)]
 pub enum Mark {

@@ -1,3 +1,5 @@
+//! Tests of folders on this machine.
+
 use super::*;
 use fisca_commands::read_rules;
 use std::os::unix::fs::symlink;

@@ -1,3 +1,5 @@
+//! Tests of command lines.
+
 use super::*;
 use crate::tests::words_of;
 use clap::error::ErrorKind;

@@ -1,6 +1,6 @@
 //! The folder of a rule set on this machine.
 
-use fisca_commands::{FolderEntry, RuleFolder};
+use fisca_folder::{FolderEntry, RuleFolder};
 use std::alloc::{AllocError, Global};
 use std::fs;
 use std::fs::Files;

@@ -5,7 +5,8 @@ mod folder;
 mod task;
 
 use clap::error::ErrorKind;
-use fisca_commands::{Ending, FolderFault, Task, read_rules, run_task};
+use fisca_commands::{Ending, Task, run_task};
+use fisca_folder::{FolderFault, read_rules};
 use fisca_grid::StreamSink;
 use fisca_params::SourceFile;
 use folder::DiskFolder;

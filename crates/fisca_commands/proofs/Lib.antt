@@ -2,6 +2,4 @@ mod ManyWords
 mod Parts
 mod FirstModule
 mod Endings
-mod Looks
-mod FirstFiles
 mod Written

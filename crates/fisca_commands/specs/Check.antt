@@ -11,7 +11,8 @@ use Rattle.fisca_rules.specs.Rules.{Rules}
 use Rattle.fisca_params.specs.Lookup.{is_counted}
 use Rattle.fisca_params.specs.declared.fault.ParamFault.{ParamFault}
 use Rattle.fisca_params.specs.declared.fault.ParamFault.TheVariants as params
-use Rattle.fisca_commands.specs.Modules.{is_rule_path, rules_by, IsRefusalOf}
+use Rattle.fisca_commands.specs.Modules.{rules_by, IsRefusalOf}
+use Rattle.fisca_folder.specs.RulePaths.{is_rule_path}
 use Rattle.fisca_commands.specs.declared.refusal.Refusal.{Refusal}
 use Rattle.fisca_commands.specs.declared.refusal.Refusal.TheVariants.{Params, Formula, Axes, BadWord, BadCondition, Run, Write, Memory, TooManyFiles}
 

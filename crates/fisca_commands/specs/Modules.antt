@@ -1,9 +1,8 @@
 -- The rule set that files make: what their modules declare beside parameters, or the first fault.
-use Rattle.std.specs.Prelude.{◌≡◌, is_some, ℕ, Bool, ◌||◌, List, [], ◌∷◌, slice_get, codes, string_bytes, Option, Some, None, option_and_then, Result, Ok, Err, if◌then◌else◌, ⊤}
-use Rattle.std.specs.Str.{bytes_eq}
+use Rattle.std.specs.Prelude.{◌≡◌, ℕ, List, [], ◌∷◌, slice_get, codes, string_bytes, Option, Some, None, Result, Ok, Err, if◌then◌else◌, ⊤}
+use Rattle.fisca_folder.specs.RulePaths.{is_module}
 use Rattle.fisca_names.specs.declared.fault.BuildFault.{BuildFault}
 use Rattle.fisca_params.specs.Files.{Placed, in_path_order}
-use Rattle.fisca_params.specs.Paths.{names_of, after_start, without_ending}
 use Rattle.fisca_params.specs.Results.{and_then}
 use Rattle.fisca_params.specs.Source.{Source}
 use Rattle.fisca_params.specs.Tree.{TreeNode}
@@ -13,14 +12,6 @@ use Rattle.fisca_syntax.specs.Reading.{module_of}
 use Rattle.fisca_tokens.specs.declared.fault.FormulaFault.{FormulaFault}
 use Rattle.fisca_commands.specs.declared.refusal.Refusal.{Refusal}
 use Rattle.fisca_commands.specs.declared.refusal.Refusal.TheVariants.{Params, Formula, Axes, BadWord, BadCondition, Run, Write, Memory, TooManyFiles}
-
--- the path of a module
-abbrev pub is_module : List ℕ → Bool
-is_module path = bytes_eq path (codes "entities.py") || is_some (option_and_then (without_ending (codes ".py")) (after_start (codes "variables/") path))
-
--- the path of a file that belongs to a rule set; others are ignored
-abbrev pub is_rule_path : List ℕ → Bool
-is_rule_path path = is_some (names_of path) || is_module path
 
 -- a fault of a file, which is told with its path
 abbrev pub FileFault : Type 0

@@ -7,8 +7,9 @@ ghost use Rattle.fisca_params.specs.Files.{tree_of};
 ghost use Rattle.fisca_rules.specs.Views.{rule_set};
 ghost use Rattle.fisca_commands.specs.Check.{count_of_files, text_of, text_of_counts, IsCheck, IsToldOf, IsWritten, IsToldAt, is_check_write};
 
-use super::modules::{build_rules, is_rule_path};
+use super::modules::build_rules;
 use super::refusal::Refusal;
+use fisca_folder::is_rule_path;
 use fisca_grid::{RowSink, hand_over};
 use fisca_params::{ParamFault, ParamTree, SourceFile};
 use fisca_rules::RuleSet;

@@ -1,41 +1,20 @@
 //! The modules of a rule set.
 
-ghost use Rattle.std.specs.Prelude.{◌≡◌, IfOk, codes, map, option_map, option_and_then, slice_get};
+ghost use Rattle.std.specs.Prelude.{◌≡◌, IfOk, map, slice_get};
 ghost use Rattle.fisca_commands.specs.Modules as spec;
 ghost use Rattle.fisca_commands.specs.Modules.{IsFaultOf, TellsFile};
 ghost use Rattle.fisca_params.specs.Files.{in_path_order};
-ghost use Rattle.fisca_params.specs.Paths.{after_start, without_ending};
 ghost use Rattle.fisca_rules.specs.Views.{rule_set};
 ghost use Rattle.fisca_syntax.specs.Views.{statements};
 
 use super::refusal::Refusal;
+use fisca_folder::is_module;
 use fisca_names::BuildFault;
-use fisca_params::{ParamTree, SourceFile, in_path_order, is_parameter_path};
+use fisca_params::{ParamTree, SourceFile, in_path_order};
 use fisca_rules::RuleSet;
 use fisca_syntax::{Module, read_module};
 use fisca_tokens::{FormulaFault, Kind};
 use std::alloc::{AllocError, Global};
-
-/// Whether the path is that of a module: `entities.py`, or a file below the folder `variables` whose name ends in `.py`.
-fn is_module(path: &str) -> bool
-    ensures { result ≡ spec.is_module path.now }
-{
-    path == "entities.py" || variables_path(path).is_some()
-}
-
-/// The path of a module below the folder `variables`, without its ending. None of any other file.
-fn variables_path(path: &str) -> Option<&str>
-    ensures { option_map (λ p. p.now) result ≡ option_and_then (without_ending (codes ".py")) (after_start (codes "variables/") path.now) }
-{
-    path.strip_prefix("variables/")?.strip_suffix(".py")
-}
-
-/// Whether a file of this path belongs to a rule set: as a parameter file, or as a module. Others are ignored.
-pub(crate) fn is_rule_path(path: &str) -> bool
-    ensures { result ≡ spec.is_rule_path path.now }
-{
-    is_parameter_path(path) || is_module(path)
-}
 
 /// The modules among these files, in order of their paths.
 fn modules_in<'a>(alloc: Global, files: &'a [SourceFile]) -> Result<Vec<&'a SourceFile>, AllocError>

@@ -2,10 +2,10 @@
 
 ghost use Rattle.std.specs.Prelude.{◌≡◌, ◌∷◌, ◌++◌, codes, IfOk, OnOk, string_bytes};
 ghost use Rattle.std.specs.Fmt.{decimal};
-ghost use Rattle.fisca_commands.specs.Shown.{shown};
+ghost use Rattle.fisca_folder.specs.Shown.{shown};
 ghost use Rattle.fisca_commands.specs.Refusal.{number_of, status_of, reason_of, place_of, line_of};
 
-use super::shown::write_shown;
+use fisca_folder::write_shown;
 use fisca_grid::{AxesFault, RunFault};
 use fisca_params::ParamFault;
 use fisca_tokens::Kind;

@@ -1,7 +1,7 @@
 //! Tests of folders on this machine.
 
 use super::*;
-use fisca_commands::read_rules;
+use fisca_folder::read_rules;
 use std::os::unix::fs::symlink;
 use std::test::Fail;
 

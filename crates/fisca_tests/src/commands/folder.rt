@@ -1,6 +1,6 @@
 //! The rule files of a folder, over folders that a test makes up.
 
-use fisca_commands::{FolderEntry, FolderFault, RuleFolder, read_rules};
+use fisca_folder::{FolderEntry, FolderFault, RuleFolder, read_rules};
 use std::alloc::{AllocError, Global};
 use std::test::Fail;
 

@@ -1,0 +1,13 @@
+//! The folder of a rule set: which of its files belong to it, and their texts.
+#![tactic(auto)]
+
+mod folder;
+mod listing;
+mod reading;
+mod rule_paths;
+mod shown;
+
+pub use folder::{FolderEntry, FolderFault, RuleFolder};
+pub use reading::read_rules;
+pub use rule_paths::{is_module, is_rule_path};
+pub use shown::write_shown;

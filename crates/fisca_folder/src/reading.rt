@@ -1,0 +1,91 @@
+//! The rule files of a folder, read.
+
+ghost use Rattle.std.specs.Prelude.{◌≡◌, ◌≤◌, ◌^◌, Some, length, take, map, string_bytes, All, IfOk, MatchResult};
+ghost use Rattle.std.specs.Str.{IsUtf8};
+ghost use Rattle.fisca_folder.specs.Folder.{Folder, AreFilesOf, AreRead, AreRuleFiles, IsFileFault, IsFirstFault, IsReadable, IsRefused, path_of};
+ghost use Rattle.fisca_folder.specs.FolderSteps.{IsUnread};
+
+use super::folder::{FolderFault, RuleFolder};
+use super::listing::list_rules;
+use fisca_params::SourceFile;
+use std::alloc::Global;
+
+/// A file may have so many bytes.
+const LONGEST: u64 = 1 << 20;
+
+/// Of so many files the texts are kept. A rule set with more is refused whatever their texts are.
+const KEPT: usize = 1_001;
+
+/// Reads the parameter files of a folder, in order of the bytes of their paths, which are relative to it: those below its
+/// folder `parameters`, in eight levels of folders, whose names end in `.yaml` or `.yml`. Of more than 1,001 files the first
+/// 1,001 are answered. The first fault in this order is told:
+///
+/// - `CannotList` where a folder cannot be listed, `TooManyFiles` where more than 100,000 files and folders are met.
+/// - of the files, in order of their paths: `CannotRead` where one cannot be read or is not UTF-8, `TooLong` where one has
+///   more than 1 MiB.
+/// - `Memory` only where memory was refused.
+///
+/// This project's own rule.
+pub fn read_rules<F: RuleFolder>(alloc: Global, folder: &F) -> Result<Vec<SourceFile>, FolderFault>
+    ensures answer { (known : Folder) → F.says folder.now known → MatchResult result (λ files. AreFilesOf known files.items) (IsRefused known) }
+    ensures files { IfOk result (λ files. AreRuleFiles files.items) }
+{
+    let paths = list_rules(alloc, folder)?;
+    read_files(alloc, folder, paths)
+}
+
+/// The files of these paths, of which the first 1,001 are kept.
+fn read_files<F: RuleFolder>(
+    alloc: Global,
+    folder: &F,
+    paths: Vec<String>,
+) -> Result<Vec<SourceFile>, FolderFault>
+    ensures answer { (known : Folder) → F.says folder.now known → MatchResult result (λ files. AreRead known (map (λ path. string_bytes path) paths.items) files.items) (IsFirstFault known (map (λ path. string_bytes path) paths.items)) }
+    ensures paths { IfOk result (λ files. map path_of files.items ≡ take KEPT (map (λ path. string_bytes path) paths.items)) }
+    ensures texts { IfOk result (λ files. All (λ file. length file.text ≤ LONGEST) files.items) }
+{
+    let mut files = Vec::new(alloc);
+    for path in paths {
+        let text = read_text(alloc, folder, path.as_str())?;
+        if files.len() < KEPT {
+            files.push(SourceFile::new(path, text))?;
+        }
+    }
+    Ok(files)
+}
+
+/// The text of a file of at most 1 MiB. Its length is judged before its encoding.
+fn read_text<F: RuleFolder>(alloc: Global, folder: &F, path: &str) -> Result<String, FolderFault>
+    ensures answer { (known : Folder) → F.says folder.now known → MatchResult result (λ text. (known.bytes path.now ≡ Some (string_bytes text)) × IsReadable (known.bytes path.now)) (IsFileFault path.now (known.bytes path.now)) }
+    ensures short { IfOk result (λ text. length (string_bytes text) ≤ LONGEST) }
+{
+    let bytes = match folder.bytes(path, LONGEST + 1)? {
+        Some(bytes) => bytes,
+        None => return Err(cannot_read(alloc, path)),
+    };
+    if bytes.len() as u64 > LONGEST {
+        let path = String::from_str(alloc, path)?;
+        return Err(FolderFault::TooLong { path });
+    }
+    text_of(alloc, path, bytes)
+}
+
+/// The text of these bytes of the file at a path.
+fn text_of(alloc: Global, path: &str, bytes: Vec<u8>) -> Result<String, FolderFault>
+    ensures { MatchResult result (λ text. (string_bytes text ≡ bytes.items) × IsUtf8 bytes.items) (λ fault. ¬ (IsUtf8 bytes.items) × IsUnread path.now fault) }
+{
+    match String::from_utf8(bytes) {
+        Ok(text) => Ok(text),
+        Err(_) => Err(cannot_read(alloc, path)),
+    }
+}
+
+/// That a file cannot be read.
+fn cannot_read(alloc: Global, path: &str) -> FolderFault
+    ensures { IsUnread path.now result }
+{
+    match String::from_str(alloc, path) {
+        Ok(path) => FolderFault::CannotRead { path },
+        Err(_) => FolderFault::Memory,
+    }
+}

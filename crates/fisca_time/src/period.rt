@@ -281,7 +281,8 @@ impl Period {
     fn month_count(self) -> u32
         ensures { result ≡ months_of self }
     {
-        // The months in one of its unit, by the unit's place among all: 0 where none are counted.
+        // The months in one of its unit, by the unit's place among all: 0 where none are counted. A place is below 4, and the
+        // remainder tells the compiler so.
         const MONTHS: [u32; 4] = [0, 1, 12, 0];
         MONTHS[(self.key >> 48) as usize % 4] * (self.key % (1 << 16)) as u32
     }

@@ -58,6 +58,7 @@ impl Unit {
         requires { rank ≤ 3 }
         ensures { result ≡ unit_ranked rank }
     {
+        // A rank is below 4, and the remainder tells the compiler so.
         match rank % 4 {
             0 => Unit::Day,
             1 => Unit::Month,

@@ -143,7 +143,7 @@ def refused_for(function, lines):
     if len(places) != 1 or re.search(": (proved$|no proof: it calls )", lines[places[0]]):
         return None
     folder = "/".join(lines[places[0]].removeprefix("fn ").partition(": ")[0].split("::")[1:])
-    own = [line for line in lines if ": error" in line and line.startswith(f"./proofs/{folder}/") and not NAMES_ALONE.match(line)]
+    own = [line for line in lines if line.startswith(f"./proofs/{folder}/") and SAID.match(line) and ": error" in line and not NAMES_ALONE.match(line)]
     for line in reversed(lines[: places[0]]):
         if line.startswith("fn "):
             break

@@ -18,4 +18,4 @@ pub use given::{Given, GivenInputs, Value};
 pub use inputs::Inputs;
 pub use key::Key;
 pub use law::{defaults_stand_beside, shares_add_up};
-pub use periods::{key_period, takes};
+pub use periods::{fits, key_period, takes};

@@ -8,7 +8,7 @@ use fisca_tables::Variable;
 use fisca_time::{Period, Unit};
 
 /// Whether a period is just one of this unit; of eternity each is.
-pub(crate) fn fits(unit: Unit, period: Period) -> bool
+pub fn fits(unit: Unit, period: Period) -> bool
     ensures { result ≡ asking.fits unit period }
 {
     match unit {

@@ -1,0 +1,4 @@
+pub mod Calc
+pub mod Faults
+pub mod Outcomes
+pub mod Views

@@ -24,7 +24,7 @@ use std::alloc::Global;
 fn role_at(
     roles: &RoleTable<'_, '_>,
     persons: &Persons<'_>,
-    group: usize,
+    group: u32,
     homes: &mut Homes,
     line: usize,
     tree: &Tree<'_>,
@@ -46,7 +46,7 @@ fn role_at(
 fn roles_from(
     roles: &RoleTable<'_, '_>,
     persons: &Persons<'_>,
-    group: usize,
+    group: u32,
     homes: &mut Homes,
     entries: &[Entry<'_>],
 ) -> Result<(), MembersFault>
@@ -79,10 +79,10 @@ fn with_group(
 ) -> Result<(), MembersFault>
     ensures { Leaves groups.new (spec.with_group roles.now persons.now groups.old name.now line (node tree.now)) result }
 {
-    let group = groups.names.len();
-    room(line, group)?;
+    let count = groups.names.len();
+    room(line, count)?;
     let entries = entries_at(line, tree)?;
-    roles_from(roles, persons, group, &mut groups.homes, entries)?;
+    roles_from(roles, persons, count as u32, &mut groups.homes, entries)?;
     groups.names.push(alloc, name.as_bytes())?;
     Ok(())
 }

@@ -18,7 +18,7 @@ use fisca_yaml::{Item, Tree};
 #[derive(Clone, Copy)]
 pub(crate) struct Post<'e, 'r> {
     /// The place of the group.
-    pub(crate) group: usize,
+    pub(crate) group: u32,
     /// The place of the role.
     pub(crate) place: usize,
     /// The role.

@@ -1,6 +1,6 @@
 //! Where persons belong.
 
-ghost use Rattle.std.specs.Prelude.{◌≡◌, length, replicate, slice_get, Some, None, IfOk};
+ghost use Rattle.std.specs.Prelude.{◌≡◌, ◌≤◌, length, replicate, slice_get, Some, None, IfOk};
 ghost use Rattle.fisca_members.specs.Groups as spec;
 ghost use Rattle.fisca_members.specs.Lookup.{if_held};
 
@@ -12,29 +12,32 @@ use std::marker::Model;
 #[derive(Clone, Copy, Debug, PartialEq, Eq)]
 pub struct Home {
     /// The place of the group among those of its kind.
-    pub group: usize,
+    pub group: u32,
     /// The role, or the subrole.
     pub role: RolePlace,
 }
 
-/// For each person in order the group of a kind that holds it, where one does; seen as a list.
+/// For each person in order the group of a kind that holds it, where one does, of at most 1,000 persons; seen as a list.
 #[derive(Drop)]
 pub struct Homes {
     items: Vec<Option<Home>>,
 }
 
 impl Model for Homes {
-    ghost use Rattle.std.specs.Prelude.{List, Option};
+    ghost use Rattle.std.specs.Prelude.{◌≤◌, List, Option, length};
     ghost use Rattle.fisca_members.specs.declared.home.Home.{Home};
 
     ghost Value = { List (Option Home) };
 
     ghost view = { λ h. h.items.items };
+
+    ghost invariant = { λ h. length h.items.items ≤ 1000 };
 }
 
 impl Homes {
     /// So many persons that no group holds.
     pub(crate) fn new(alloc: Global, count: usize) -> Result<Homes, AllocError>
+        requires { count ≤ 1000 }
         ensures { IfOk result (λ h. h ≡ replicate count None) }
     {
         Ok(Homes {
@@ -44,7 +47,8 @@ impl Homes {
 
     /// For each person the group that holds it, and the role there.
     pub fn as_slice(&self) -> &[Option<Home>]
-        ensures { result.now ≡ self.now }
+        ensures value { result.now ≡ self.now }
+        ensures most { length result.now ≤ 1000 }
     {
         self.items.as_slice()
     }

@@ -23,7 +23,6 @@ pub use home::{Home, Homes};
 pub use members::{Members, members_in, members_of};
 pub use person::{Person, Persons};
 pub use role_table::RoleTable;
-pub use roster::{PersonList, Roster};
 pub use section::{Input, Named, Section};
 pub use sections::input_of;
 pub use titles::{Titles, titles_of};

@@ -3,6 +3,7 @@
 ghost use Rattle.std.specs.Prelude.{◌≡◌, map, option_map, IfOk};
 ghost use Rattle.fisca_tables.specs.KnownEntities.{entity as known_one, entities as known};
 ghost use Rattle.fisca_yaml.specs.Views.{node};
+ghost use Rattle.fisca_members.specs.Grouped.{grouped};
 ghost use Rattle.fisca_members.specs.Lookup as lookup;
 ghost use Rattle.fisca_members.specs.Members as spec;
 ghost use Rattle.fisca_members.specs.Outcomes.{Leaves, Tells};
@@ -17,6 +18,7 @@ use crate::own::own_groups;
 use crate::person::Persons;
 use crate::persons::persons_in;
 use crate::role_table::first_role;
+use crate::roster::Rosters;
 use crate::section::{Input, Section};
 use crate::sections::input_of;
 use crate::titles::titles_of;
@@ -25,22 +27,52 @@ use fisca_yaml::Tree;
 use std::alloc::{AllocError, Global};
 use std::marker::Model;
 
-/// The members of each entity in order, seen as a list.
+/// The members of each entity in order, as far as they are read, seen as a list.
 #[derive(Drop)]
-pub struct Members {
+struct Draft {
     items: Vec<EntityMembers>,
 }
 
-impl Model for Members {
+impl Model for Draft {
     ghost use Rattle.std.specs.Prelude.{List};
     ghost use Rattle.fisca_members.specs.declared.entity_members.EntityMembers.{EntityMembers};
 
     ghost Value = { List EntityMembers };
 
+    ghost view = { λ d. d.items.items };
+}
+
+/// The members of each entity in order, and the persons of each group; seen as the list of the members.
+#[derive(Drop)]
+pub struct Members {
+    items: Vec<EntityMembers>,
+    rosters: Rosters,
+}
+
+impl Model for Members {
+    ghost use Rattle.std.specs.Prelude.{List};
+    ghost use Rattle.fisca_members.specs.Rosters.{AreRosters};
+    ghost use Rattle.fisca_members.specs.declared.entity_members.EntityMembers.{EntityMembers};
+
+    ghost Value = { List EntityMembers };
+
     ghost view = { λ m. m.items.items };
+
+    ghost invariant = { λ m. AreRosters m.items.items m.rosters };
 }
 
 impl Members {
+    /// The members that were read.
+    fn of(alloc: Global, draft: Draft) -> Result<Members, AllocError>
+        ensures { IfOk result (λ m. m ≡ draft) }
+    {
+        let rosters = Rosters::of(alloc, draft.items.as_slice())?;
+        Ok(Members {
+            items: draft.items,
+            rosters,
+        })
+    }
+
     /// The members of each entity.
     pub fn as_slice(&self) -> &[EntityMembers]
         ensures { result.now ≡ self.now }
@@ -76,6 +108,14 @@ impl Members {
             Some(members) => members.homes.get(person as usize),
             None => None,
         }
+    }
+
+    /// The persons of a group of an entity, in order; none where there is no such group.
+    #[tactic(auto, using(crate::proofs::Rosters::persons_at))]
+    pub fn persons(&self, entity: usize, group: u32) -> &[u32]
+        ensures { result.now ≡ (grouped self.now).persons entity group }
+    {
+        self.rosters.persons(entity, group)
     }
 
     /// How many members each entity has.
@@ -128,7 +168,7 @@ fn all_none_yet(
     alloc: Global,
     persons: &Persons<'_>,
     entities: &[Entity<'_>],
-) -> Result<Members, AllocError>
+) -> Result<Draft, AllocError>
     ensures { IfOk result (λ m. m ≡ map (spec.none_yet persons.now) (known entities.now)) }
 {
     let mut items = Vec::new(alloc);
@@ -136,7 +176,7 @@ fn all_none_yet(
         let members = none_yet(alloc, persons, entity)?;
         items.push(members).map_err(AllocError::from)?;
     }
-    Ok(Members { items })
+    Ok(Draft { items })
 }
 
 /// The groups of a section are read; persons are read before.
@@ -144,7 +184,7 @@ fn section_read(
     alloc: Global,
     entities: &[Entity<'_>],
     persons: &Persons<'_>,
-    members: &mut Members,
+    members: &mut Draft,
     section: &Section<'_, '_>,
 ) -> Result<(), MembersFault>
     ensures { Leaves members.new (spec.section_read (known entities.now) persons.now members.old (section_view section.now)) result }
@@ -165,7 +205,7 @@ fn sections_read(
     alloc: Global,
     entities: &[Entity<'_>],
     persons: &Persons<'_>,
-    members: &mut Members,
+    members: &mut Draft,
     sections: &[Section<'_, '_>],
 ) -> Result<(), MembersFault>
     ensures { Leaves members.new (spec.sections_read (known entities.now) persons.now members.old (map section_view sections.now)) result }
@@ -181,7 +221,7 @@ fn groups_in(
     alloc: Global,
     entities: &[Entity<'_>],
     persons: &Persons<'_>,
-    members: &mut Members,
+    members: &mut Draft,
     input: &Input<'_, '_>,
 ) -> Result<(), MembersFault>
     ensures { Leaves members.new (spec.groups_in (known entities.now) persons.now members.old (input_view input.now)) result }
@@ -198,7 +238,7 @@ fn groups_in(
 fn own_of(
     alloc: Global,
     persons: &Persons<'_>,
-    members: &mut Members,
+    members: &mut Draft,
     place: usize,
     entity: &Entity<'_>,
 ) -> Result<(), MembersFault>
@@ -215,7 +255,7 @@ fn own_of(
 fn all_own(
     alloc: Global,
     persons: &Persons<'_>,
-    members: &mut Members,
+    members: &mut Draft,
     entities: &[Entity<'_>],
 ) -> Result<(), MembersFault>
     ensures { Leaves members.new (spec.owns_from persons.now members.old 0 (known entities.now)) result }
@@ -246,7 +286,7 @@ pub fn members_in(
     let mut members = all_none_yet(alloc, &persons, entities)?;
     groups_in(alloc, entities, &persons, &mut members, input)?;
     all_own(alloc, &persons, &mut members, entities)?;
-    Ok(members)
+    Ok(Members::of(alloc, members)?)
 }
 
 /// The members of a situation, whose input stands at a key on `line`: of each of these entities in order, or the first fault: of its

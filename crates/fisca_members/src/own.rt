@@ -22,9 +22,10 @@ fn with_own(
 ) -> Result<(), MembersFault>
     ensures { Leaves groups.new (spec.with_own first groups.old place person.now) result }
 {
-    let group = groups.names.len();
-    room(person.line, group)?;
+    let count = groups.names.len();
+    room(person.line, count)?;
     groups.names.push(alloc, person.name.as_bytes())?;
+    let group = count as u32;
     groups.homes.hold(place, Home { group, role: first });
     Ok(())
 }

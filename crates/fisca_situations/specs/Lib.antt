@@ -1,4 +1,3 @@
-pub mod Grouped
 pub mod Reading
 pub mod Situations
 pub mod Values

@@ -1,10 +1,15 @@
 //! What expressions stand for: functions that call one another, each of which only matches and calls.
-ghost use Rattle.std.specs.Prelude.{◌≡◌, Bool, IfOk, map};
+ghost use Rattle.std.specs.Prelude.{◌≡◌, Bool, IfOk, Result, map};
 ghost use Rattle.fisca_calls.specs.Arguments.{all_given as given_list, given as given_view};
 ghost use Rattle.fisca_expressions.specs.Views.{argument_view, series_of, tree as tree_of};
 ghost use Rattle.fisca_formula.specs.Views.{names as names_of};
+ghost use Rattle.fisca_nodes.specs.Operations.{by};
 ghost use Rattle.fisca_nodes.specs.Outcomes.{Gives};
 ghost use Rattle.fisca_nodes.specs.Views.{thing};
+ghost use Rattle.fisca_params.specs.Results.{and_then};
+ghost use Rattle.fisca_tokens.specs.declared.fault.Kind.{Kind};
+ghost use Rattle.fisca_typing.specs.Operations as operations;
+ghost use Rattle.fisca_typing.specs.Things as things;
 ghost use Rattle.fisca_typing.specs.Typing as spec;
 
 use crate::atoms::{if_known, number_thing, text_thing};
@@ -13,12 +18,13 @@ use crate::brackets::{in_brackets, with_suffix};
 use crate::names::named;
 use crate::scope::Names;
 use fisca_calls::Given;
-use fisca_expressions::{Argument, Expr};
+use fisca_expressions::{Argument, Bracket, Expr, Prefix, Suffix};
 use fisca_nodes::{Dyadic, Thing, operated, prefixed_value};
 use fisca_tokens::Kind;
 use std::alloc::{AllocError, Global};
 
-/// What an expression stands for, or its first fault.
+/// What an expression stands for, or its first fault. Each form with parts has a function of its own, whose frame is
+/// cleared only where it is called.
 #[cycle(typing)]
 pub fn thing_of<'a, 't>(alloc: Global, tree: &'t Expr<'a>, names: &Names) -> Result<Thing, Kind>
     ensures { Gives thing (spec.thing_of (names_of names.now) (tree_of tree.now)) result }
@@ -28,33 +34,97 @@ pub fn thing_of<'a, 't>(alloc: Global, tree: &'t Expr<'a>, names: &Names) -> Res
         Expr::Number(digits) => number_thing(digits.as_bytes()),
         Expr::Text(text) => text_thing(alloc, text.as_bytes()),
         Expr::Bracketed(bracket, inside) => {
-            let arguments = all_given(alloc, inside.items.as_slice(), names)?;
-            in_brackets(alloc, *bracket, arguments)
+            bracketed(alloc, names, *bracket, inside.items.as_slice())
         }
-        Expr::Attribute(front, name) => {
-            let before = thing_of(alloc, front, names)?;
-            attribute_of(alloc, names, name.as_bytes(), before)
-        }
+        Expr::Attribute(front, name) => attribute(alloc, names, front, name.as_bytes()),
         Expr::Applied(front, suffix, behind) => {
-            let before = thing_of(alloc, front, names)?;
-            let arguments = all_given(alloc, behind.items.as_slice(), names)?;
-            with_suffix(alloc, names, *suffix, before, arguments)
+            let before = thing_of(alloc, front, names);
+            applied(alloc, names, *suffix, before, behind.items.as_slice())
         }
-        Expr::Prefixed(prefix, operand) => {
-            let inside = thing_of(alloc, operand, names)?;
-            prefixed_value(alloc, *prefix, inside)
-        }
+        Expr::Prefixed(prefix, operand) => prefixed(alloc, names, *prefix, operand),
         Expr::Binary(operator, left, right) => {
-            let first = thing_of(alloc, left, names)?;
-            let second = thing_of(alloc, right, names)?;
-            operated(alloc, Dyadic::Operator(*operator), first, second)
+            let first = thing_of(alloc, left, names);
+            of_two(alloc, names, Dyadic::Operator(*operator), first, right)
         }
         Expr::Compare(comparison, left, right) => {
-            let first = thing_of(alloc, left, names)?;
-            let second = thing_of(alloc, right, names)?;
-            operated(alloc, Dyadic::Comparison(*comparison), first, second)
+            let first = thing_of(alloc, left, names);
+            of_two(alloc, names, Dyadic::Comparison(*comparison), first, right)
         }
     }
+}
+
+/// What brackets stand for, or the first fault of what stands in them.
+#[cycle(typing)]
+fn bracketed<'a, 't>(
+    alloc: Global,
+    names: &Names,
+    bracket: Bracket,
+    inside: &'t [Argument<'a>],
+) -> Result<Thing, Kind>
+    ensures { (comma : Bool) → Gives thing (spec.in_brackets bracket (spec.all_given (names_of names.now) (series_of comma (map argument_view inside.now)))) result }
+{
+    let arguments = all_given(alloc, inside, names)?;
+    in_brackets(alloc, bracket, arguments)
+}
+
+/// What a name behind an expression stands for, or the first fault.
+#[cycle(typing)]
+fn attribute<'a, 't>(
+    alloc: Global,
+    names: &Names,
+    front: &'t Expr<'a>,
+    name: &[u8],
+) -> Result<Thing, Kind>
+    ensures { Gives thing (and_then (spec.thing_of (names_of names.now) (tree_of front.now)) (spec.attribute_of (names_of names.now) name.now)) result }
+{
+    let before = thing_of(alloc, front, names)?;
+    attribute_of(alloc, names, name, before)
+}
+
+/// What brackets behind what was found stand for, or the first fault.
+#[cycle(typing)]
+fn applied<'a, 't>(
+    alloc: Global,
+    names: &Names,
+    suffix: Suffix,
+    found: Result<Thing, Kind>,
+    behind: &'t [Argument<'a>],
+) -> Result<Thing, Kind>
+    ensures { (comma : Bool) (told : Result things.Thing Kind) → Gives thing told found → Gives thing (and_then told (λ before. spec.with_suffix (names_of names.now) suffix before (spec.all_given (names_of names.now) (series_of comma (map argument_view behind.now))))) result }
+{
+    let before = found?;
+    let arguments = all_given(alloc, behind, names)?;
+    with_suffix(alloc, names, suffix, before, arguments)
+}
+
+/// What a prefix and its operand stand for, or the first fault.
+#[cycle(typing)]
+fn prefixed<'a, 't>(
+    alloc: Global,
+    names: &Names,
+    prefix: Prefix,
+    operand: &'t Expr<'a>,
+) -> Result<Thing, Kind>
+    ensures { Gives thing (and_then (spec.thing_of (names_of names.now) (tree_of operand.now)) (operations.prefixed_value prefix)) result }
+{
+    let inside = thing_of(alloc, operand, names)?;
+    prefixed_value(alloc, prefix, inside)
+}
+
+/// What an operation on what was found and a second operand stands for, or the first fault.
+#[cycle(typing)]
+fn of_two<'a, 't>(
+    alloc: Global,
+    names: &Names,
+    dyadic: Dyadic,
+    found: Result<Thing, Kind>,
+    right: &'t Expr<'a>,
+) -> Result<Thing, Kind>
+    ensures { (told : Result things.Thing Kind) → Gives thing told found → Gives thing (and_then told (λ first. and_then (spec.thing_of (names_of names.now) (tree_of right.now)) (operations.operated (by dyadic) first))) result }
+{
+    let first = found?;
+    let second = thing_of(alloc, right, names)?;
+    operated(alloc, dyadic, first, second)
 }
 
 /// What stands between brackets, each with what it stands for or its first fault.

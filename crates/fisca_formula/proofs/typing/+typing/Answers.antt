@@ -1,12 +1,13 @@
 use Rattle.std.proofs.Common.{rules, arith, ◌≡◌, ◌∙◌, sym, ap, Some, None, Ok, take}
 use Rattle.std.specs.Prelude.{map}
 use Rattle.fisca_calls.specs.Arguments.{all_given as given_list}
-use Rattle.fisca_expressions.specs.Tree.{applied, bracketed, keyword, positional}
+use Rattle.fisca_expressions.specs.Tree.{applied, attribute, binary, bracketed, compare, keyword, positional}
 use Rattle.fisca_expressions.specs.Views.{argument_view, series_of, tree}
 use Rattle.fisca_expressions.specs.declared.tree.Arguments.{the_lemmas as all_lemmas}
 use Rattle.fisca_nodes.specs.Views.{thing}
 use Rattle.fisca_params.specs.Results.{and_then}
-use Rattle.fisca_typing.specs.Typing.{all_given, given, given_of, in_brackets, thing_of, with_suffix}
+use Rattle.fisca_typing.specs.Operations.{comparison_of, operated, operation}
+use Rattle.fisca_typing.specs.Typing.{all_given, attribute_of, given, given_of, in_brackets, thing_of, with_suffix}
 use Rattle.fisca_formula.specs.Views.{names}
 use Rattle.fisca_formula.proofs.Elements.{series_given, take_all}
 use Rattle.fisca_formula.proofs.Outcomes.{gives_same}
@@ -35,23 +36,46 @@ given_of-returns-in_ok-if_known-in-Keyword t c =
     let seen : argument_view c.args.argument.now ≡ keyword c.in-Keyword.keyword (tree value) = ap argument_view c.in-Keyword.is ∙ search (all_lemmas, rules) in
     (λ i. given (Some (c.as_bytes.ensures i)) (tree value) (told i)) ∙ ap (given_of n) (sym seen)
 
-pub thing_of-returns-in_ok-arguments-in-Bracketed : goal.thing_of-returns-in_ok-arguments-in-Bracketed
-thing_of-returns-in_ok-arguments-in-Bracketed t c =
+pub thing_of-returns-in-Bracketed : goal.thing_of-returns-in-Bracketed
+thing_of-returns-in-Bracketed t c =
     let n = names c.args.names.now in
     let inside = c.in-Bracketed.inside in
     let seen : tree c.args.tree.now ≡ bracketed c.in-Bracketed.bracket (series_of inside.comma (map argument_view inside.items.items)) = ap tree c.in-Bracketed.is ∙ search (all_lemmas, rules) in
-    let arguments =
-    c.in_ok-arguments-in-Bracketed.ensures inside.comma ∙ ap (λ xs. all_given n (series_of inside.comma (map argument_view xs))) c.as_slice.ensures.value in
-    gives_same thing _ _ _ c.in_brackets.ensures (ap (thing_of n) seen ∙ ap (in_brackets c.in-Bracketed.bracket) (sym arguments))
+    gives_same thing _ _ _ (c.bracketed.ensures inside.comma)
+    (ap (thing_of n) seen ∙ ap (λ xs. in_brackets c.in-Bracketed.bracket (all_given n (series_of inside.comma (map argument_view xs)))) (sym c.as_slice.ensures.value))
 
-pub thing_of-returns-in_ok-arguments-in-Applied : goal.thing_of-returns-in_ok-arguments-in-Applied
-thing_of-returns-in_ok-arguments-in-Applied t c =
+pub thing_of-returns-in-Attribute : goal.thing_of-returns-in-Attribute
+thing_of-returns-in-Attribute t c =
+    let n = names c.args.names.now in
+    let seen : tree c.args.tree.now ≡ attribute (tree c.in-Attribute.front.value) c.in-Attribute.name = ap tree c.in-Attribute.is ∙ search (all_lemmas, rules) in
+    let front = sym c.deref.ensures in
+    let name = sym c.as_bytes-in-Attribute.ensures in
+    gives_same thing _ _ _ c.attribute.ensures (ap (thing_of n) seen ∙ (λ i. and_then (thing_of n (tree (front i))) (attribute_of n (name i))))
+
+pub thing_of-returns-in-Applied : goal.thing_of-returns-in-Applied
+thing_of-returns-in-Applied t c =
     let n = names c.args.names.now in
     let behind = c.in-Applied.behind in
     let seen : tree c.args.tree.now ≡ applied c.in-Applied.suffix (tree c.in-Applied.front.value) (series_of behind.comma (map argument_view behind.items.items)) = ap tree c.in-Applied.is ∙ search (all_lemmas, rules) in
-    let arguments =
-    c.in_ok-arguments-in-Applied.ensures behind.comma ∙ ap (λ xs. all_given n (series_of behind.comma (map argument_view xs))) c.as_slice-in-Applied.ensures.value in
-    let front : thing_of n (tree c.in-Applied.front.value) ≡ Ok (thing c.in_ok-before-in-Applied.before) = search rules in
-    let given = all_given n (series_of behind.comma (map argument_view behind.items.items)) in
-    gives_same thing _ _ _ c.with_suffix.ensures
-    (ap (thing_of n) seen ∙ ap (λ o. and_then o (λ g. with_suffix n c.in-Applied.suffix g given)) front ∙ ap (with_suffix n c.in-Applied.suffix (thing c.in_ok-before-in-Applied.before)) (sym arguments))
+    let front = sym c.deref-in-Applied.ensures in
+    let items = sym c.as_slice-in-Applied.ensures.value in
+    gives_same thing _ _ _ (c.applied.ensures behind.comma _ c.thing_of-before.ensures)
+    (ap (thing_of n) seen ∙ (λ i. and_then (thing_of n (tree (front i))) (λ g. with_suffix n c.in-Applied.suffix g (all_given n (series_of behind.comma (map argument_view (items i)))))))
+
+pub thing_of-returns-in-Binary : goal.thing_of-returns-in-Binary
+thing_of-returns-in-Binary t c =
+    let n = names c.args.names.now in
+    let seen : tree c.args.tree.now ≡ binary c.in-Binary.operator (tree c.in-Binary.left.value) (tree c.in-Binary.right.value) = ap tree c.in-Binary.is ∙ search (all_lemmas, rules) in
+    let left = sym c.deref-in-Binary.ensures in
+    let right = sym c.deref-in-Binary-2.ensures in
+    gives_same thing _ _ _ (c.of_two.ensures _ c.thing_of-first.ensures)
+    (ap (thing_of n) seen ∙ (λ i. and_then (thing_of n (tree (left i))) (λ x. and_then (thing_of n (tree (right i))) (operated (operation c.in-Binary.operator) x))))
+
+pub thing_of-returns-in-Compare : goal.thing_of-returns-in-Compare
+thing_of-returns-in-Compare t c =
+    let n = names c.args.names.now in
+    let seen : tree c.args.tree.now ≡ compare c.in-Compare.comparison (tree c.in-Compare.left.value) (tree c.in-Compare.right.value) = ap tree c.in-Compare.is ∙ search (all_lemmas, rules) in
+    let left = sym c.deref-in-Compare.ensures in
+    let right = sym c.deref-in-Compare-2.ensures in
+    gives_same thing _ _ _ (c.of_two-in-Compare.ensures _ c.thing_of-first-in-Compare.ensures)
+    (ap (thing_of n) seen ∙ (λ i. and_then (thing_of n (tree (left i))) (λ x. and_then (thing_of n (tree (right i))) (operated (comparison_of c.in-Compare.comparison) x))))

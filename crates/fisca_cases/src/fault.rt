@@ -1,6 +1,7 @@
 //! What is told in place of an answer.
 
 use crate::written::Written;
+use fisca_calc::RunFileFault;
 use fisca_commands::Refusal;
 use fisca_grid::AxesFault;
 use fisca_inputs::SituationFault;
@@ -36,6 +37,8 @@ pub enum Fault {
     #[error("{0}")]
     Situation(#[from] SituationFault),
     #[error("{0}")]
+    RunFile(#[from] RunFileFault),
+    #[error("{0}")]
     Axes(#[from] AxesFault),
     #[error("{0}")]
     Refused(#[from] Refusal),
@@ -67,6 +70,7 @@ impl Fault {
             Fault::Param(fault) => push_param(&mut told, *fault),
             Fault::Build(fault) => push_build(&mut told, *fault),
             Fault::Situation(fault) => push_situation(&mut told, *fault),
+            Fault::RunFile(fault) => push_run_file(&mut told, *fault),
             Fault::Axes(fault) => push(&mut told, *fault as u8, fault),
             Fault::Refused(refusal) => push_refusal(alloc, &mut told, refusal),
         }
@@ -104,6 +108,11 @@ fn push_build(told: &mut Written, fault: BuildFault) {
 }
 
 fn push_situation(told: &mut Written, fault: SituationFault) {
+    push(told, fault.kind.number(), &fault.kind);
+    push_line(told, fault.line);
+}
+
+fn push_run_file(told: &mut Written, fault: RunFileFault) {
     push(told, fault.kind.number(), &fault.kind);
     push_line(told, fault.line);
 }

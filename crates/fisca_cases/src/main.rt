@@ -7,6 +7,7 @@
 #![tactic(auto)]
 
 mod case;
+mod columns;
 mod commands;
 mod expressions;
 mod fault;
@@ -114,6 +115,8 @@ fn ask(
             "expressions" => expressions::answer(alloc, operation.as_str(), rest),
             "rule_sets" => rule_sets::answer(alloc, operation.as_str(), files),
             "situations" => situations::answer(alloc, operation.as_str(), files, rest),
+            "columns" => columns::answer(alloc, operation.as_str(), files, rest),
+            "calc" => columns::calc(alloc, operation.as_str(), files, rest),
             "grid" => grid::answer(alloc, operation.as_str(), rest),
             "commands" => commands::answer(alloc, operation.as_str(), files, rest),
             _ => Err(Fault::Malformed),

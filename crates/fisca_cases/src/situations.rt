@@ -26,12 +26,13 @@ pub fn answer(
     match operation {
         "members" => members(alloc, &rules, words),
         "input" => input(alloc, &rules, words),
+        "neutralized" => neutralized(alloc, &rules, words),
         _ => Err(Fault::Malformed),
     }
 }
 
 /// The situation of an input whose key stands on line 1.
-fn situation(
+pub fn situation(
     alloc: Global,
     rules: &RuleSet<'_>,
     default: &str,
@@ -97,16 +98,40 @@ fn input(alloc: Global, rules: &RuleSet<'_>, words: &[String]) -> Result<String,
         return Err(Fault::Malformed);
     };
     let found = situation(alloc, rules, default.as_str(), text.as_str())?;
-    let Some(variable) = rules.variable(variable.as_str()) else {
+    let key = key_of(rules, variable.as_str(), member.as_str(), period.as_str())?;
+    shown(alloc, &found.input(&key))
+}
+
+/// The same where the first variable has been neutralised.
+fn neutralized(alloc: Global, rules: &RuleSet<'_>, words: &[String]) -> Result<String, Fault> {
+    let [neutral, variable, member, period, default, text] = words else {
         return Err(Fault::Malformed);
     };
-    let key = Key {
-        variable,
-        member: number(member.as_str())?,
-        period: Period::read(period.as_str())?,
+    let mut found = situation(alloc, rules, default.as_str(), text.as_str())?;
+    let key = key_of(rules, variable.as_str(), member.as_str(), period.as_str())?;
+    let mut marks = Vec::new(alloc);
+    for declared in rules.variables() {
+        marks.push(declared.name.as_bytes() == neutral.as_bytes())?;
+    }
+    found.neutralize(marks.as_slice());
+    shown(alloc, &found.input(&key))
+}
+
+/// The key of a variable at a member and a period.
+pub fn key_of(
+    rules: &RuleSet<'_>,
+    variable: &str,
+    member: &str,
+    period: &str,
+) -> Result<Key, Fault> {
+    let Some(variable) = rules.variable(variable) else {
+        return Err(Fault::Malformed);
     };
-    let value = found.input(&key);
-    shown(alloc, &value)
+    Ok(Key {
+        variable,
+        member: number(member)?,
+        period: Period::read(period)?,
+    })
 }
 
 fn shown(alloc: Global, value: &Option<Value>) -> Result<String, Fault> {

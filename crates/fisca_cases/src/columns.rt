@@ -1,0 +1,118 @@
+//! Columns, and the files of `fisca calc`.
+
+use crate::fault::Fault;
+use crate::rule_sets::rules_of;
+use crate::situations::{key_of, situation};
+use crate::words::number;
+use crate::written::Written;
+use fisca_calc::CalcFile;
+use fisca_columns::{key_text, read_column, value_text};
+use fisca_inputs::Value;
+use fisca_num::Fraction;
+use fisca_params::SourceFile;
+use fisca_rules::RuleSet;
+use fisca_time::Period;
+use fisca_yaml::read;
+use std::alloc::Global;
+
+/// The answer to a case of columns: what the call of this name gives for these files and words. Those of a situation are the last two: the
+/// default period, or `-` for none, and the input.
+pub fn answer(
+    alloc: Global,
+    operation: &str,
+    files: &[SourceFile],
+    words: &[String],
+) -> Result<String, Fault> {
+    let rules = rules_of(alloc, files)?;
+    match operation {
+        "read" => column(alloc, &rules, words),
+        "key" => key(alloc, &rules, words),
+        "value" => value(alloc, &rules, words),
+        _ => Err(Fault::Malformed),
+    }
+}
+
+/// The place of the variable, the member and the period of the key that a column names.
+fn column(alloc: Global, rules: &RuleSet<'_>, words: &[String]) -> Result<String, Fault> {
+    let [text, default, input] = words else {
+        return Err(Fault::Malformed);
+    };
+    let found = situation(alloc, rules, default.as_str(), input.as_str())?;
+    let default = match default.as_str() {
+        "-" => None,
+        word => Some(Period::read(word)?),
+    };
+    match read_column(&rules.tables, &found, text.as_str(), default) {
+        None => Ok(String::from_str(alloc, "none")?),
+        Some(key) => {
+            let (variable, member) = (key.variable, key.member);
+            let period = key.period.text(alloc)?;
+            Ok(format!(in alloc; "{variable} {member} {period}")?)
+        }
+    }
+}
+
+/// The text of the key `VARIABLE MEMBER PERIOD`.
+fn key(alloc: Global, rules: &RuleSet<'_>, words: &[String]) -> Result<String, Fault> {
+    let [variable, member, period, default, input] = words else {
+        return Err(Fault::Malformed);
+    };
+    let found = situation(alloc, rules, default.as_str(), input.as_str())?;
+    let key = key_of(rules, variable.as_str(), member.as_str(), period.as_str())?;
+    Ok(key_text(alloc, &rules.tables, &found, &key)?)
+}
+
+/// The text of a value of a variable: `true`, `false`, `member PLACE` or a number.
+fn value(alloc: Global, rules: &RuleSet<'_>, words: &[String]) -> Result<String, Fault> {
+    let [variable, rest @ ..] = words else {
+        return Err(Fault::Malformed);
+    };
+    let Some(variable) = rules.variable(variable.as_str()) else {
+        return Err(Fault::Malformed);
+    };
+    let value = said(rest)?;
+    Ok(value_text(alloc, &rules.tables, variable, value)?)
+}
+
+fn said(words: &[String]) -> Result<Value, Fault> {
+    match words {
+        [word] => match word.as_str() {
+            "true" => Ok(Value::Bool(true)),
+            "false" => Ok(Value::Bool(false)),
+            literal => Ok(Value::Number(Fraction::from_decimal(literal)?)),
+        },
+        [_, place] => Ok(Value::Member(number(place.as_str())?)),
+        _ => Err(Fault::Malformed),
+    }
+}
+
+/// The answer to a case of a file of `fisca calc`: the texts of its columns' keys.
+pub fn calc(
+    alloc: Global,
+    operation: &str,
+    files: &[SourceFile],
+    words: &[String],
+) -> Result<String, Fault> {
+    let rules = rules_of(alloc, files)?;
+    match words {
+        [text] if operation == "read" => file(alloc, &rules, text.as_str()),
+        _ => Err(Fault::Malformed),
+    }
+}
+
+fn file(alloc: Global, rules: &RuleSet<'_>, text: &str) -> Result<String, Fault> {
+    let tree = read(alloc, text)?;
+    let found = CalcFile::read(alloc, &rules.tables, &tree)?;
+    let mut shown = Written::new(alloc);
+    if found.columns.as_slice().is_empty() {
+        shown.push("no columns");
+    }
+    for (place, key) in found.columns.as_slice().iter().enumerate() {
+        if place != 0 {
+            shown.push("\n");
+        }
+        let text = key_text(alloc, &rules.tables, &found.situation, key)?;
+        shown.push(text.as_str());
+    }
+    Ok(shown.finish()?)
+}

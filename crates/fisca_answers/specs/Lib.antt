@@ -1,0 +1,5 @@
+pub mod Answers
+pub mod Chains
+pub mod Inquiry
+pub mod Keys
+pub mod Stacks

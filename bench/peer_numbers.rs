@@ -9,16 +9,16 @@ const TABLE: u64 = 1024;
 const LIMIT: u64 = i64::MAX as u64;
 
 #[derive(Clone, Copy, Debug, PartialEq, Eq)]
-enum NumFault {
+pub enum NumFault {
     TooWide,
     ZeroDivisor,
     NotANumber,
 }
 
 #[derive(Clone, Copy, Debug, PartialEq, Eq, Hash)]
-struct Fraction {
-    numerator: i64,
-    denominator: u64,
+pub struct Fraction {
+    pub numerator: i64,
+    pub denominator: u64,
 }
 
 /// The greatest common divisor, by halving and differences.
@@ -73,11 +73,11 @@ fn reduce(negative: bool, size: u128, denominator: u128) -> Result<Fraction, Num
 }
 
 impl Fraction {
-    fn new(numerator: i64, denominator: i64) -> Result<Fraction, NumFault> {
+    pub fn new(numerator: i64, denominator: i64) -> Result<Fraction, NumFault> {
         reduce((numerator < 0) != (denominator < 0), numerator.unsigned_abs() as u128, denominator.unsigned_abs() as u128)
     }
 
-    fn add(self, other: Fraction) -> Result<Fraction, NumFault> {
+    pub fn add(self, other: Fraction) -> Result<Fraction, NumFault> {
         if self.denominator == other.denominator {
             let sum = self.numerator as i128 + other.numerator as i128;
             if self.denominator == 1 {
@@ -103,7 +103,7 @@ impl Fraction {
         checked(sum < 0, size / divisor as u128, left as u128 * (other.denominator / divisor) as u128)
     }
 
-    fn mul(self, other: Fraction) -> Result<Fraction, NumFault> {
+    pub fn mul(self, other: Fraction) -> Result<Fraction, NumFault> {
         let negative = (self.numerator < 0) != (other.numerator < 0);
         let (a, c) = (self.numerator.unsigned_abs(), other.numerator.unsigned_abs());
         let (b, d) = (self.denominator, other.denominator);
@@ -153,7 +153,7 @@ impl Fraction {
         line.push_str(unsafe { std::str::from_utf8_unchecked(&buffer[start..]) });
     }
 
-    fn from_decimal(text: &str) -> Result<Fraction, NumFault> {
+    pub fn from_decimal(text: &str) -> Result<Fraction, NumFault> {
         let bytes = text.as_bytes();
         let negative = bytes.first() == Some(&b'-');
         let bytes = match bytes {

@@ -13,7 +13,7 @@ const LARGEST_SIZE: u32 = 1_200;
 const TOO_LARGE: u32 = 10_000;
 
 #[derive(Clone, Copy, Debug, PartialEq, Eq, PartialOrd, Ord, Hash)]
-enum Unit {
+pub enum Unit {
     Day,
     Month,
     Year,
@@ -21,7 +21,7 @@ enum Unit {
 }
 
 #[derive(Clone, Copy, Debug, PartialEq, Eq)]
-enum TimeFault {
+pub enum TimeFault {
     BadText,
     OutOfRange,
     NoSubperiods,
@@ -29,12 +29,12 @@ enum TimeFault {
 
 /// The unit above the start above the size.
 #[derive(Clone, Copy, Debug, PartialEq, Eq, PartialOrd, Ord, Hash)]
-struct Period {
+pub struct Period {
     key: u64,
 }
 
 #[derive(Clone, Copy)]
-struct Day {
+pub struct Day {
     year: u16,
     month: u8,
     day: u8,
@@ -181,7 +181,7 @@ impl Period {
         Period { key: (unit as u64) << 48 | u64::from(first) << 16 | u64::from(size) }
     }
 
-    fn unit(self) -> Unit {
+    pub fn unit(self) -> Unit {
         match self.key >> 48 {
             0 => Unit::Day,
             1 => Unit::Month,
@@ -198,7 +198,7 @@ impl Period {
         self.key as u16
     }
 
-    fn read(text: &str) -> Result<Period, TimeFault> {
+    pub fn read(text: &str) -> Result<Period, TimeFault> {
         if text == "ETERNITY" || text == "eternity" {
             return Ok(Period::ETERNITY);
         }
@@ -235,7 +235,7 @@ impl Period {
         }
     }
 
-    fn start(self) -> Option<Day> {
+    pub fn start(self) -> Option<Day> {
         match self.unit() {
             Unit::Day => Some(Day::of_number(self.first())),
             Unit::Month | Unit::Year => Some(Day::first_of(self.first())),
@@ -243,7 +243,7 @@ impl Period {
         }
     }
 
-    fn start_day(self) -> u32 {
+    pub fn start_day(self) -> u32 {
         match self.unit() {
             Unit::Day => self.first(),
             Unit::Month | Unit::Year => month_start(self.first()),
@@ -273,14 +273,14 @@ impl Period {
         u32::from(months_in(self.unit())) * u32::from(self.size())
     }
 
-    fn months(self) -> Option<u32> {
+    pub fn months(self) -> Option<u32> {
         match self.unit() {
             Unit::Day | Unit::Eternity => None,
             _ => Some(self.month_count()),
         }
     }
 
-    fn sub_count(self, unit: Unit) -> Result<u32, TimeFault> {
+    pub fn sub_count(self, unit: Unit) -> Result<u32, TimeFault> {
         match (unit, self.unit()) {
             (Unit::Day, Unit::Day | Unit::Month | Unit::Year) => Ok(self.stop_day() - self.start_day()),
             (Unit::Month, Unit::Month | Unit::Year) => Ok(self.month_count()),
@@ -289,7 +289,7 @@ impl Period {
         }
     }
 
-    fn sub(self, unit: Unit, i: u32) -> Period {
+    pub fn sub(self, unit: Unit, i: u32) -> Period {
         match unit {
             Unit::Day => Period::of(unit, self.start_day() + i, 1),
             Unit::Month => Period::of(unit, self.first() + i, 1),
@@ -366,8 +366,8 @@ fn month_start(month: u32) -> u32 {
 }
 
 /// The hasher of Rattle's maps.
-struct FoldHasher {
-    state: u64,
+pub struct FoldHasher {
+    pub state: u64,
 }
 
 fn folded_multiply(a: u64, b: u64) -> u64 {

@@ -7,6 +7,7 @@ mod numbers;
 mod params;
 mod periods;
 mod rules;
+mod situations;
 mod trees;
 mod yaml;
 
@@ -28,6 +29,7 @@ fn main(rt: HostRuntime) -> io::Result<()> {
             "params" => params::run(&rt, rt.alloc(), rest),
             "periods" => periods::run(&rt, rt.alloc(), rest),
             "rules" => rules::run(&rt, rt.alloc(), rest),
+            "situations" => situations::run(&rt, rt.alloc(), rest),
             "trees" => trees::run(&rt, rt.alloc(), rest),
             "yaml" => yaml::run(&rt, rt.alloc(), rest),
             _ => list(&rt),
@@ -44,6 +46,7 @@ fn list(rt: &impl Print) -> io::Result<()> {
     println!(rt; "params read|value_at|calc [whole|hundredths] COUNT")?;
     println!(rt; "periods read|text|offset|named|sub|compare|hash COUNT")?;
     println!(rt; "rules read|build NAME COUNT")?;
+    println!(rt; "situations read|input NAME COUNT")?;
     println!(rt; "trees FILE")?;
     println!(rt; "yaml NAME COUNT")
 }

@@ -31,7 +31,7 @@ pub fn run(
 }
 
 /// The modules among the files, as they stand there, or none where one cannot be read.
-fn modules<'a>(alloc: Global, files: &'a [SourceFile]) -> Vec<Module<'a>> {
+pub(crate) fn modules<'a>(alloc: Global, files: &'a [SourceFile]) -> Vec<Module<'a>> {
     let mut modules = Vec::new(alloc);
     for file in files {
         if file.path().ends_with(".py") {

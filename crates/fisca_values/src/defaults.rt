@@ -2,7 +2,7 @@
 
 ghost use Rattle.std.specs.Prelude.{◌≡◌};
 ghost use Rattle.fisca_inputs.specs.Seen.{value_seen};
-ghost use Rattle.fisca_meaning.specs.Questions as asking;
+ghost use Rattle.fisca_meaning.specs.Questions as spec;
 
 use fisca_inputs::Value;
 use fisca_num::Fraction;
@@ -10,7 +10,7 @@ use fisca_typing::{Asking, ValueType};
 
 /// What stands for a value of this type where nobody has one, as `default_of` has it: 0, `False` or the first member.
 pub fn default_of(value_type: ValueType) -> Value
-    ensures { value_seen result ≡ asking.default_of value_type }
+    ensures { value_seen result ≡ spec.default_of value_type }
 {
     match value_type {
         ValueType::Number => Value::Number(Fraction::zero()),
@@ -21,7 +21,7 @@ pub fn default_of(value_type: ValueType) -> Value
 
 /// The same of what is asked for, as `default_by` has it: sums and parts of a year's value are numbers.
 pub fn default_by(asking: Asking, value_type: ValueType) -> Value
-    ensures { value_seen result ≡ asking.default_by asking value_type }
+    ensures { value_seen result ≡ spec.default_by asking value_type }
 {
     match asking {
         Asking::Plain => default_of(value_type),

@@ -12,18 +12,26 @@ use fisca_num::Fraction;
 use fisca_params::{NodeId, NodeKind, ParamTree, ParamValue};
 use fisca_time::Instant;
 
+/// The value of a parameter, if it has one.
+fn value_or_fault(found: Option<ParamValue>) -> Result<Value, Fault>
+    ensures { ended result ≡ parameter_value found }
+{
+    let Some(value) = found else {
+        return Err(Fault::ParameterUndefined);
+    };
+    match value {
+        ParamValue::Number(number) => Ok(Value::Number(number)),
+        ParamValue::Bool(truth) => Ok(Value::Bool(truth)),
+    }
+}
+
 /// The value of the parameter at a place on a day, as `parameter_value` has it. `ParameterUndefined` where there is none.
 pub fn parameter_at(tree: &ParamTree, place: NodeId, day: Instant) -> Result<Value, Fault>
     ensures { ended result ≡ parameter_value (value_in (content_at tree.now place) day) }
 {
-    let found = match tree.kind(place) {
-        NodeKind::Number | NodeKind::Bool => tree.value_at(place, day),
-        NodeKind::Node | NodeKind::Unusable | NodeKind::Scale => None,
-    };
-    match found {
-        Some(ParamValue::Number(number)) => Ok(Value::Number(number)),
-        Some(ParamValue::Bool(truth)) => Ok(Value::Bool(truth)),
-        None => Err(Fault::ParameterUndefined),
+    match tree.kind(place) {
+        NodeKind::Number | NodeKind::Bool => value_or_fault(tree.value_at(place, day)),
+        NodeKind::Node | NodeKind::Unusable | NodeKind::Scale => Err(Fault::ParameterUndefined),
     }
 }
 

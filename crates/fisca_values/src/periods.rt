@@ -1,6 +1,6 @@
 //! Periods of a formula: moves, starts, parts.
 
-ghost use Rattle.std.specs.Prelude.{◌≡◌, ◌+◌, ℕ, [], ◌∷◌, drop, MatchOption};
+ghost use Rattle.std.specs.Prelude.{◌≡◌, ◌+◌, ◌<◌, ◌^◌, ℕ, [], ◌∷◌, drop, MatchOption};
 ghost use Rattle.fisca_meaning.specs.Dialogues.{Dialogue};
 ghost use Rattle.fisca_meaning.specs.Questions as asking;
 ghost use Rattle.fisca_time.specs.Instant.{CivilDate};
@@ -65,10 +65,11 @@ pub fn part_of(part: DatePart, day: Instant) -> u16
 }
 
 /// The number of what is counted, as `counted` has it.
-pub fn counted(count: u32) -> Result<Value, Fault>
+pub fn counted(count: usize) -> Result<Value, Fault>
+    requires { count < 2 ^ 63 }
     ensures { ended result ≡ asking.counted count }
 {
-    whole(i64::from(count))
+    whole(count as i64)
 }
 
 /// The period that the key of a variable has that is asked for at a period, as `key_period` has it: of an eternal variable the eternal one.
@@ -89,6 +90,7 @@ pub fn has_no_parts(unit: Unit, period: Period) -> bool
 }
 
 /// The part of a period by a unit at a place in order of time; none behind the last.
+#[tactic(auto, using(crate::proofs::Next::next_item))]
 pub fn next_part(unit: Unit, period: Period, next: u32) -> Option<Period>
     ensures { MatchOption result (drop next (subs period unit) ≡ []) (λ part. drop next (subs period unit) ≡ part ∷ drop (next + 1) (subs period unit)) }
 {

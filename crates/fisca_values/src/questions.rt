@@ -5,6 +5,7 @@ ghost use Rattle.fisca_inputs.specs.Seen.{value_seen};
 ghost use Rattle.fisca_meaning.specs.Dialogues.{gives};
 ghost use Rattle.fisca_meaning.specs.Questions.{ask_part, ask_plain};
 ghost use Rattle.fisca_meaning.specs.Questions as asking;
+ghost use Rattle.fisca_num.specs.Operations.{quotient_of};
 ghost use Rattle.fisca_values.specs.Ended.{IsMoving, asked, ended};
 ghost use Rattle.fisca_values.specs.Parts as spec;
 
@@ -13,7 +14,7 @@ use crate::numbers::computed;
 use crate::operands::number_of;
 use crate::periods::key_period;
 use fisca_inputs::{Key, Value, fits};
-use fisca_num::Fraction;
+use fisca_num::{Fraction, NumFault};
 use fisca_time::{Period, Unit};
 
 /// What falls to a period of a year's value.
@@ -100,11 +101,13 @@ pub fn year_part(
     }
 }
 
-/// The number 12.
-fn twelve() -> Fraction
-    ensures { result ≡ asking.twelve }
+/// A twelfth. `TooWide` where a part of it is beyond the limits.
+#[tactic(auto, using(crate::proofs::WholeNumbers::twelve_over))]
+fn twelfth(number: Fraction) -> Result<Fraction, NumFault>
+    ensures { result ≡ quotient_of number asking.twelve }
 {
-    Fraction::new(12, 1).unwrap_or(Fraction::ONE)
+    let twelve = Fraction::new(12, 1)?;
+    number.div(twelve)
 }
 
 /// What falls to a period of a year's value, as `shared` has it. `TooWide` where a part of the twelfth is beyond the limits.
@@ -114,7 +117,7 @@ pub fn share_of(share: Share, value: Value) -> Result<Value, Fault>
 {
     let number = number_of(value);
     match share {
-        Share::Twelfth => computed(number.div(twelve())),
+        Share::Twelfth => computed(twelfth(number)),
         Share::Whole => Ok(Value::Number(number)),
     }
 }

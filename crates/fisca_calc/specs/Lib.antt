@@ -1,4 +1,5 @@
 pub mod Calc
 pub mod Faults
+pub mod Lines
 pub mod Outcomes
 pub mod Views

@@ -1,11 +1,15 @@
 //! Files that say what is worked out of a situation.
 #![tactic(auto)]
 
+mod answers;
 mod calc_file;
 mod columns;
 mod fault;
 mod keys;
+mod lines;
 
+pub use answers::Answers;
 pub use calc_file::CalcFile;
 pub use columns::Columns;
 pub use fault::{RunFileFault, RunFileKind};
+pub use lines::write_columns;

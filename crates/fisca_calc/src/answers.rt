@@ -1,0 +1,41 @@
+//! What answers the values of keys.
+
+use fisca_grid::RowFault;
+use fisca_inputs::{Key, Value};
+use fisca_situations::Situation;
+
+/// What answers the values of keys in a situation.
+///
+/// To answer may change what is remembered, but never what a key's answer is.
+pub trait Answers {
+    ghost use Rattle.std.specs.Prelude.{◌≡◌, List, Bool, Result, IsTrue};
+    ghost use Rattle.fisca_calc.specs.Lines.{IsAnswer};
+    ghost use Rattle.fisca_inputs.specs.declared.given.Value.{Value};
+    ghost use Rattle.fisca_inputs.specs.declared.key.Key.{Key};
+    ghost use Rattle.fisca_members.specs.declared.entity_members.EntityMembers.{EntityMembers};
+    ghost use Rattle.fisca_situations.specs.Views.{situation as situation_view};
+
+    /// The type of the faults of keys.
+    type Fault;
+
+    // the keys that can be asked for
+    ghost knows: { Self → Key → Bool };
+
+    // the value of a key, or why it has none
+    ghost answer: { Self → Key → Result Value Self.Fault };
+
+    // the members of each entity
+    ghost members: { Self → List EntityMembers };
+
+    /// The value of a key. `Eval` where it has none, and `Memory` only where memory was refused.
+    fn value(&mut self, key: Key) -> Result<Value, RowFault<Self::Fault>>
+        requires known { IsTrue (knows self.old key) }
+        ensures answered { IsAnswer (answer self.old key) result }
+        ensures same_keys { knows self.new ≡ knows self.old }
+        ensures same_answers { answer self.new ≡ answer self.old }
+        ensures same_members { members self.new ≡ members self.old };
+
+    /// The situation.
+    fn situation(&self) -> &Situation
+        ensures { (situation_view result.now).members ≡ members self.now };
+}

@@ -1,0 +1,143 @@
+//! The lines of columns.
+
+ghost use Rattle.std.specs.Prelude.{◌≡◌, ◌++◌, IsTrue, None, length, OnOk, string_bytes};
+ghost use Rattle.std.specs.List.{list_all};
+ghost use Rattle.fisca_calc.specs.Lines.{column_row, line_of};
+ghost use Rattle.fisca_grid.specs.Run.{IsRun, is_write};
+ghost use Rattle.fisca_grid.specs.Sink.{CountsFailure};
+ghost use Rattle.fisca_situations.specs.Views.{situation as situation_view};
+ghost use Rattle.fisca_tables.specs.Known.{tables as known};
+
+use crate::answers::Answers;
+use fisca_columns::{write_key, write_value};
+use fisca_grid::{RowFault, RowSink, Rows, RunEnd, RunFault, Selection, write_lines};
+use fisca_inputs::{Key, Value};
+use fisca_situations::Situation;
+use fisca_tables::Tables;
+use std::alloc::{AllocError, Global};
+use std::marker::{Brand, PhantomData};
+
+/// The members that stay the same while columns are worked out.
+trait Names {
+    ghost use Rattle.std.specs.Prelude.{List};
+    ghost use Rattle.fisca_members.specs.declared.entity_members.EntityMembers.{EntityMembers};
+
+    ghost members: { List EntityMembers };
+}
+
+impl Names for Brand {
+    ghost use Rattle.std.specs.Prelude.{[]};
+
+    ghost members = { [] };
+}
+
+/// Columns as rows: each has a line.
+#[derive(Drop)]
+struct ColumnRows<'a, A: Answers + Drop, N: Names> {
+    alloc: Global,
+    tables: &'a Tables<'a>,
+    columns: &'a [Key],
+    answers: A,
+    of: PhantomData<N>,
+    ghost known: { IsTrue (list_all (A.knows answers) columns.now) },
+    ghost same_members: { A.members answers ≡ N.members },
+}
+
+/// Appends the line of a key's value: the variable, the member's name, the period and the value with tabs between them, and a line feed.
+fn write_line(
+    alloc: Global,
+    tables: &Tables<'_>,
+    situation: &Situation,
+    key: &Key,
+    value: Value,
+    line: &mut String,
+) -> Result<(), AllocError>
+    ensures { OnOk result (string_bytes line.new ≡ string_bytes line.old ++ line_of (known tables.now) (situation_view situation.now).members key.now value) }
+{
+    write_key(alloc, tables, situation, key, "\t", line)?;
+    line.push('\t')?;
+    write_value(alloc, tables, key.variable, value, line)?;
+    line.push('\n')
+}
+
+impl<'a, A: Answers + Drop, N: Names> Rows for ColumnRows<'a, A, N> {
+    ghost use Rattle.std.specs.Prelude.{length};
+    ghost use Rattle.fisca_calc.specs.Lines.{column_row};
+    ghost use Rattle.fisca_tables.specs.Known.{tables as known};
+
+    type Fault = A::Fault;
+
+    ghost row_at = { λ r. column_row (known r.tables.now) (A.members r.answers) (A.answer r.answers) r.columns.now };
+
+    ghost size = { λ r. length r.columns.now };
+
+    fn size(&self) -> u64 {
+        self.columns.len() as u64
+    }
+
+    fn work_out(
+        &mut self,
+        position: u64,
+        line: &mut String,
+    ) -> Result<Selection, RowFault<A::Fault>> {
+        let key = self.columns[position as usize];
+        match self.answers.value(key) {
+            Ok(value) => {
+                let situation = self.answers.situation();
+                match write_line(self.alloc, self.tables, situation, &key, value, line) {
+                    Ok(()) => Ok(Selection::Kept),
+                    Err(_) => Err(RowFault::Memory),
+                }
+            }
+            Err(fault) => Err(fault),
+        }
+    }
+}
+
+/// Writes the lines of columns, where the members are these.
+fn write_rows<'a, A: Answers + Drop, N: Names, S: RowSink>(
+    alloc: Global,
+    tables: &'a Tables<'a>,
+    columns: &'a [Key],
+    answers: A,
+    sink: &mut S,
+) -> (A, Result<RunEnd, RunFault<A::Fault>>)
+    requires known { IsTrue (list_all (A.knows answers) columns.now) }
+    requires same_members { A.members answers ≡ N.members }
+    ensures run { IsRun (column_row (known tables.now) (A.members answers) (A.answer answers) columns.now) (length columns.now) 0 None (S.taken sink.old) (S.taken sink.new) result.1 }
+    ensures failures { CountsFailure (is_write result.1) (S.failures sink.old) (S.failures sink.new) }
+    ensures members { A.members result.0 ≡ N.members }
+{
+    let mut rows = ColumnRows::<'a, A, N> {
+        alloc,
+        tables,
+        columns,
+        answers,
+        of: PhantomData,
+    };
+    let end = write_lines(alloc, &mut rows, 0, None, sink);
+    (rows.answers, end)
+}
+
+/// Writes the lines of columns into a sink, one for each in order: `VARIABLE<TAB>MEMBER<TAB>PERIOD<TAB>VALUE`. Each line is worked out whole before any of
+/// it is handed over. What answers the values is given back, with the members that it had.
+///
+/// - `Eval` exactly where a column has no value: the first such column, behind the lines of those before it.
+/// - `Write` only where the sink failed in this call: it has the lines before the column that is named, and a proper beginning of the line there.
+/// - `Memory` only where memory was refused, at the column that is named: the sink has the lines before it.
+///
+/// This project's own rule.
+pub fn write_columns<'a, A: Answers + Drop, S: RowSink>(
+    alloc: Global,
+    tables: &'a Tables<'a>,
+    columns: &'a [Key],
+    answers: A,
+    sink: &mut S,
+) -> (A, Result<RunEnd, RunFault<A::Fault>>)
+    requires { IsTrue (list_all (A.knows answers) columns.now) }
+    ensures run { IsRun (column_row (known tables.now) (A.members answers) (A.answer answers) columns.now) (length columns.now) 0 None (S.taken sink.old) (S.taken sink.new) result.1 }
+    ensures failures { CountsFailure (is_write result.1) (S.failures sink.old) (S.failures sink.new) }
+    ensures members { A.members result.0 ≡ A.members answers }
+{
+    write_rows::<A, Brand, S>(alloc, tables, columns, answers, sink)
+}

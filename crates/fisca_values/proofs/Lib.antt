@@ -1,3 +1,4 @@
 mod Next
 mod Roles
 mod WholeNumbers
+mod Worked

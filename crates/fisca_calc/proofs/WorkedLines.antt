@@ -1,0 +1,56 @@
+-- The definition of the lines of columns, worked out on small ones.
+use Rattle.std.proofs.Common.{◌≡◌, ℕ, ◌*◌, List, [], ◌∷◌, ◌++◌, codes, refl}
+use Rattle.std.specs.Prelude.{true, false, Option, Some, None, Result, Ok, Err, if◌then◌else◌, ◌==◌}
+use Rattle.fisca_grid.specs.Row.{Row, Nothing, Line, Fault}
+use Rattle.fisca_inputs.specs.Entries.{key}
+use Rattle.fisca_inputs.specs.declared.given.Value.{Value}
+use Rattle.fisca_inputs.specs.declared.given.Value.TheVariants as v
+use Rattle.fisca_inputs.specs.declared.key.Key.{Key}
+use Rattle.fisca_members.specs.declared.entity_members.EntityMembers.{EntityMembers}
+use Rattle.fisca_time.specs.Period.{Span, months}
+use Rattle.fisca_time.specs.declared.unit.Unit.TheVariants as unit
+use Rattle.fisca_typing.specs.Tables.{Tables, Variable}
+use Rattle.fisca_typing.specs.declared.kinds.ValueType.{ValueType}
+use Rattle.fisca_typing.specs.declared.kinds.ValueType.TheVariants as type
+use Rattle.fisca_calc.specs.Lines.{column_row}
+
+-- two persons, a bool and an Enum
+
+abbrev variable : List ℕ → ValueType → Variable
+variable name t = record { name = name; entity = 0; value_type = Some t; definition_period = unit.Year }
+
+abbrev country : Tables
+country = record {
+  entities = [];
+  enums = record { name = codes "Occupancy"; members = codes "tenant" ∷ codes "owner" ∷ [] } ∷ [];
+  variables = variable (codes "owns") type.Bool ∷ variable (codes "occupancy") (type.Enum 0) ∷ [];
+  nodes = [];
+}
+
+abbrev persons : List EntityMembers
+persons = record { names = codes "Ann" ∷ codes "Bob" ∷ []; homes = [] } ∷ []
+
+abbrev year : Span
+year = months unit.Year (12 * 2017) 1
+
+-- the first variable is true, and the second is the second member for Ann alone
+abbrev answer : Key → Result Value ℕ
+answer k = if k.variable == 0 then Ok (v.Bool true) else if k.member == 0 then Ok (v.Member 1) else Err 7
+
+abbrev columns : List Key
+columns = key 0 1 year ∷ key 1 0 year ∷ key 1 1 year ∷ []
+
+abbrev row : ℕ → Row ℕ
+row = column_row country persons answer columns
+
+a_bool : row 0 ≡ Line (codes "owns\tBob\t2017\ttrue\n")
+a_bool = refl
+
+a_member : row 1 ≡ Line (codes "occupancy\tAnn\t2017\towner\n")
+a_member = refl
+
+no_value : row 2 ≡ Fault 7
+no_value = refl
+
+no_column : row 3 ≡ Nothing
+no_column = refl

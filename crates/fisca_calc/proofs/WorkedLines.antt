@@ -1,6 +1,7 @@
 -- The definition of the lines of columns, worked out on small ones.
 use Rattle.std.proofs.Common.{◌≡◌, ℕ, ◌*◌, List, [], ◌∷◌, ◌++◌, codes, refl}
 use Rattle.std.specs.Prelude.{true, false, Option, Some, None, Result, Ok, Err, if◌then◌else◌, ◌==◌}
+use Rattle.fisca_columns.specs.Shown.{shown}
 use Rattle.fisca_grid.specs.Row.{Row, Nothing, Line, Fault}
 use Rattle.fisca_inputs.specs.Entries.{key}
 use Rattle.fisca_inputs.specs.declared.given.Value.{Value}
@@ -8,6 +9,7 @@ use Rattle.fisca_inputs.specs.declared.given.Value.TheVariants as v
 use Rattle.fisca_inputs.specs.declared.key.Key.{Key}
 use Rattle.fisca_members.specs.declared.entity_members.EntityMembers.{EntityMembers}
 use Rattle.fisca_time.specs.Period.{Span, months}
+use Rattle.fisca_time.specs.PeriodText.{text_of as period_text}
 use Rattle.fisca_time.specs.declared.unit.Unit.TheVariants as unit
 use Rattle.fisca_typing.specs.Tables.{Tables, Variable}
 use Rattle.fisca_typing.specs.declared.kinds.ValueType.{ValueType}
@@ -43,10 +45,10 @@ columns = key 0 1 year ∷ key 1 0 year ∷ key 1 1 year ∷ []
 abbrev row : ℕ → Row ℕ
 row = column_row country persons answer columns
 
-a_bool : row 0 ≡ Line (codes "owns\tBob\t2017\ttrue\n")
+a_bool : row 0 ≡ Line (((shown (codes "owns") ++ codes "\t") ++ ((shown (codes "Bob") ++ codes "\t") ++ period_text year)) ++ codes "\ttrue\n")
 a_bool = refl
 
-a_member : row 1 ≡ Line (codes "occupancy\tAnn\t2017\towner\n")
+a_member : row 1 ≡ Line (((shown (codes "occupancy") ++ codes "\t") ++ ((shown (codes "Ann") ++ codes "\t") ++ period_text year)) ++ (codes "\t" ++ (shown (codes "owner") ++ codes "\n")))
 a_member = refl
 
 no_value : row 2 ≡ Fault 7

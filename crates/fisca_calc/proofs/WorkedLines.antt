@@ -1,6 +1,6 @@
 -- The definition of the lines of columns, worked out on small ones.
 use Rattle.std.proofs.Common.{◌≡◌, ℕ, ◌*◌, List, [], ◌∷◌, ◌++◌, codes, refl}
-use Rattle.std.specs.Prelude.{true, false, Option, Some, None, Result, Ok, Err, if◌then◌else◌, ◌==◌}
+use Rattle.std.specs.Prelude.{true, Some, Result, Ok, Err, if◌then◌else◌, ◌==◌}
 use Rattle.fisca_columns.specs.Shown.{shown}
 use Rattle.fisca_grid.specs.Row.{Row, Nothing, Line, Fault}
 use Rattle.fisca_inputs.specs.Entries.{key}

@@ -90,7 +90,7 @@ module _ (c : Tables) where
 
         by : (b : Bool)
             → (if b then (if int_eq n.numerator (pos 0) then Ok es else Err (at_line line InconsistentInput))
-              else and_then (share_of line n count) (λ share. put_all line (v.Number share) parts es)) ≡ Ok after
+            else and_then (share_of line n count) (λ share. put_all line (v.Number share) parts es)) ≡ Ok after
             → EntriesTyped c after
         by true e = nothing (int_eq n.numerator (pos 0)) e
         by false e =
@@ -127,7 +127,7 @@ module _ (c : Tables) where
 
       by : (b : Bool)
           → (if b then alone g.line (own_key r g) g.value es
-            else (if is_longer r.unit g.period then over_parts r.set_input g (parts_of r g) es else Err (at_line g.line PeriodMismatch))) ≡ Ok after
+          else (if is_longer r.unit g.period then over_parts r.set_input g (parts_of r g) es else Err (at_line g.line PeriodMismatch))) ≡ Ok after
           → EntriesTyped c after
       by true e = alone_typed g.line (own_key r g) g.value es after t all e
       by false e = over (is_longer r.unit g.period) e

@@ -1,18 +1,17 @@
 -- In an accepted rule set each default is of its variable's type, and days and texts have no formulas.
-use Rattle.std.proofs.Common.{arith, ◌≡◌, ◌∙◌, ap, sym, subst, ℕ, zero, suc, ◌+◌, ◌<◌, List, [], ◌∷◌, ◌++◌, map, length, Bool, true, false, refl}
-use Rattle.std.specs.Prelude.{⊤, ◌==◌, nat_lt, if◌then◌else◌, slice_get, Option, Some, None, option_map, Result, Ok, Err, codes}
+use Rattle.std.proofs.Common.{arith, ◌≡◌, ◌∙◌, ap, sym, subst, ℕ, zero, suc, ◌<◌, List, [], ◌∷◌, ◌++◌, map, length, Bool, true, false, refl}
+use Rattle.std.specs.Prelude.{nat_lt, if◌then◌else◌, slice_get, Option, Some, None, option_map, Result, Ok, Err, codes}
 use Rattle.std.specs.Str.{bytes_eq}
 use Rattle.std.proofs.lemmas.Bool.{lt-ltb}
 use Rattle.std.proofs.lemmas.List.{length-map}
 use Rattle.fisca_attributes.specs.AttributeForms.{value_at, type_value, period_value}
-use Rattle.fisca_attributes.specs.Values.{bad_attribute, needed, or_bad, number_value, truth_value, text_value, date_value, dotted_value}
+use Rattle.fisca_attributes.specs.Values.{needed, or_bad, number_value, truth_value, text_value, date_value, dotted_value}
 use Rattle.fisca_attributes.specs.declared.attributes.TypeName.{TypeName}
 use Rattle.fisca_attributes.specs.declared.attributes.TypeName.TheVariants as named
 use Rattle.fisca_attributes.specs.declared.dotted.Dotted.{Dotted}
 use Rattle.fisca_classes.specs.Build.{Found, Whole, enums_in, declared_in, found_from, statement_found, second_pass, variable_in, items_fit, with_person, none_yet, tables_of}
 use Rattle.fisca_expressions.specs.Tree.{Tree}
 use Rattle.fisca_expressions.specs.Words.{is}
-use Rattle.fisca_names.specs.declared.fault.BuildFault.{BuildFault}
 use Rattle.fisca_names.specs.Names.{Placed, placed_from, names_from, told_at}
 use Rattle.fisca_num.specs.Number.{Number}
 use Rattle.fisca_params.specs.Results.{and_then}

@@ -1,5 +1,5 @@
 -- Places of variables by their names.
-use Rattle.std.proofs.Common.{◌≡◌, ℕ, ◌+◌, suc, List, [], ◌∷◌, map, Bool, true, false, cond, Option, Some, None, option_map, refl, ap, add-one}
+use Rattle.std.proofs.Common.{◌≡◌, ℕ, ◌+◌, suc, List, [], ◌∷◌, map, Bool, true, false, cond, Some, option_map, refl, ap, add-one}
 use Rattle.std.specs.List.{position_from}
 use Rattle.std.specs.Str.{bytes_eq}
 use Rattle.fisca_typing.specs.Tables.{first_where}

@@ -1,0 +1,208 @@
+//! Parameters and scales.
+
+ghost use Rattle.std.specs.Prelude.{◌≡◌, ◌∷◌, ◌<◌, ◌+◌, ◌*◌, MatchOption, ⊤, IfOk, IfErr, OnOk, drop};
+ghost use Rattle.fisca_inputs.specs.Seen.{value_seen};
+ghost use Rattle.fisca_meaning.specs.Dialogues.{◌>>=◌};
+ghost use Rattle.fisca_meaning.specs.Meaning.{scale_value};
+ghost use Rattle.fisca_meaning.specs.Questions.{at_start};
+ghost use Rattle.fisca_params.specs.Lookup.{sum_in};
+ghost use Rattle.fisca_params.specs.Tree.{content_at};
+ghost use Rattle.fisca_values.specs.Ended.{IsMoving};
+ghost use Rattle.fisca_machine.specs.Running.{rest, waiting, resume, Told, saying, choosing, chosen_parameter, scale_by, top};
+ghost use Rattle.fisca_machine.specs.Weights.{load, stack_weight, weighing, indices_weighing};
+ghost use Rattle.fisca_machine.specs.World.{tables};
+
+use crate::found::index_at;
+use crate::machine::{Control, Machine, Step};
+use crate::pending::{At, Kept, Pending};
+use crate::world::World;
+use fisca_inputs::Value;
+use fisca_nodes::{Parameter, ScaleSum};
+use fisca_num::Fraction;
+use fisca_time::Instant;
+use fisca_values::{Fault, moved_all, parameter_at, scale_sum_at};
+
+/// Which parameter is chosen by one member more; none where the place has no number.
+fn chosen_behind(chosen: usize, size: usize, member: usize) -> Option<usize>
+    ensures { MatchOption result ⊤ (λ i. i ≡ chosen * size + member) }
+{
+    chosen.checked_mul(size)?.checked_add(member)
+}
+
+impl<'a> Machine<'a> {
+    /// The parameter that was chosen.
+    pub(crate) fn chosen(
+        &mut self,
+        world: &World<'_, '_, '_>,
+        x: &'a Parameter,
+        chosen: usize,
+        day: Instant,
+    ) -> Result<Control<'a>, Step>
+        requires moving { IsMoving (chosen_parameter (tables world.now) x.now.places.items day chosen >>= rest world.now self.old) }
+        ensures same { IfOk result (λ k. resume world.now self.new k ≡ (chosen_parameter (tables world.now) x.now.places.items day chosen >>= rest world.now self.old)) }
+        ensures waits { OnOk result (waiting world.now self.new ≡ waiting world.now self.old) }
+        ensures lighter { IfOk result (λ k. load world.now self.new k < 1 + stack_weight world.now self.old.locals.now self.old.frame self.old.stack self.old.kept) }
+        ensures stop { IfErr result (λ s. Told s (chosen_parameter (tables world.now) x.now.places.items day chosen >>= rest world.now self.old) (rest world.now self.new) (waiting world.now self.old) (waiting world.now self.new)) }
+    {
+        match x.places.as_slice().get(chosen) {
+            None => unreachable!(),
+            Some(place) => match parameter_at(&world.tables.parameters, *place, day) {
+                Ok(value) => {
+                    self.value = value;
+                    Ok(Control::Give)
+                }
+                Err(fault) => Err(Step::Failed(fault)),
+            },
+        }
+    }
+
+    /// Goes on with the members that choose, from a place on.
+    pub(crate) fn index(
+        &mut self,
+        world: &World<'_, '_, '_>,
+        x: &'a Parameter,
+        next: usize,
+        chosen: usize,
+        day: Instant,
+        at: At,
+    ) -> Result<Control<'a>, Step>
+        requires moving { IsMoving (choosing world.now self.old.locals.now self.old.frame (drop next x.now.indices.items) chosen at (λ j. chosen_parameter (tables world.now) x.now.places.items day j >>= rest world.now self.old)) }
+        ensures same { IfOk result (λ k. resume world.now self.new k ≡ (choosing world.now self.old.locals.now self.old.frame (drop next x.now.indices.items) chosen at (λ j. chosen_parameter (tables world.now) x.now.places.items day j >>= rest world.now self.old))) }
+        ensures waits { OnOk result (waiting world.now self.new ≡ waiting world.now self.old) }
+        ensures lighter { IfOk result (λ k. load world.now self.new k < indices_weighing world.now self.old.locals.now self.old.frame (drop next x.now.indices.items) at + stack_weight world.now self.old.locals.now self.old.frame self.old.stack self.old.kept) }
+        ensures stop { IfErr result (λ s. Told s (choosing world.now self.old.locals.now self.old.frame (drop next x.now.indices.items) chosen at (λ j. chosen_parameter (tables world.now) x.now.places.items day j >>= rest world.now self.old)) (rest world.now self.new) (waiting world.now self.old) (waiting world.now self.new)) }
+    {
+        match index_at(x.indices.as_slice(), next) {
+            None => self.chosen(world, x, chosen, day),
+            Some((index, _)) => {
+                self.put(Pending::Index(x, next, chosen, at))?;
+                self.keep(Kept::Day(day))?;
+                Ok(Control::Eval(&index.member, at))
+            }
+        }
+    }
+
+    /// A member that chooses.
+    pub(crate) fn indexed(
+        &mut self,
+        world: &World<'_, '_, '_>,
+        x: &'a Parameter,
+        next: usize,
+        chosen: usize,
+        at: At,
+        value: Value,
+    ) -> Result<Control<'a>, Step>
+        requires moving { IsMoving (top world.now self.old.locals.now self.old.frame (Pending.Index x.entry next chosen at ∷ self.old.stack) self.old.kept (value_seen value)) }
+        ensures same { IfOk result (λ k. resume world.now self.new k ≡ (top world.now self.old.locals.now self.old.frame (Pending.Index x.entry next chosen at ∷ self.old.stack) self.old.kept (value_seen value))) }
+        ensures waits { OnOk result (waiting world.now self.new ≡ waiting world.now self.old) }
+        ensures lighter { IfOk result (λ k. load world.now self.new k < stack_weight world.now self.old.locals.now self.old.frame (Pending.Index x.entry next chosen at ∷ self.old.stack) self.old.kept) }
+        ensures stop { IfErr result (λ s. Told s (top world.now self.old.locals.now self.old.frame (Pending.Index x.entry next chosen at ∷ self.old.stack) self.old.kept (value_seen value)) (rest world.now self.new) (waiting world.now self.old) (waiting world.now self.new)) }
+    {
+        match self.kept.pop() {
+            Some(Kept::Day(day)) => match value {
+                Value::Member(member) => match index_at(x.indices.as_slice(), next) {
+                    None => unreachable!(),
+                    Some((index, after)) => match chosen_behind(chosen, index.size, member) {
+                        None => Err(Step::Memory),
+                        Some(chosen) => self.index(world, x, after, chosen, day, at),
+                    },
+                },
+                Value::Number(_) | Value::Bool(_) => unreachable!(),
+            },
+            None | Some(Kept::Value(_)) | Some(Kept::Sum(_, _)) | Some(Kept::Frame(_)) => unreachable!(),
+        }
+    }
+
+    /// Begins with a parameter. `PeriodOutOfRange` where a move leaves the calendar, and of eternity.
+    pub(crate) fn parameter(
+        &mut self,
+        world: &World<'_, '_, '_>,
+        x: &'a Parameter,
+        at: At,
+    ) -> Result<Control<'a>, Step>
+        requires moving { IsMoving (at_start x.now.moves.items self.old.frame.period (λ day. choosing world.now self.old.locals.now self.old.frame x.now.indices.items 0 at (λ j. chosen_parameter (tables world.now) x.now.places.items day j >>= rest world.now self.old))) }
+        ensures same { IfOk result (λ k. resume world.now self.new k ≡ (at_start x.now.moves.items self.old.frame.period (λ day. choosing world.now self.old.locals.now self.old.frame x.now.indices.items 0 at (λ j. chosen_parameter (tables world.now) x.now.places.items day j >>= rest world.now self.old)))) }
+        ensures waits { OnOk result (waiting world.now self.new ≡ waiting world.now self.old) }
+        ensures lighter { IfOk result (λ k. load world.now self.new k < 1 + (indices_weighing world.now self.old.locals.now self.old.frame x.now.indices.items at + stack_weight world.now self.old.locals.now self.old.frame self.old.stack self.old.kept)) }
+        ensures stop { IfErr result (λ s. Told s (at_start x.now.moves.items self.old.frame.period (λ day. choosing world.now self.old.locals.now self.old.frame x.now.indices.items 0 at (λ j. chosen_parameter (tables world.now) x.now.places.items day j >>= rest world.now self.old))) (rest world.now self.new) (waiting world.now self.old) (waiting world.now self.new)) }
+    {
+        match moved_all(x.moves.as_slice(), self.frame.period) {
+            Err(_) => Err(Step::Failed(Fault::PeriodOutOfRange)),
+            Ok(here) => match here.start() {
+                None => Err(Step::Failed(Fault::PeriodOutOfRange)),
+                Some(day) => self.index(world, x, 0, 0, day, at),
+            },
+        }
+    }
+
+    /// Begins with the base of a scale. `PeriodOutOfRange` where a move leaves the calendar, and of eternity.
+    pub(crate) fn scale(
+        &mut self,
+        world: &World<'_, '_, '_>,
+        x: &'a ScaleSum,
+        at: At,
+    ) -> Result<Control<'a>, Step>
+        ensures same { IfOk result (λ k. resume world.now self.new k ≡ (at_start x.now.moves.items self.old.frame.period (λ day. saying world.now self.old.locals.now self.old.frame x.now.base at (λ v. scale_by (tables world.now) x.now.place day v >>= rest world.now self.old)))) }
+        ensures waits { OnOk result (waiting world.now self.new ≡ waiting world.now self.old) }
+        ensures lighter { IfOk result (λ k. load world.now self.new k < weighing world.now self.old.locals.now self.old.frame x.now.base at + 2 + stack_weight world.now self.old.locals.now self.old.frame self.old.stack self.old.kept) }
+        ensures stop { IfErr result (λ s. Told s (at_start x.now.moves.items self.old.frame.period (λ day. saying world.now self.old.locals.now self.old.frame x.now.base at (λ v. scale_by (tables world.now) x.now.place day v >>= rest world.now self.old))) (rest world.now self.new) (waiting world.now self.old) (waiting world.now self.new)) }
+    {
+        match moved_all(x.moves.as_slice(), self.frame.period) {
+            Err(_) => Err(Step::Failed(Fault::PeriodOutOfRange)),
+            Ok(here) => match here.start() {
+                None => Err(Step::Failed(Fault::PeriodOutOfRange)),
+                Some(day) => {
+                    self.put(Pending::Scale(x))?;
+                    self.keep(Kept::Day(day))?;
+                    Ok(Control::Eval(&x.base, at))
+                }
+            },
+        }
+    }
+
+    /// The sum of a scale for a number.
+    pub(crate) fn scaled_number(
+        &mut self,
+        world: &World<'_, '_, '_>,
+        x: &'a ScaleSum,
+        day: Instant,
+        number: Fraction,
+    ) -> Result<Control<'a>, Step>
+        ensures same { IfOk result (λ k. resume world.now self.new k ≡ (scale_value (sum_in (content_at (tables world.now).nodes x.now.place) day number) >>= rest world.now self.old)) }
+        ensures waits { OnOk result (waiting world.now self.new ≡ waiting world.now self.old) }
+        ensures lighter { IfOk result (λ k. load world.now self.new k < 1 + stack_weight world.now self.old.locals.now self.old.frame self.old.stack self.old.kept) }
+        ensures stop { IfErr result (λ s. Told s (scale_value (sum_in (content_at (tables world.now).nodes x.now.place) day number) >>= rest world.now self.old) (rest world.now self.new) (waiting world.now self.old) (waiting world.now self.new)) }
+    {
+        match scale_sum_at(&world.tables.parameters, x.place, day, number) {
+            Ok(value) => {
+                self.value = value;
+                Ok(Control::Give)
+            }
+            Err(fault) => Err(Step::Failed(fault)),
+        }
+    }
+
+    /// The base of a scale.
+    pub(crate) fn scaled(
+        &mut self,
+        world: &World<'_, '_, '_>,
+        x: &'a ScaleSum,
+        value: Value,
+    ) -> Result<Control<'a>, Step>
+        requires moving { IsMoving (top world.now self.old.locals.now self.old.frame (Pending.Scale x.entry ∷ self.old.stack) self.old.kept (value_seen value)) }
+        ensures same { IfOk result (λ k. resume world.now self.new k ≡ (top world.now self.old.locals.now self.old.frame (Pending.Scale x.entry ∷ self.old.stack) self.old.kept (value_seen value))) }
+        ensures waits { OnOk result (waiting world.now self.new ≡ waiting world.now self.old) }
+        ensures lighter { IfOk result (λ k. load world.now self.new k < stack_weight world.now self.old.locals.now self.old.frame (Pending.Scale x.entry ∷ self.old.stack) self.old.kept) }
+        ensures stop { IfErr result (λ s. Told s (top world.now self.old.locals.now self.old.frame (Pending.Scale x.entry ∷ self.old.stack) self.old.kept (value_seen value)) (rest world.now self.new) (waiting world.now self.old) (waiting world.now self.new)) }
+    {
+        match self.kept.pop() {
+            Some(Kept::Day(day)) => match value {
+                Value::Number(number) => self.scaled_number(world, x, day, number),
+                Value::Bool(true) => self.scaled_number(world, x, day, Fraction::one()),
+                Value::Bool(false) => self.scaled_number(world, x, day, Fraction::zero()),
+                Value::Member(_) => unreachable!(),
+            },
+            None | Some(Kept::Value(_)) | Some(Kept::Sum(_, _)) | Some(Kept::Frame(_)) => unreachable!(),
+        }
+    }
+}

@@ -1,0 +1,2 @@
+mod Next
+mod WholeNumbers

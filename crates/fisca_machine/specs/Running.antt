@@ -9,11 +9,12 @@ use Rattle.fisca_meaning.specs.Questions.{Groups, Point, at_period, at_start, pa
 use Rattle.fisca_nodes.specs.Views.{node, in_order, index_view}
 use Rattle.fisca_nodes.specs.declared.node.Node.{Node as Held}
 use Rattle.fisca_nodes.specs.declared.node.Index.{Index}
+use Rattle.fisca_num.specs.Number.{Number}
 use Rattle.fisca_num.specs.Operations.{sum_of}
 use Rattle.fisca_params.specs.Lookup.{value_in, sum_in}
 use Rattle.fisca_params.specs.Tree.{content_at}
 use Rattle.fisca_time.specs.Instant.{CivilDate}
-use Rattle.fisca_time.specs.Period.{subs}
+use Rattle.fisca_time.specs.Period.{Span, subs}
 use Rattle.fisca_typing.specs.Nodes as node
 use Rattle.fisca_typing.specs.Nodes.{Node, Indices, no_index, index}
 use Rattle.fisca_typing.specs.Tables.{Tables}
@@ -52,6 +53,9 @@ applied (operation.Arithmetic o) = arithmetic_of o
 applied (operation.Logic o) = logic_of o
 applied (operation.Comparison o) = comparison_of o
 applied operation.Same = same_of
+
+abbrev pub before : Dialogue → After → Dialogue
+before d k = d >>= k
 
 -- Totals
 
@@ -145,15 +149,36 @@ abbrev pub on_value : List Kept → (Value → After) → After
 on_value [] h = λ y. stuck
 on_value (kept.Value v ∷ vs) h = h (value_seen v)
 on_value (kept.Day d ∷ vs) h = λ y. stuck
-on_value (kept.Sum q n ∷ vs) h = λ y. stuck
+on_value (kept.Sum s ∷ vs) h = λ y. stuck
 on_value (kept.Frame f ∷ vs) h = λ y. stuck
 
 abbrev pub on_day : List Kept → (CivilDate → After) → After
 on_day [] h = λ y. stuck
 on_day (kept.Value v ∷ vs) h = λ y. stuck
-on_day (kept.Day d ∷ vs) h = h d
-on_day (kept.Sum q n ∷ vs) h = λ y. stuck
+on_day (kept.Day d ∷ vs) h = h d.date
+on_day (kept.Sum s ∷ vs) h = λ y. stuck
 on_day (kept.Frame f ∷ vs) h = λ y. stuck
+
+abbrev pub on_sum : List Kept → (Span → Number → After) → After
+on_sum [] h = λ y. stuck
+on_sum (kept.Value v ∷ vs) h = λ y. stuck
+on_sum (kept.Day d ∷ vs) h = λ y. stuck
+on_sum (kept.Sum s ∷ vs) h = h s.period s.sum
+on_sum (kept.Frame f ∷ vs) h = λ y. stuck
+
+abbrev pub on_frame : List Kept → After → After
+on_frame [] h = λ y. stuck
+on_frame (kept.Value v ∷ vs) h = λ y. stuck
+on_frame (kept.Day d ∷ vs) h = λ y. stuck
+on_frame (kept.Sum s ∷ vs) h = λ y. stuck
+on_frame (kept.Frame f ∷ vs) h = h
+
+abbrev pub below_frame : {X : Type 0} → X → List Kept → (Frame → List Kept → X) → X
+below_frame none [] h = none
+below_frame none (kept.Value v ∷ vs) h = none
+below_frame none (kept.Day d ∷ vs) h = none
+below_frame none (kept.Sum s ∷ vs) h = none
+below_frame none (kept.Frame f ∷ vs) h = h f vs
 
 abbrev pub behind : {X : Type 0} → List X → List X
 behind [] = []
@@ -171,26 +196,13 @@ top w ns f (then.Turn o t i at ∷ ks) vs =
     on_value vs (λ sum x. step_of o sum x >>= λ s. turn_then (step_of o) (saying_for w ns f t.now.values at) (persons_from (groups w) f.entity f.member t.now.role i) s (top w ns f ks (behind vs)))
 top w ns f (then.First o t i at ∷ ks) vs =
     first_by (step_of o) (saying_for w ns f t.now.values at) (persons_from (groups w) f.entity f.member t.now.role i) (top w ns f ks vs)
-top w ns f (then.Part v m u i ∷ ks) vs = adds vs
-  where
-    adds : List Kept → After
-    adds [] = λ x. stuck
-    adds (kept.Value y ∷ ys) = λ x. stuck
-    adds (kept.Day d ∷ ys) = λ x. stuck
-    adds (kept.Sum q sum ∷ ys) = λ x. with_number x (λ n. computed (sum_of sum n) >>= λ y. with_number y (λ s. ask_all v m (drop i (subs q u)) s)) >>= top w ns f ks (behind vs)
-    adds (kept.Frame h ∷ ys) = λ x. stuck
+top w ns f (then.Part v m u i ∷ ks) vs =
+    on_sum vs (λ q sum x. with_number x (λ n. computed (sum_of sum n) >>= λ y. with_number y (λ s. ask_all v m (drop i (subs q u)) s)) >>= top w ns f ks (behind vs))
 top w ns f (then.Share s ∷ ks) vs = λ x. shared s x >>= top w ns f ks vs
 top w ns f (then.Index a next i at ∷ ks) vs =
     on_day vs (λ day. choosing_behind w ns f (drop next a.now.indices.items) i at (λ j. chosen_parameter (tables w) a.now.places.items day j >>= top w ns f ks (behind vs)))
 top w ns f (then.Scale a ∷ ks) vs = on_day vs (λ day x. scale_by (tables w) a.now.place day x >>= top w ns f ks (behind vs))
-top w ns f (then.Return ms t ∷ ks) vs = ends vs
-  where
-    ends : List Kept → After
-    ends [] = λ x. stuck
-    ends (kept.Value y ∷ ys) = λ x. stuck
-    ends (kept.Day d ∷ ys) = λ x. stuck
-    ends (kept.Sum q sum ∷ ys) = λ x. stuck
-    ends (kept.Frame h ∷ ys) = cast t
+top w ns f (then.Return ms t ∷ ks) vs = on_frame vs (cast t)
 
 -- what the formulas below do with a value
 abbrev pub waits : World → List Held → Frame → List Pending → List Kept → List After
@@ -206,14 +218,7 @@ waits w ns f (then.Part v m u i ∷ ks) vs = waits w ns f ks (behind vs)
 waits w ns f (then.Share s ∷ ks) vs = waits w ns f ks vs
 waits w ns f (then.Index a next i at ∷ ks) vs = waits w ns f ks (behind vs)
 waits w ns f (then.Scale a ∷ ks) vs = waits w ns f ks (behind vs)
-waits w ns f (then.Return ms t ∷ ks) vs = below vs
-  where
-    below : List Kept → List After
-    below [] = []
-    below (kept.Value y ∷ ys) = []
-    below (kept.Day d ∷ ys) = []
-    below (kept.Sum q sum ∷ ys) = []
-    below (kept.Frame h ∷ ys) = top w ms.now h ks ys ∷ waits w ms.now h ks ys
+waits w ns f (then.Return ms t ∷ ks) vs = below_frame [] vs (λ h ys. top w ms.now h ks ys ∷ waits w ms.now h ks ys)
 
 abbrev pub rest : World → Machine → After
 rest w m = top w m.locals.now m.frame m.stack m.kept

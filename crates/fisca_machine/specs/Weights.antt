@@ -7,12 +7,11 @@ use Rattle.fisca_nodes.specs.declared.node.Index.{Index}
 use Rattle.fisca_typing.specs.Nodes as node
 use Rattle.fisca_typing.specs.Nodes.{Node, Indices, no_index, index}
 use Rattle.fisca_values.specs.Persons.{persons_from}
-use Rattle.fisca_machine.specs.Running.{behind}
+use Rattle.fisca_machine.specs.Running.{behind, below_frame}
 use Rattle.fisca_machine.specs.World.{groups}
 use Rattle.fisca_machine.specs.declared.pending.At.{At}
 use Rattle.fisca_machine.specs.declared.pending.Frame.{Frame}
 use Rattle.fisca_machine.specs.declared.pending.Kept.{Kept}
-use Rattle.fisca_machine.specs.declared.pending.Kept.TheVariants as kept
 use Rattle.fisca_machine.specs.declared.pending.Pending.{Pending}
 use Rattle.fisca_machine.specs.declared.pending.Pending.TheVariants as then
 use Rattle.fisca_machine.specs.declared.machine.Control.{Control}
@@ -83,14 +82,7 @@ stack_weight w ns f (then.Part v m u i ∷ ks) vs = 1 + stack_weight w ns f ks (
 stack_weight w ns f (then.Share s ∷ ks) vs = 1 + stack_weight w ns f ks vs
 stack_weight w ns f (then.Index a next i at ∷ ks) vs = weighing_behind w ns f (drop next a.now.indices.items) at + stack_weight w ns f ks (behind vs)
 stack_weight w ns f (then.Scale a ∷ ks) vs = 1 + stack_weight w ns f ks (behind vs)
-stack_weight w ns f (then.Return ms t ∷ ks) vs = below vs
-  where
-    below : List Kept → ℕ
-    below [] = 1
-    below (kept.Value y ∷ ys) = 1
-    below (kept.Day d ∷ ys) = 1
-    below (kept.Sum q sum ∷ ys) = 1
-    below (kept.Frame h ∷ ys) = 1 + stack_weight w ms.now h ks ys
+stack_weight w ns f (then.Return ms t ∷ ks) vs = 1 + below_frame 0 vs (λ h ys. stack_weight w ms.now h ks ys)
 
 abbrev pub load : World → Machine → Control → ℕ
 load w m (Eval e at) = weighing w m.locals.now m.frame e.now at + stack_weight w m.locals.now m.frame m.stack m.kept

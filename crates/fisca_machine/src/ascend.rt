@@ -34,7 +34,7 @@ impl<'a> Machine<'a> {
                 let outcome = applied(operation, left, value);
                 self.ends(world, outcome)
             }
-            None | Some(Kept::Day(_)) | Some(Kept::Sum(_, _)) | Some(Kept::Frame(_)) => unreachable!(),
+            None | Some(Kept::Day(_)) | Some(Kept::Sum(_)) | Some(Kept::Frame(_)) => unreachable!(),
         }
     }
 
@@ -47,7 +47,7 @@ impl<'a> Machine<'a> {
         at: At,
         value: Value,
     ) -> Result<Control<'a>, Step>
-        requires moving { IsMoving (top world.now self.old.locals.now self.old.frame (Pending.Choose left.entry right.entry at ∷ self.old.stack) self.old.kept (value_seen value)) }
+        requires moving { IsMoving (top world.now self.old.locals.now self.old.frame (Pending.Choose left right at ∷ self.old.stack) self.old.kept (value_seen value)) }
         ensures same { IfOk result (λ k. resume world.now self.new k ≡ (top world.now self.old.locals.now self.old.frame (Pending.Choose left.entry right.entry at ∷ self.old.stack) self.old.kept (value_seen value))) }
         ensures waits { OnOk result (waiting world.now self.new ≡ waiting world.now self.old) }
         ensures lighter { IfOk result (λ k. load world.now self.new k < stack_weight world.now self.old.locals.now self.old.frame (Pending.Choose left.entry right.entry at ∷ self.old.stack) self.old.kept) }
@@ -68,7 +68,7 @@ impl<'a> Machine<'a> {
         declared: DeclaredType,
         value: Value,
     ) -> Result<Control<'a>, Step>
-        requires moving { IsMoving (top world.now self.old.locals.now self.old.frame (Pending.Return locals.entry declared ∷ self.old.stack) self.old.kept (value_seen value)) }
+        requires moving { IsMoving (top world.now self.old.locals.now self.old.frame (Pending.Return locals declared ∷ self.old.stack) self.old.kept (value_seen value)) }
         ensures same { IfOk result (λ k. resume world.now self.new k ≡ (top world.now self.old.locals.now self.old.frame (Pending.Return locals.entry declared ∷ self.old.stack) self.old.kept (value_seen value))) }
         ensures waits { OnOk result (waiting world.now self.new ≡ waiting world.now self.old) }
         ensures lighter { IfOk result (λ k. load world.now self.new k < stack_weight world.now self.old.locals.now self.old.frame (Pending.Return locals.entry declared ∷ self.old.stack) self.old.kept) }
@@ -83,7 +83,7 @@ impl<'a> Machine<'a> {
                 }
                 Err(fault) => Err(Step::Failed(fault)),
             },
-            None | Some(Kept::Value(_)) | Some(Kept::Day(_)) | Some(Kept::Sum(_, _)) => unreachable!(),
+            None | Some(Kept::Value(_)) | Some(Kept::Day(_)) | Some(Kept::Sum(_)) => unreachable!(),
         }
     }
 
@@ -102,8 +102,12 @@ impl<'a> Machine<'a> {
         match self.stack.pop() {
             None => unreachable!(),
             Some(Pending::Right(operation, right, at)) => {
-                self.put(Pending::Apply(operation))?;
-                self.keep(Kept::Value(value))?;
+                let Ok(()) = self.put(Pending::Apply(operation)) else {
+                    return Err(Step::Memory);
+                };
+                let Ok(()) = self.keep(Kept::Value(value)) else {
+                    return Err(Step::Memory);
+                };
                 Ok(Control::Eval(right, at))
             }
             Some(Pending::Apply(operation)) => self.apply(world, operation, value),

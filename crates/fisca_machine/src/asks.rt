@@ -2,18 +2,18 @@
 
 ghost use Rattle.std.specs.Prelude.{◌≡◌, ◌∷◌, ◌<◌, ◌+◌, IfOk, IfErr, OnOk, drop, slice_get, Some};
 ghost use Rattle.fisca_inputs.specs.Seen.{value_seen};
-ghost use Rattle.fisca_meaning.specs.Dialogues.{◌>>=◌, computed, with_number};
 ghost use Rattle.fisca_meaning.specs.Questions as asking;
+ghost use Rattle.fisca_meaning.specs.Dialogues.{computed, with_number};
 ghost use Rattle.fisca_num.specs.Operations.{sum_of};
 ghost use Rattle.fisca_time.specs.Period.{subs};
 ghost use Rattle.fisca_values.specs.Ended.{IsMoving};
-ghost use Rattle.fisca_machine.specs.Running.{rest, waiting, resume, Told, point, top};
+ghost use Rattle.fisca_machine.specs.Running.{before, rest, waiting, resume, Told, point, top};
 ghost use Rattle.fisca_machine.specs.Weights.{load, stack_weight};
 ghost use Rattle.fisca_machine.specs.World.{tables, groups};
 
 use crate::found::{type_of, variable_at};
 use crate::machine::{Control, Machine, Step};
-use crate::pending::{At, Kept, Pending};
+use crate::pending::{At, Kept, PartSum, Pending};
 use crate::world::World;
 use fisca_inputs::{Key, Value};
 use fisca_nodes::Ask;
@@ -34,10 +34,10 @@ impl<'a> Machine<'a> {
         next: u32,
         sum: Fraction,
     ) -> Result<Control<'a>, Step>
-        ensures same { IfOk result (λ k. resume world.now self.new k ≡ (asking.ask_all variable member (drop next (subs period unit)) sum >>= rest world.now self.old)) }
+        ensures same { IfOk result (λ k. resume world.now self.new k ≡ (before (asking.ask_all variable member (drop next (subs period unit)) sum) (rest world.now self.old))) }
         ensures waits { OnOk result (waiting world.now self.new ≡ waiting world.now self.old) }
         ensures lighter { IfOk result (λ k. load world.now self.new k < 1 + stack_weight world.now self.old.locals.now self.old.frame self.old.stack self.old.kept) }
-        ensures stop { IfErr result (λ s. Told s (asking.ask_all variable member (drop next (subs period unit)) sum >>= rest world.now self.old) (rest world.now self.new) (waiting world.now self.old) (waiting world.now self.new)) }
+        ensures stop { IfErr result (λ s. Told s (before (asking.ask_all variable member (drop next (subs period unit)) sum) (rest world.now self.old)) (rest world.now self.new) (waiting world.now self.old) (waiting world.now self.new)) }
     {
         match next_part(unit, period, next) {
             None => {
@@ -48,8 +48,12 @@ impl<'a> Machine<'a> {
                 let Some(after) = next.checked_add(1) else {
                     return Err(Step::Memory);
                 };
-                self.put(Pending::Part(variable, member, unit, after))?;
-                self.keep(Kept::Sum(period, sum))?;
+                let Ok(()) = self.put(Pending::Part(variable, member, unit, after)) else {
+                    return Err(Step::Memory);
+                };
+                let Ok(()) = self.keep(Kept::Sum(PartSum { period, sum })) else {
+                    return Err(Step::Memory);
+                };
                 Err(Step::Needs(Key { variable, member, period: part }))
             }
         }
@@ -64,10 +68,10 @@ impl<'a> Machine<'a> {
         member: u32,
         period: Period,
     ) -> Result<Control<'a>, Step>
-        ensures same { IfOk result (λ k. resume world.now self.new k ≡ (asking.ask_sum variable unit member period >>= rest world.now self.old)) }
+        ensures same { IfOk result (λ k. resume world.now self.new k ≡ (before (asking.ask_sum variable unit member period) (rest world.now self.old))) }
         ensures waits { OnOk result (waiting world.now self.new ≡ waiting world.now self.old) }
         ensures lighter { IfOk result (λ k. load world.now self.new k < 1 + stack_weight world.now self.old.locals.now self.old.frame self.old.stack self.old.kept) }
-        ensures stop { IfErr result (λ s. Told s (asking.ask_sum variable unit member period >>= rest world.now self.old) (rest world.now self.new) (waiting world.now self.old) (waiting world.now self.new)) }
+        ensures stop { IfErr result (λ s. Told s (before (asking.ask_sum variable unit member period) (rest world.now self.old)) (rest world.now self.new) (waiting world.now self.old) (waiting world.now self.new)) }
     {
         if has_no_parts(unit, period) {
             return Err(Step::Failed(Fault::PeriodMismatch(Key { variable, member, period })));
@@ -85,10 +89,10 @@ impl<'a> Machine<'a> {
         member: u32,
         period: Period,
     ) -> Result<Control<'a>, Step>
-        ensures same { IfOk result (λ k. resume world.now self.new k ≡ (asking.ask_by asking variable unit member period >>= rest world.now self.old)) }
+        ensures same { IfOk result (λ k. resume world.now self.new k ≡ (before (asking.ask_by asking variable unit member period) (rest world.now self.old))) }
         ensures waits { OnOk result (waiting world.now self.new ≡ waiting world.now self.old) }
         ensures lighter { IfOk result (λ k. load world.now self.new k < 1 + stack_weight world.now self.old.locals.now self.old.frame self.old.stack self.old.kept) }
-        ensures stop { IfErr result (λ s. Told s (asking.ask_by asking variable unit member period >>= rest world.now self.old) (rest world.now self.new) (waiting world.now self.old) (waiting world.now self.new)) }
+        ensures stop { IfErr result (λ s. Told s (before (asking.ask_by asking variable unit member period) (rest world.now self.old)) (rest world.now self.new) (waiting world.now self.old) (waiting world.now self.new)) }
     {
         match asking {
             Asking::Plain => match plain_key(variable, unit, member, period) {
@@ -98,7 +102,9 @@ impl<'a> Machine<'a> {
             Asking::Add => self.add_up(world, variable, unit, member, period),
             Asking::Divide => match year_part(variable, unit, member, period) {
                 Ok(part) => {
-                    self.put(Pending::Share(part.share))?;
+                    let Ok(()) = self.put(Pending::Share(part.share)) else {
+                        return Err(Step::Memory);
+                    };
                     Err(Step::Needs(part.key))
                 }
                 Err(fault) => Err(Step::Failed(fault)),
@@ -118,10 +124,10 @@ impl<'a> Machine<'a> {
         period: Period,
         at: At,
     ) -> Result<Control<'a>, Step>
-        ensures same { IfOk result (λ k. resume world.now self.new k ≡ (asking.ask_of (groups world.now) (point self.old.frame at) (Whom.Holder role) asking variable unit value_type period >>= rest world.now self.old)) }
+        ensures same { IfOk result (λ k. resume world.now self.new k ≡ (before (asking.ask_of (groups world.now) (point self.old.frame at) (Whom.Holder role) asking variable unit value_type period) (rest world.now self.old))) }
         ensures waits { OnOk result (waiting world.now self.new ≡ waiting world.now self.old) }
         ensures lighter { IfOk result (λ k. load world.now self.new k < 1 + stack_weight world.now self.old.locals.now self.old.frame self.old.stack self.old.kept) }
-        ensures stop { IfErr result (λ s. Told s (asking.ask_of (groups world.now) (point self.old.frame at) (Whom.Holder role) asking variable unit value_type period >>= rest world.now self.old) (rest world.now self.new) (waiting world.now self.old) (waiting world.now self.new)) }
+        ensures stop { IfErr result (λ s. Told s (before (asking.ask_of (groups world.now) (point self.old.frame at) (Whom.Holder role) asking variable unit value_type period) (rest world.now self.old)) (rest world.now self.new) (waiting world.now self.old) (waiting world.now self.new)) }
     {
         match next_person(world.members, self.frame.entity, self.frame.member, Some(role), 0) {
             Some((person, _)) => self.ask_by(world, asking, variable, unit, person, period),
@@ -144,11 +150,11 @@ impl<'a> Machine<'a> {
         period: Period,
         at: At,
     ) -> Result<Control<'a>, Step>
-        requires moving { IsMoving (asking.ask_of (groups world.now) (point self.old.frame at) whom asking variable unit value_type period >>= rest world.now self.old) }
-        ensures same { IfOk result (λ k. resume world.now self.new k ≡ (asking.ask_of (groups world.now) (point self.old.frame at) whom asking variable unit value_type period >>= rest world.now self.old)) }
+        requires moving { IsMoving (before (asking.ask_of (groups world.now) (point self.old.frame at) whom asking variable unit value_type period) (rest world.now self.old)) }
+        ensures same { IfOk result (λ k. resume world.now self.new k ≡ (before (asking.ask_of (groups world.now) (point self.old.frame at) whom asking variable unit value_type period) (rest world.now self.old))) }
         ensures waits { OnOk result (waiting world.now self.new ≡ waiting world.now self.old) }
         ensures lighter { IfOk result (λ k. load world.now self.new k < 1 + stack_weight world.now self.old.locals.now self.old.frame self.old.stack self.old.kept) }
-        ensures stop { IfErr result (λ s. Told s (asking.ask_of (groups world.now) (point self.old.frame at) whom asking variable unit value_type period >>= rest world.now self.old) (rest world.now self.new) (waiting world.now self.old) (waiting world.now self.new)) }
+        ensures stop { IfErr result (λ s. Told s (before (asking.ask_of (groups world.now) (point self.old.frame at) whom asking variable unit value_type period) (rest world.now self.old)) (rest world.now self.new) (waiting world.now self.old) (waiting world.now self.new)) }
     {
         match whom {
             Whom::Own => self.ask_by(world, asking, variable, unit, self.frame.member, period),
@@ -172,11 +178,11 @@ impl<'a> Machine<'a> {
         period: Period,
         at: At,
     ) -> Result<Control<'a>, Step>
-        requires moving { IsMoving (asking.ask_known (groups world.now) (point self.old.frame at) ask.now.whom ask.now.asking ask.now.variable period (slice_get (tables world.now).variables ask.now.variable) >>= rest world.now self.old) }
-        ensures same { IfOk result (λ k. resume world.now self.new k ≡ (asking.ask_known (groups world.now) (point self.old.frame at) ask.now.whom ask.now.asking ask.now.variable period (slice_get (tables world.now).variables ask.now.variable) >>= rest world.now self.old)) }
+        requires moving { IsMoving (before (asking.ask_known (groups world.now) (point self.old.frame at) ask.now.whom ask.now.asking ask.now.variable period (slice_get (tables world.now).variables ask.now.variable)) (rest world.now self.old)) }
+        ensures same { IfOk result (λ k. resume world.now self.new k ≡ (before (asking.ask_known (groups world.now) (point self.old.frame at) ask.now.whom ask.now.asking ask.now.variable period (slice_get (tables world.now).variables ask.now.variable)) (rest world.now self.old))) }
         ensures waits { OnOk result (waiting world.now self.new ≡ waiting world.now self.old) }
         ensures lighter { IfOk result (λ k. load world.now self.new k < 1 + stack_weight world.now self.old.locals.now self.old.frame self.old.stack self.old.kept) }
-        ensures stop { IfErr result (λ s. Told s (asking.ask_known (groups world.now) (point self.old.frame at) ask.now.whom ask.now.asking ask.now.variable period (slice_get (tables world.now).variables ask.now.variable) >>= rest world.now self.old) (rest world.now self.new) (waiting world.now self.old) (waiting world.now self.new)) }
+        ensures stop { IfErr result (λ s. Told s (before (asking.ask_known (groups world.now) (point self.old.frame at) ask.now.whom ask.now.asking ask.now.variable period (slice_get (tables world.now).variables ask.now.variable)) (rest world.now self.old)) (rest world.now self.new) (waiting world.now self.old) (waiting world.now self.new)) }
     {
         match variable_at(world.tables, ask.variable) {
             None => unreachable!(),
@@ -203,11 +209,11 @@ impl<'a> Machine<'a> {
         ask: &Ask,
         at: At,
     ) -> Result<Control<'a>, Step>
-        requires moving { IsMoving (asking.at_period ask.now.moves.items self.old.frame.period (λ q. asking.ask_known (groups world.now) (point self.old.frame at) ask.now.whom ask.now.asking ask.now.variable q (slice_get (tables world.now).variables ask.now.variable)) >>= rest world.now self.old) }
-        ensures same { IfOk result (λ k. resume world.now self.new k ≡ (asking.at_period ask.now.moves.items self.old.frame.period (λ q. asking.ask_known (groups world.now) (point self.old.frame at) ask.now.whom ask.now.asking ask.now.variable q (slice_get (tables world.now).variables ask.now.variable)) >>= rest world.now self.old)) }
+        requires moving { IsMoving (before (asking.at_period ask.now.moves.items self.old.frame.period (λ q. asking.ask_known (groups world.now) (point self.old.frame at) ask.now.whom ask.now.asking ask.now.variable q (slice_get (tables world.now).variables ask.now.variable))) (rest world.now self.old)) }
+        ensures same { IfOk result (λ k. resume world.now self.new k ≡ (before (asking.at_period ask.now.moves.items self.old.frame.period (λ q. asking.ask_known (groups world.now) (point self.old.frame at) ask.now.whom ask.now.asking ask.now.variable q (slice_get (tables world.now).variables ask.now.variable))) (rest world.now self.old))) }
         ensures waits { OnOk result (waiting world.now self.new ≡ waiting world.now self.old) }
         ensures lighter { IfOk result (λ k. load world.now self.new k < 1 + stack_weight world.now self.old.locals.now self.old.frame self.old.stack self.old.kept) }
-        ensures stop { IfErr result (λ s. Told s (asking.at_period ask.now.moves.items self.old.frame.period (λ q. asking.ask_known (groups world.now) (point self.old.frame at) ask.now.whom ask.now.asking ask.now.variable q (slice_get (tables world.now).variables ask.now.variable)) >>= rest world.now self.old) (rest world.now self.new) (waiting world.now self.old) (waiting world.now self.new)) }
+        ensures stop { IfErr result (λ s. Told s (before (asking.at_period ask.now.moves.items self.old.frame.period (λ q. asking.ask_known (groups world.now) (point self.old.frame at) ask.now.whom ask.now.asking ask.now.variable q (slice_get (tables world.now).variables ask.now.variable))) (rest world.now self.old)) (rest world.now self.new) (waiting world.now self.old) (waiting world.now self.new)) }
     {
         match moved_all(ask.moves.as_slice(), self.frame.period) {
             Ok(period) => self.ask_known(world, ask, period, at),
@@ -227,10 +233,10 @@ impl<'a> Machine<'a> {
         sum: Fraction,
         number: Fraction,
     ) -> Result<Control<'a>, Step>
-        ensures same { IfOk result (λ k. resume world.now self.new k ≡ ((computed (sum_of sum number) >>= λ y. with_number y (λ s. asking.ask_all variable member (drop next (subs period unit)) s)) >>= rest world.now self.old)) }
+        ensures same { IfOk result (λ k. resume world.now self.new k ≡ (before ((before (computed (sum_of sum number)) (λ y. with_number y (λ s. asking.ask_all variable member (drop next (subs period unit)) s)))) (rest world.now self.old))) }
         ensures waits { OnOk result (waiting world.now self.new ≡ waiting world.now self.old) }
         ensures lighter { IfOk result (λ k. load world.now self.new k < 1 + stack_weight world.now self.old.locals.now self.old.frame self.old.stack self.old.kept) }
-        ensures stop { IfErr result (λ s. Told s ((computed (sum_of sum number) >>= λ y. with_number y (λ s. asking.ask_all variable member (drop next (subs period unit)) s)) >>= rest world.now self.old) (rest world.now self.new) (waiting world.now self.old) (waiting world.now self.new)) }
+        ensures stop { IfErr result (λ s. Told s (before ((before (computed (sum_of sum number)) (λ y. with_number y (λ s. asking.ask_all variable member (drop next (subs period unit)) s)))) (rest world.now self.old)) (rest world.now self.new) (waiting world.now self.old) (waiting world.now self.new)) }
     {
         match sum.add(number) {
             Ok(sum) => self.parts(world, variable, member, unit, period, next, sum),
@@ -255,7 +261,7 @@ impl<'a> Machine<'a> {
         ensures stop { IfErr result (λ s. Told s (top world.now self.old.locals.now self.old.frame (Pending.Part variable member unit next ∷ self.old.stack) self.old.kept (value_seen value)) (rest world.now self.new) (waiting world.now self.old) (waiting world.now self.new)) }
     {
         match self.kept.pop() {
-            Some(Kept::Sum(period, sum)) => match value {
+            Some(Kept::Sum(PartSum { period, sum })) => match value {
                 Value::Number(number) => self.added(world, variable, member, unit, period, next, sum, number),
                 Value::Bool(true) => self.added(world, variable, member, unit, period, next, sum, Fraction::one()),
                 Value::Bool(false) => self.added(world, variable, member, unit, period, next, sum, Fraction::zero()),

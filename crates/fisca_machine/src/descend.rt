@@ -2,13 +2,12 @@
 
 ghost use Rattle.std.specs.Prelude.{◌≡◌, ◌<◌, ◌+◌, IfOk, IfErr, OnOk, option_map, length};
 ghost use Rattle.fisca_inputs.specs.Seen.{value_seen};
-ghost use Rattle.fisca_meaning.specs.Dialogues.{◌>>=◌};
 ghost use Rattle.fisca_meaning.specs.Meaning.{chosen};
 ghost use Rattle.fisca_meaning.specs.Questions.{counted as counts};
 ghost use Rattle.fisca_members.specs.Grouped.{grouped};
 ghost use Rattle.fisca_values.specs.Persons.{persons_from};
 ghost use Rattle.fisca_values.specs.Ended.{IsMoving, ended};
-ghost use Rattle.fisca_machine.specs.Running.{rest, waiting, resume, Told, saying, says_below, point, applied};
+ghost use Rattle.fisca_machine.specs.Running.{before, rest, waiting, resume, Told, saying, says_below, point, applied};
 ghost use Rattle.fisca_machine.specs.Weights.{load, stack_weight, weighing, weight_below};
 ghost use Rattle.fisca_machine.specs.World.{tables, groups};
 
@@ -51,10 +50,10 @@ impl<'a> Machine<'a> {
         world: &World<'_, '_, '_>,
         outcome: Result<Value, Fault>,
     ) -> Result<Control<'a>, Step>
-        ensures same { IfOk result (λ k. resume world.now self.new k ≡ (ended outcome >>= rest world.now self.old)) }
+        ensures same { IfOk result (λ k. resume world.now self.new k ≡ (before (ended outcome) (rest world.now self.old))) }
         ensures waits { OnOk result (waiting world.now self.new ≡ waiting world.now self.old) }
         ensures lighter { IfOk result (λ k. load world.now self.new k < 1 + stack_weight world.now self.old.locals.now self.old.frame self.old.stack self.old.kept) }
-        ensures stop { IfErr result (λ s. Told s (ended outcome >>= rest world.now self.old) (rest world.now self.new) (waiting world.now self.old) (waiting world.now self.new)) }
+        ensures stop { IfErr result (λ s. Told s (before (ended outcome) (rest world.now self.old)) (rest world.now self.new) (waiting world.now self.old) (waiting world.now self.new)) }
     {
         match outcome {
             Ok(value) => {
@@ -73,12 +72,14 @@ impl<'a> Machine<'a> {
         pair: &'a Pair,
         at: At,
     ) -> Result<Control<'a>, Step>
-        ensures same { IfOk result (λ k. resume world.now self.new k ≡ (saying world.now self.old.locals.now self.old.frame pair.now.left at (λ v. saying world.now self.old.locals.now self.old.frame pair.now.right at (λ y. applied operation v y >>= rest world.now self.old)))) }
+        ensures same { IfOk result (λ k. resume world.now self.new k ≡ (saying world.now self.old.locals.now self.old.frame pair.now.left at (λ v. saying world.now self.old.locals.now self.old.frame pair.now.right at (λ y. before (applied operation v y) (rest world.now self.old))))) }
         ensures waits { OnOk result (waiting world.now self.new ≡ waiting world.now self.old) }
         ensures lighter { IfOk result (λ k. load world.now self.new k < weighing world.now self.old.locals.now self.old.frame pair.now.left at + (weighing world.now self.old.locals.now self.old.frame pair.now.right at + 3) + stack_weight world.now self.old.locals.now self.old.frame self.old.stack self.old.kept) }
-        ensures stop { IfErr result (λ s. Told s (saying world.now self.old.locals.now self.old.frame pair.now.left at (λ v. saying world.now self.old.locals.now self.old.frame pair.now.right at (λ y. applied operation v y >>= rest world.now self.old))) (rest world.now self.new) (waiting world.now self.old) (waiting world.now self.new)) }
+        ensures stop { IfErr result (λ s. Told s (saying world.now self.old.locals.now self.old.frame pair.now.left at (λ v. saying world.now self.old.locals.now self.old.frame pair.now.right at (λ y. before (applied operation v y) (rest world.now self.old)))) (rest world.now self.new) (waiting world.now self.old) (waiting world.now self.new)) }
     {
-        self.put(Pending::Right(operation, &pair.right, at))?;
+        let Ok(()) = self.put(Pending::Right(operation, &pair.right, at)) else {
+            return Err(Step::Memory);
+        };
         Ok(Control::Eval(&pair.left, at))
     }
 
@@ -95,7 +96,9 @@ impl<'a> Machine<'a> {
         ensures lighter { IfOk result (λ k. load world.now self.new k < weighing world.now self.old.locals.now self.old.frame condition.now at + (weighing world.now self.old.locals.now self.old.frame pair.now.left at + weighing world.now self.old.locals.now self.old.frame pair.now.right at + 2) + stack_weight world.now self.old.locals.now self.old.frame self.old.stack self.old.kept) }
         ensures stop { IfErr result (λ s. Told s (saying world.now self.old.locals.now self.old.frame condition.now at (λ v. chosen v (saying world.now self.old.locals.now self.old.frame pair.now.left at (rest world.now self.old)) (saying world.now self.old.locals.now self.old.frame pair.now.right at (rest world.now self.old)))) (rest world.now self.new) (waiting world.now self.old) (waiting world.now self.new)) }
     {
-        self.put(Pending::Choose(&pair.left, &pair.right, at))?;
+        let Ok(()) = self.put(Pending::Choose(&pair.left, &pair.right, at)) else {
+            return Err(Step::Memory);
+        };
         Ok(Control::Eval(condition, at))
     }
 
@@ -155,11 +158,15 @@ impl<'a> Machine<'a> {
             }
             Node::Total(total, x) => self.total(world, *total, x, at),
             Node::Negative(operand) => {
-                self.put(Pending::Negative)?;
+                let Ok(()) = self.put(Pending::Negative) else {
+                    return Err(Step::Memory);
+                };
                 Ok(Control::Eval(operand, at))
             }
             Node::Opposite(operand) => {
-                self.put(Pending::Opposite)?;
+                let Ok(()) = self.put(Pending::Opposite) else {
+                    return Err(Step::Memory);
+                };
                 Ok(Control::Eval(operand, at))
             }
             Node::Arithmetic(operation, pair) => self.two(world, Operation::Arithmetic(*operation), pair, at),

@@ -29,7 +29,7 @@ pub(crate) fn type_of(declared: DeclaredType) -> Option<ValueType>
 }
 
 /// The variable at a place.
-#[tactic(auto, using(crate::proofs::Found::variable_there))]
+#[tactic(auto, using(crate::proofs::Lookups::variable_there))]
 pub(crate) fn variable_at<'r, 't>(tables: &'r Tables<'t>, place: usize) -> Option<&'r Variable<'t>>
     ensures { MatchOption result (slice_get (known tables.now).variables place ≡ None) (λ v. slice_get (known tables.now).variables place ≡ Some (variable v.now)) }
 {
@@ -61,7 +61,7 @@ pub(crate) fn date_part(part: DatePart, moves: &[Move], period: Period) -> Resul
         Err(_) => Err(Fault::PeriodOutOfRange),
         Ok(here) => match here.start() {
             None => Err(Fault::PeriodOutOfRange),
-            Some(day) => counted(u32::from(part_of(part, day))),
+            Some(day) => counted(usize::from(part_of(part, day))),
         },
     }
 }

@@ -2,12 +2,11 @@
 
 ghost use Rattle.std.specs.Prelude.{◌≡◌, ◌∷◌, ◌<◌, ◌+◌, [], IfOk, IfErr, OnOk, map};
 ghost use Rattle.fisca_inputs.specs.Seen.{value_seen};
-ghost use Rattle.fisca_meaning.specs.Dialogues.{◌>>=◌};
 ghost use Rattle.fisca_meaning.specs.Meaning.{formula_means};
 ghost use Rattle.fisca_nodes.specs.Views.{node};
 ghost use Rattle.fisca_values.specs.Casts.{cast};
 ghost use Rattle.fisca_values.specs.Ended.{IsMoving};
-ghost use Rattle.fisca_machine.specs.Running.{rest, waiting, resume, Told};
+ghost use Rattle.fisca_machine.specs.Running.{before, rest, waiting, resume, Told};
 ghost use Rattle.fisca_machine.specs.Weights.{load};
 ghost use Rattle.fisca_machine.specs.World.{tables, groups};
 
@@ -99,25 +98,17 @@ impl<'a> Machine<'a> {
     }
 
     /// What is pending is put on top.
-    pub(crate) fn put(&mut self, pending: Pending<'a>) -> Result<(), Step>
-        ensures ok { OnOk result (self.new ≡ record self.old { stack = pending.entry ∷ self.old.stack }) }
-        ensures err { IfErr result (λ s. s ≡ Step.Memory) }
+    pub(crate) fn put(&mut self, pending: Pending<'a>) -> Result<(), AllocError>
+        ensures { OnOk result (self.new ≡ record self.old { stack = pending.entry ∷ self.old.stack }) }
     {
-        match self.stack.push(pending) {
-            Ok(()) => Ok(()),
-            Err(_) => Err(Step::Memory),
-        }
+        self.stack.push(pending)
     }
 
     /// What is kept is put on top.
-    pub(crate) fn keep(&mut self, kept: Kept) -> Result<(), Step>
-        ensures ok { OnOk result (self.new ≡ record self.old { kept = kept ∷ self.old.kept }) }
-        ensures err { IfErr result (λ s. s ≡ Step.Memory) }
+    pub(crate) fn keep(&mut self, kept: Kept) -> Result<(), AllocError>
+        ensures { OnOk result (self.new ≡ record self.old { kept = kept ∷ self.old.kept }) }
     {
-        match self.kept.push(kept) {
-            Ok(()) => Ok(()),
-            Err(_) => Err(Step::Memory),
-        }
+        self.kept.push(kept)
     }
 
     /// Puts a formula of a variable of this type on top: its locals with values, its result, and for whom it is worked out. `Err` where no memory was given.
@@ -129,7 +120,7 @@ impl<'a> Machine<'a> {
         declared: DeclaredType,
         frame: Frame,
     ) -> Result<Control<'a>, AllocError>
-        ensures begun { IfOk result (λ k. resume world.now self.new k ≡ formula_means (tables world.now) (groups world.now) (record { values = map node locals.now; result = node returned.now }) (record { entity = frame.entity; member = frame.member; person = None; period = frame.period }) >>= cast declared) }
+        ensures begun { IfOk result (λ k. resume world.now self.new k ≡ before (formula_means (tables world.now) (groups world.now) (record { values = map node locals.now; result = node returned.now }) (record { entity = frame.entity; member = frame.member; person = None; period = frame.period })) (cast declared)) }
         ensures waits { OnOk result (waiting world.now self.new ≡ rest world.now self.old ∷ waiting world.now self.old) }
     {
         self.stack.push(Pending::Return(self.locals, declared))?;

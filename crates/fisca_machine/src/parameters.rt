@@ -2,19 +2,18 @@
 
 ghost use Rattle.std.specs.Prelude.{◌≡◌, ◌∷◌, ◌<◌, ◌+◌, ◌*◌, MatchOption, ⊤, IfOk, IfErr, OnOk, drop};
 ghost use Rattle.fisca_inputs.specs.Seen.{value_seen};
-ghost use Rattle.fisca_meaning.specs.Dialogues.{◌>>=◌};
 ghost use Rattle.fisca_meaning.specs.Meaning.{scale_value};
 ghost use Rattle.fisca_meaning.specs.Questions.{at_start};
 ghost use Rattle.fisca_params.specs.Lookup.{sum_in};
 ghost use Rattle.fisca_params.specs.Tree.{content_at};
 ghost use Rattle.fisca_values.specs.Ended.{IsMoving};
-ghost use Rattle.fisca_machine.specs.Running.{rest, waiting, resume, Told, saying, choosing, chosen_parameter, scale_by, top};
+ghost use Rattle.fisca_machine.specs.Running.{before, rest, waiting, resume, Told, saying, choosing, chosen_parameter, scale_by, top};
 ghost use Rattle.fisca_machine.specs.Weights.{load, stack_weight, weighing, indices_weighing};
 ghost use Rattle.fisca_machine.specs.World.{tables};
 
 use crate::found::index_at;
 use crate::machine::{Control, Machine, Step};
-use crate::pending::{At, Kept, Pending};
+use crate::pending::{At, Day, Kept, Pending};
 use crate::world::World;
 use fisca_inputs::Value;
 use fisca_nodes::{Parameter, ScaleSum};
@@ -38,11 +37,11 @@ impl<'a> Machine<'a> {
         chosen: usize,
         day: Instant,
     ) -> Result<Control<'a>, Step>
-        requires moving { IsMoving (chosen_parameter (tables world.now) x.now.places.items day chosen >>= rest world.now self.old) }
-        ensures same { IfOk result (λ k. resume world.now self.new k ≡ (chosen_parameter (tables world.now) x.now.places.items day chosen >>= rest world.now self.old)) }
+        requires moving { IsMoving (before (chosen_parameter (tables world.now) x.now.places.items day chosen) (rest world.now self.old)) }
+        ensures same { IfOk result (λ k. resume world.now self.new k ≡ (before (chosen_parameter (tables world.now) x.now.places.items day chosen) (rest world.now self.old))) }
         ensures waits { OnOk result (waiting world.now self.new ≡ waiting world.now self.old) }
         ensures lighter { IfOk result (λ k. load world.now self.new k < 1 + stack_weight world.now self.old.locals.now self.old.frame self.old.stack self.old.kept) }
-        ensures stop { IfErr result (λ s. Told s (chosen_parameter (tables world.now) x.now.places.items day chosen >>= rest world.now self.old) (rest world.now self.new) (waiting world.now self.old) (waiting world.now self.new)) }
+        ensures stop { IfErr result (λ s. Told s (before (chosen_parameter (tables world.now) x.now.places.items day chosen) (rest world.now self.old)) (rest world.now self.new) (waiting world.now self.old) (waiting world.now self.new)) }
     {
         match x.places.as_slice().get(chosen) {
             None => unreachable!(),
@@ -66,17 +65,21 @@ impl<'a> Machine<'a> {
         day: Instant,
         at: At,
     ) -> Result<Control<'a>, Step>
-        requires moving { IsMoving (choosing world.now self.old.locals.now self.old.frame (drop next x.now.indices.items) chosen at (λ j. chosen_parameter (tables world.now) x.now.places.items day j >>= rest world.now self.old)) }
-        ensures same { IfOk result (λ k. resume world.now self.new k ≡ (choosing world.now self.old.locals.now self.old.frame (drop next x.now.indices.items) chosen at (λ j. chosen_parameter (tables world.now) x.now.places.items day j >>= rest world.now self.old))) }
+        requires moving { IsMoving (choosing world.now self.old.locals.now self.old.frame (drop next x.now.indices.items) chosen at (λ j. before (chosen_parameter (tables world.now) x.now.places.items day j) (rest world.now self.old))) }
+        ensures same { IfOk result (λ k. resume world.now self.new k ≡ (choosing world.now self.old.locals.now self.old.frame (drop next x.now.indices.items) chosen at (λ j. before (chosen_parameter (tables world.now) x.now.places.items day j) (rest world.now self.old)))) }
         ensures waits { OnOk result (waiting world.now self.new ≡ waiting world.now self.old) }
         ensures lighter { IfOk result (λ k. load world.now self.new k < indices_weighing world.now self.old.locals.now self.old.frame (drop next x.now.indices.items) at + stack_weight world.now self.old.locals.now self.old.frame self.old.stack self.old.kept) }
-        ensures stop { IfErr result (λ s. Told s (choosing world.now self.old.locals.now self.old.frame (drop next x.now.indices.items) chosen at (λ j. chosen_parameter (tables world.now) x.now.places.items day j >>= rest world.now self.old)) (rest world.now self.new) (waiting world.now self.old) (waiting world.now self.new)) }
+        ensures stop { IfErr result (λ s. Told s (choosing world.now self.old.locals.now self.old.frame (drop next x.now.indices.items) chosen at (λ j. before (chosen_parameter (tables world.now) x.now.places.items day j) (rest world.now self.old))) (rest world.now self.new) (waiting world.now self.old) (waiting world.now self.new)) }
     {
         match index_at(x.indices.as_slice(), next) {
             None => self.chosen(world, x, chosen, day),
             Some((index, _)) => {
-                self.put(Pending::Index(x, next, chosen, at))?;
-                self.keep(Kept::Day(day))?;
+                let Ok(()) = self.put(Pending::Index(x, next, chosen, at)) else {
+                    return Err(Step::Memory);
+                };
+                let Ok(()) = self.keep(Kept::Day(Day { date: day })) else {
+                    return Err(Step::Memory);
+                };
                 Ok(Control::Eval(&index.member, at))
             }
         }
@@ -92,14 +95,14 @@ impl<'a> Machine<'a> {
         at: At,
         value: Value,
     ) -> Result<Control<'a>, Step>
-        requires moving { IsMoving (top world.now self.old.locals.now self.old.frame (Pending.Index x.entry next chosen at ∷ self.old.stack) self.old.kept (value_seen value)) }
+        requires moving { IsMoving (top world.now self.old.locals.now self.old.frame (Pending.Index x next chosen at ∷ self.old.stack) self.old.kept (value_seen value)) }
         ensures same { IfOk result (λ k. resume world.now self.new k ≡ (top world.now self.old.locals.now self.old.frame (Pending.Index x.entry next chosen at ∷ self.old.stack) self.old.kept (value_seen value))) }
         ensures waits { OnOk result (waiting world.now self.new ≡ waiting world.now self.old) }
         ensures lighter { IfOk result (λ k. load world.now self.new k < stack_weight world.now self.old.locals.now self.old.frame (Pending.Index x.entry next chosen at ∷ self.old.stack) self.old.kept) }
         ensures stop { IfErr result (λ s. Told s (top world.now self.old.locals.now self.old.frame (Pending.Index x.entry next chosen at ∷ self.old.stack) self.old.kept (value_seen value)) (rest world.now self.new) (waiting world.now self.old) (waiting world.now self.new)) }
     {
         match self.kept.pop() {
-            Some(Kept::Day(day)) => match value {
+            Some(Kept::Day(Day { date: day })) => match value {
                 Value::Member(member) => match index_at(x.indices.as_slice(), next) {
                     None => unreachable!(),
                     Some((index, after)) => match chosen_behind(chosen, index.size, member) {
@@ -109,7 +112,7 @@ impl<'a> Machine<'a> {
                 },
                 Value::Number(_) | Value::Bool(_) => unreachable!(),
             },
-            None | Some(Kept::Value(_)) | Some(Kept::Sum(_, _)) | Some(Kept::Frame(_)) => unreachable!(),
+            None | Some(Kept::Value(_)) | Some(Kept::Sum(_)) | Some(Kept::Frame(_)) => unreachable!(),
         }
     }
 
@@ -120,11 +123,11 @@ impl<'a> Machine<'a> {
         x: &'a Parameter,
         at: At,
     ) -> Result<Control<'a>, Step>
-        requires moving { IsMoving (at_start x.now.moves.items self.old.frame.period (λ day. choosing world.now self.old.locals.now self.old.frame x.now.indices.items 0 at (λ j. chosen_parameter (tables world.now) x.now.places.items day j >>= rest world.now self.old))) }
-        ensures same { IfOk result (λ k. resume world.now self.new k ≡ (at_start x.now.moves.items self.old.frame.period (λ day. choosing world.now self.old.locals.now self.old.frame x.now.indices.items 0 at (λ j. chosen_parameter (tables world.now) x.now.places.items day j >>= rest world.now self.old)))) }
+        requires moving { IsMoving (at_start x.now.moves.items self.old.frame.period (λ day. choosing world.now self.old.locals.now self.old.frame x.now.indices.items 0 at (λ j. before (chosen_parameter (tables world.now) x.now.places.items day j) (rest world.now self.old)))) }
+        ensures same { IfOk result (λ k. resume world.now self.new k ≡ (at_start x.now.moves.items self.old.frame.period (λ day. choosing world.now self.old.locals.now self.old.frame x.now.indices.items 0 at (λ j. before (chosen_parameter (tables world.now) x.now.places.items day j) (rest world.now self.old))))) }
         ensures waits { OnOk result (waiting world.now self.new ≡ waiting world.now self.old) }
         ensures lighter { IfOk result (λ k. load world.now self.new k < 1 + (indices_weighing world.now self.old.locals.now self.old.frame x.now.indices.items at + stack_weight world.now self.old.locals.now self.old.frame self.old.stack self.old.kept)) }
-        ensures stop { IfErr result (λ s. Told s (at_start x.now.moves.items self.old.frame.period (λ day. choosing world.now self.old.locals.now self.old.frame x.now.indices.items 0 at (λ j. chosen_parameter (tables world.now) x.now.places.items day j >>= rest world.now self.old))) (rest world.now self.new) (waiting world.now self.old) (waiting world.now self.new)) }
+        ensures stop { IfErr result (λ s. Told s (at_start x.now.moves.items self.old.frame.period (λ day. choosing world.now self.old.locals.now self.old.frame x.now.indices.items 0 at (λ j. before (chosen_parameter (tables world.now) x.now.places.items day j) (rest world.now self.old)))) (rest world.now self.new) (waiting world.now self.old) (waiting world.now self.new)) }
     {
         match moved_all(x.moves.as_slice(), self.frame.period) {
             Err(_) => Err(Step::Failed(Fault::PeriodOutOfRange)),
@@ -142,18 +145,22 @@ impl<'a> Machine<'a> {
         x: &'a ScaleSum,
         at: At,
     ) -> Result<Control<'a>, Step>
-        ensures same { IfOk result (λ k. resume world.now self.new k ≡ (at_start x.now.moves.items self.old.frame.period (λ day. saying world.now self.old.locals.now self.old.frame x.now.base at (λ v. scale_by (tables world.now) x.now.place day v >>= rest world.now self.old)))) }
+        ensures same { IfOk result (λ k. resume world.now self.new k ≡ (at_start x.now.moves.items self.old.frame.period (λ day. saying world.now self.old.locals.now self.old.frame x.now.base at (λ v. before (scale_by (tables world.now) x.now.place day v) (rest world.now self.old))))) }
         ensures waits { OnOk result (waiting world.now self.new ≡ waiting world.now self.old) }
         ensures lighter { IfOk result (λ k. load world.now self.new k < weighing world.now self.old.locals.now self.old.frame x.now.base at + 2 + stack_weight world.now self.old.locals.now self.old.frame self.old.stack self.old.kept) }
-        ensures stop { IfErr result (λ s. Told s (at_start x.now.moves.items self.old.frame.period (λ day. saying world.now self.old.locals.now self.old.frame x.now.base at (λ v. scale_by (tables world.now) x.now.place day v >>= rest world.now self.old))) (rest world.now self.new) (waiting world.now self.old) (waiting world.now self.new)) }
+        ensures stop { IfErr result (λ s. Told s (at_start x.now.moves.items self.old.frame.period (λ day. saying world.now self.old.locals.now self.old.frame x.now.base at (λ v. before (scale_by (tables world.now) x.now.place day v) (rest world.now self.old)))) (rest world.now self.new) (waiting world.now self.old) (waiting world.now self.new)) }
     {
         match moved_all(x.moves.as_slice(), self.frame.period) {
             Err(_) => Err(Step::Failed(Fault::PeriodOutOfRange)),
             Ok(here) => match here.start() {
                 None => Err(Step::Failed(Fault::PeriodOutOfRange)),
                 Some(day) => {
-                    self.put(Pending::Scale(x))?;
-                    self.keep(Kept::Day(day))?;
+                    let Ok(()) = self.put(Pending::Scale(x)) else {
+                        return Err(Step::Memory);
+                    };
+                    let Ok(()) = self.keep(Kept::Day(Day { date: day })) else {
+                        return Err(Step::Memory);
+                    };
                     Ok(Control::Eval(&x.base, at))
                 }
             },
@@ -168,10 +175,10 @@ impl<'a> Machine<'a> {
         day: Instant,
         number: Fraction,
     ) -> Result<Control<'a>, Step>
-        ensures same { IfOk result (λ k. resume world.now self.new k ≡ (scale_value (sum_in (content_at (tables world.now).nodes x.now.place) day number) >>= rest world.now self.old)) }
+        ensures same { IfOk result (λ k. resume world.now self.new k ≡ (before (scale_value (sum_in (content_at (tables world.now).nodes x.now.place) day number)) (rest world.now self.old))) }
         ensures waits { OnOk result (waiting world.now self.new ≡ waiting world.now self.old) }
         ensures lighter { IfOk result (λ k. load world.now self.new k < 1 + stack_weight world.now self.old.locals.now self.old.frame self.old.stack self.old.kept) }
-        ensures stop { IfErr result (λ s. Told s (scale_value (sum_in (content_at (tables world.now).nodes x.now.place) day number) >>= rest world.now self.old) (rest world.now self.new) (waiting world.now self.old) (waiting world.now self.new)) }
+        ensures stop { IfErr result (λ s. Told s (before (scale_value (sum_in (content_at (tables world.now).nodes x.now.place) day number)) (rest world.now self.old)) (rest world.now self.new) (waiting world.now self.old) (waiting world.now self.new)) }
     {
         match scale_sum_at(&world.tables.parameters, x.place, day, number) {
             Ok(value) => {
@@ -189,20 +196,20 @@ impl<'a> Machine<'a> {
         x: &'a ScaleSum,
         value: Value,
     ) -> Result<Control<'a>, Step>
-        requires moving { IsMoving (top world.now self.old.locals.now self.old.frame (Pending.Scale x.entry ∷ self.old.stack) self.old.kept (value_seen value)) }
+        requires moving { IsMoving (top world.now self.old.locals.now self.old.frame (Pending.Scale x ∷ self.old.stack) self.old.kept (value_seen value)) }
         ensures same { IfOk result (λ k. resume world.now self.new k ≡ (top world.now self.old.locals.now self.old.frame (Pending.Scale x.entry ∷ self.old.stack) self.old.kept (value_seen value))) }
         ensures waits { OnOk result (waiting world.now self.new ≡ waiting world.now self.old) }
         ensures lighter { IfOk result (λ k. load world.now self.new k < stack_weight world.now self.old.locals.now self.old.frame (Pending.Scale x.entry ∷ self.old.stack) self.old.kept) }
         ensures stop { IfErr result (λ s. Told s (top world.now self.old.locals.now self.old.frame (Pending.Scale x.entry ∷ self.old.stack) self.old.kept (value_seen value)) (rest world.now self.new) (waiting world.now self.old) (waiting world.now self.new)) }
     {
         match self.kept.pop() {
-            Some(Kept::Day(day)) => match value {
+            Some(Kept::Day(Day { date: day })) => match value {
                 Value::Number(number) => self.scaled_number(world, x, day, number),
                 Value::Bool(true) => self.scaled_number(world, x, day, Fraction::one()),
                 Value::Bool(false) => self.scaled_number(world, x, day, Fraction::zero()),
                 Value::Member(_) => unreachable!(),
             },
-            None | Some(Kept::Value(_)) | Some(Kept::Sum(_, _)) | Some(Kept::Frame(_)) => unreachable!(),
+            None | Some(Kept::Value(_)) | Some(Kept::Sum(_)) | Some(Kept::Frame(_)) => unreachable!(),
         }
     }
 }

@@ -71,15 +71,31 @@ pub(crate) enum Pending<'a> {
     Return(&'a [Node], DeclaredType),
 }
 
+/// A day.
+#[derive(Clone, Copy)]
+pub(crate) struct Day {
+    /// The date.
+    pub(crate) date: Instant,
+}
+
+/// A period, and the sum over its parts so far.
+#[derive(Clone, Copy)]
+pub(crate) struct PartSum {
+    /// The period.
+    pub(crate) period: Period,
+    /// The sum.
+    pub(crate) sum: Fraction,
+}
+
 /// What is kept for what is pending.
 #[derive(Clone, Copy)]
 pub(crate) enum Kept {
     /// A value.
     Value(Value),
     /// A day.
-    Day(Instant),
+    Day(Day),
     /// A period, and the sum over its parts so far.
-    Sum(Period, Fraction),
+    Sum(PartSum),
     /// For whom the formula below is worked out.
     Frame(Frame),
 }

@@ -40,8 +40,12 @@ impl<'a> Machine<'a> {
                 Ok(Control::Give)
             }
             Some((person, after)) => {
-                self.put(Pending::Turn(total, x, after, at))?;
-                self.keep(Kept::Value(sum))?;
+                let Ok(()) = self.put(Pending::Turn(total, x, after, at)) else {
+                    return Err(Step::Memory);
+                };
+                let Ok(()) = self.keep(Kept::Value(sum)) else {
+                    return Err(Step::Memory);
+                };
                 Ok(Control::Eval(&x.values, At { person: Some(person), visible: at.visible }))
             }
         }
@@ -63,7 +67,9 @@ impl<'a> Machine<'a> {
         match next_person(world.members, self.frame.entity, self.frame.member, x.role, 0) {
             None => Err(Step::Failed(Fault::NoMember)),
             Some((person, after)) => {
-                self.put(Pending::First(total, x, after, at))?;
+                let Ok(()) = self.put(Pending::First(total, x, after, at)) else {
+                    return Err(Step::Memory);
+                };
                 Ok(Control::Eval(&x.values, At { person: Some(person), visible: at.visible }))
             }
         }
@@ -98,7 +104,7 @@ impl<'a> Machine<'a> {
         at: At,
         value: Value,
     ) -> Result<Control<'a>, Step>
-        requires moving { IsMoving (top world.now self.old.locals.now self.old.frame (Pending.Turn total x.entry next at ∷ self.old.stack) self.old.kept (value_seen value)) }
+        requires moving { IsMoving (top world.now self.old.locals.now self.old.frame (Pending.Turn total x next at ∷ self.old.stack) self.old.kept (value_seen value)) }
         ensures same { IfOk result (λ k. resume world.now self.new k ≡ (top world.now self.old.locals.now self.old.frame (Pending.Turn total x.entry next at ∷ self.old.stack) self.old.kept (value_seen value))) }
         ensures waits { OnOk result (waiting world.now self.new ≡ waiting world.now self.old) }
         ensures lighter { IfOk result (λ k. load world.now self.new k < stack_weight world.now self.old.locals.now self.old.frame (Pending.Turn total x.entry next at ∷ self.old.stack) self.old.kept) }
@@ -109,7 +115,7 @@ impl<'a> Machine<'a> {
                 Ok(sum) => self.turn(world, total, x, next, sum, at),
                 Err(fault) => Err(Step::Failed(fault)),
             },
-            None | Some(Kept::Day(_)) | Some(Kept::Sum(_, _)) | Some(Kept::Frame(_)) => unreachable!(),
+            None | Some(Kept::Day(_)) | Some(Kept::Sum(_)) | Some(Kept::Frame(_)) => unreachable!(),
         }
     }
 
@@ -123,7 +129,7 @@ impl<'a> Machine<'a> {
         at: At,
         value: Value,
     ) -> Result<Control<'a>, Step>
-        requires moving { IsMoving (top world.now self.old.locals.now self.old.frame (Pending.First total x.entry next at ∷ self.old.stack) self.old.kept (value_seen value)) }
+        requires moving { IsMoving (top world.now self.old.locals.now self.old.frame (Pending.First total x next at ∷ self.old.stack) self.old.kept (value_seen value)) }
         ensures same { IfOk result (λ k. resume world.now self.new k ≡ (top world.now self.old.locals.now self.old.frame (Pending.First total x.entry next at ∷ self.old.stack) self.old.kept (value_seen value))) }
         ensures waits { OnOk result (waiting world.now self.new ≡ waiting world.now self.old) }
         ensures lighter { IfOk result (λ k. load world.now self.new k < stack_weight world.now self.old.locals.now self.old.frame (Pending.First total x.entry next at ∷ self.old.stack) self.old.kept) }

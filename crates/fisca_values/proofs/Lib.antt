@@ -1,2 +1,3 @@
 mod Next
+mod Roles
 mod WholeNumbers

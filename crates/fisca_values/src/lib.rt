@@ -19,7 +19,9 @@ pub use numbers::{by, compares, whole};
 pub use operands::{member_of, number_of, truth_of};
 pub use operations::{arithmetic, comparison, logic, negative, opposite, same};
 pub use parameters::{parameter_at, scale_sum_at};
-pub use periods::{counted, has_no_parts, key_period, moved, moved_all, next_part, part_of, start_at};
+pub use periods::{
+    counted, has_no_parts, key_period, moved, moved_all, next_part, part_of, start_at,
+};
 pub use persons::{count_of, first_of, group_of, has, next_person, role_of};
 pub use questions::{Share, YearPart, plain_key, share_of, year_part};
 pub use results::cast;

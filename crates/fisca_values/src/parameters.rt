@@ -50,7 +50,8 @@ pub fn scale_sum_at(
             Ok(sum) => Ok(Value::Number(sum)),
             Err(fault) => Err(scale_fault(fault)),
         },
-        NodeKind::Node | NodeKind::Number | NodeKind::Bool | NodeKind::Unusable =>
-            Err(Fault::ParameterUndefined),
+        NodeKind::Node | NodeKind::Number | NodeKind::Bool | NodeKind::Unusable => Err(
+            Fault::ParameterUndefined,
+        ),
     }
 }

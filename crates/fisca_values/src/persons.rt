@@ -1,7 +1,8 @@
 //! The persons of groups, and their roles.
 
-ghost use Rattle.std.specs.Prelude.{◌≡◌, [], ◌∷◌, length, MatchOption};
+ghost use Rattle.std.specs.Prelude.{◌≡◌, [], ◌∷◌, ◌<◌, ◌≤◌, ◌^◌, Some, drop, length, MatchOption};
 ghost use Rattle.fisca_meaning.specs.Questions as asking;
+ghost use Rattle.fisca_meaning.specs.Questions.{with_role};
 ghost use Rattle.fisca_members.specs.Grouped.{grouped};
 ghost use Rattle.fisca_values.specs.Persons as spec;
 ghost use Rattle.fisca_values.specs.Persons.{first, persons_from};
@@ -55,6 +56,28 @@ fn is_meant(members: &Members, entity: usize, role: Option<RolePlace>, person: u
     }
 }
 
+/// The next of these persons that has a role, from a place on, and the place behind it; none where nobody is left.
+fn next_of(
+    members: &Members,
+    entity: usize,
+    role: Option<RolePlace>,
+    persons: &[u32],
+    next: usize,
+) -> Option<(u32, usize)>
+    ensures { MatchOption result (with_role (grouped members.now) entity role (drop next persons.now) ≡ [])
+        (λ p. with_role (grouped members.now) entity role (drop next persons.now) ≡ p.0 ∷ with_role (grouped members.now) entity role (drop p.1 persons.now)) }
+{
+    let mut place = next;
+    while place < persons.len() {
+        let person = persons[place];
+        place += 1;
+        if is_meant(members, entity, role, person) {
+            return Some((person, place));
+        }
+    }
+    None
+}
+
 /// The next person of a group that has a role, from a place among the group's persons on, and the place behind it; none where nobody is left. With no
 /// role it is any person.
 pub fn next_person(
@@ -68,15 +91,7 @@ pub fn next_person(
         (λ p. persons_from (grouped members.now) entity group role next ≡ p.0 ∷ persons_from (grouped members.now) entity group role p.1) }
 {
     let persons = members.persons(entity, group);
-    let mut place = next;
-    while place < persons.len() {
-        let person = persons[place];
-        place += 1;
-        if is_meant(members, entity, role, person) {
-            return Some((person, place));
-        }
-    }
-    None
+    next_of(members, entity, role, persons, next)
 }
 
 /// The first person of a group that has this role, where one has it.
@@ -89,15 +104,28 @@ pub fn first_of(members: &Members, entity: usize, group: u32, role: RolePlace) -
     }
 }
 
-/// How many persons of a group have a role, or how many there are.
-pub fn count_of(members: &Members, entity: usize, group: u32, role: Option<RolePlace>) -> usize
-    ensures { result ≡ length (persons_from (grouped members.now) entity group role 0) }
+/// How many of these persons have a role.
+fn count_in(members: &Members, entity: usize, wanted: RolePlace, persons: &[u32]) -> usize
+    ensures value { result ≡ length (with_role (grouped members.now) entity (Some wanted) persons.now) }
+    ensures most { result ≤ length persons.now }
 {
     let mut count = 0;
-    for person in members.persons(entity, group) {
-        if is_meant(members, entity, role, *person) {
+    for person in persons {
+        if has(wanted, role_of(members, entity, *person)) {
             count += 1;
         }
     }
     count
+}
+
+/// How many persons of a group have a role, or how many there are.
+pub fn count_of(members: &Members, entity: usize, group: u32, role: Option<RolePlace>) -> usize
+    ensures value { result ≡ length (persons_from (grouped members.now) entity group role 0) }
+    ensures most { result < 2 ^ 63 }
+{
+    let persons = members.persons(entity, group);
+    match role {
+        None => persons.len(),
+        Some(wanted) => count_in(members, entity, wanted, persons),
+    }
 }

@@ -61,12 +61,7 @@ pub fn plain_key(variable: usize, unit: Unit, member: u32, period: Period) -> Re
 }
 
 /// The calendar year in which a period starts, with what of its value is meant. `PeriodOutOfRange` for eternity.
-fn year_with(
-    variable: usize,
-    member: u32,
-    period: Period,
-    share: Share,
-) -> Result<YearPart, Fault>
+fn year_with(variable: usize, member: u32, period: Period, share: Share) -> Result<YearPart, Fault>
     ensures { spec.year_by variable member period share ≡ spec.year_asked result }
 {
     match period.this_year() {

@@ -1,14 +1,14 @@
 -- What a machine has still to do, told with what comes after it.
-use Rattle.std.specs.Prelude.{◌≡◌, ℕ, zero, suc, ◌+◌, ◌*◌, ◌==◌, if◌then◌else◌, List, [], ◌∷◌, drop, slice_get, length, map, Option, Some, None}
+use Rattle.std.specs.Prelude.{◌≡◌, ℕ, zero, suc, ◌+◌, ◌*◌, ◌==◌, if◌then◌else◌, List, [], ◌∷◌, drop, slice_get, length, Option, Some, None}
 use Rattle.fisca_inputs.specs.Seen.{key_seen, value_seen}
 use Rattle.fisca_inputs.specs.declared.given.Value.{Value as Given}
 use Rattle.fisca_meaning.specs.Answers.{arithmetic_of, logic_of, comparison_of, same_of, negative_of, not_of}
 use Rattle.fisca_meaning.specs.Dialogues.{Value, Dialogue, number, bool, member, gives, fails, stuck, asks, ◌>>=◌, with_number, with_member, computed, no_member}
 use Rattle.fisca_meaning.specs.Meaning.{at_person, at_place, chosen, parameter_value, scale_value}
 use Rattle.fisca_meaning.specs.Questions.{Groups, Point, at_period, at_start, part_of, counted, has, persons_at, ask_all, ask_known}
-use Rattle.fisca_nodes.specs.Views.{node, in_order, index_view}
+use Rattle.fisca_nodes.specs.Views.{node, node_step, index_step, pair_step, parameter_step, scale_step, totalled_step, Indexed, Paired, Parametric, Scaled, Summed}
 use Rattle.fisca_nodes.specs.declared.node.Node.{Node as Held}
-use Rattle.fisca_nodes.specs.declared.node.Index.{Index}
+use Rattle.fisca_nodes.specs.declared.node.Parameter.{Parameter, fold-Parameter}
 use Rattle.fisca_num.specs.Number.{Number}
 use Rattle.fisca_num.specs.Operations.{sum_of}
 use Rattle.fisca_params.specs.Lookup.{value_in, sum_in}
@@ -134,13 +134,23 @@ saying w ns f e at k = says (tables w) (groups w) (says_below (tables w) (groups
 abbrev pub saying_for : World → List Held → Frame → Held → At → ℕ → After → Dialogue
 saying_for w ns f e at m = says (tables w) (groups w) (says_below (tables w) (groups w) ns at.visible) (node e) (at_person (point f at) m)
 
--- the indices that are left
-abbrev pub choosing : World → List Held → Frame → List Index → ℕ → At → (ℕ → Dialogue) → Dialogue
-choosing w ns f is i at h = chooses (tables w) (groups w) (says_below (tables w) (groups w) ns at.visible) (in_order (map index_view is)) i (point f at) h
+-- a parameter's indices, places and moves
+abbrev pub parametric : Parameter → Parametric
+parametric = fold-Parameter Node Indexed Paired Parametric Scaled Summed node_step index_step pair_step parameter_step scale_step totalled_step
 
-abbrev pub choosing_behind : World → List Held → Frame → List Index → ℕ → At → (ℕ → Dialogue) → After
-choosing_behind w ns f [] i at h = λ x. stuck
-choosing_behind w ns f (n ∷ is) i at h = λ x. with_member x (λ j. choosing w ns f is (i * n.size + j) at h)
+-- the indices from a place on
+abbrev pub from : ℕ → Indices → Indices
+from zero is = is
+from (suc n) no_index = no_index
+from (suc n) (index m size is) = from n is
+
+abbrev pub choosing : World → List Held → Frame → Indices → ℕ → At → (ℕ → Dialogue) → Dialogue
+choosing w ns f is i at h = chooses (tables w) (groups w) (says_below (tables w) (groups w) ns at.visible) is i (point f at) h
+
+-- the first one is there now
+abbrev pub choosing_behind : World → List Held → Frame → Indices → ℕ → At → (ℕ → Dialogue) → After
+choosing_behind w ns f no_index i at h = λ x. stuck
+choosing_behind w ns f (index n size is) i at h = λ x. with_member x (λ j. choosing w ns f is (i * size + j) at h)
 
 -- What is pending
 
@@ -200,7 +210,7 @@ top w ns f (then.Part v m u i ∷ ks) vs =
     on_sum vs (λ q sum x. with_number x (λ n. computed (sum_of sum n) >>= λ y. with_number y (λ s. ask_all v m (drop i (subs q u)) s)) >>= top w ns f ks (behind vs))
 top w ns f (then.Share s ∷ ks) vs = λ x. shared s x >>= top w ns f ks vs
 top w ns f (then.Index a next i at ∷ ks) vs =
-    on_day vs (λ day. choosing_behind w ns f (drop next a.now.indices.items) i at (λ j. chosen_parameter (tables w) a.now.places.items day j >>= top w ns f ks (behind vs)))
+    on_day vs (λ day. choosing_behind w ns f (from next (parametric a.now).indices) i at (λ j. chosen_parameter (tables w) (parametric a.now).places day j >>= top w ns f ks (behind vs)))
 top w ns f (then.Scale a ∷ ks) vs = on_day vs (λ day x. scale_by (tables w) a.now.place day x >>= top w ns f ks (behind vs))
 top w ns f (then.Return ms t ∷ ks) vs = on_frame vs (cast t)
 

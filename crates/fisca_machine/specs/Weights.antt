@@ -1,13 +1,12 @@
 -- How many steps are left at most until a machine answers.
-use Rattle.std.specs.Prelude.{ℕ, zero, suc, ◌+◌, ◌==◌, if◌then◌else◌, List, [], ◌∷◌, drop, slice_get, map, Option, Some, None}
+use Rattle.std.specs.Prelude.{ℕ, zero, suc, ◌+◌, ◌==◌, if◌then◌else◌, List, [], ◌∷◌, slice_get, Option, Some, None}
 use Rattle.fisca_meaning.specs.Questions.{Groups}
-use Rattle.fisca_nodes.specs.Views.{node, in_order, index_view}
+use Rattle.fisca_nodes.specs.Views.{node}
 use Rattle.fisca_nodes.specs.declared.node.Node.{Node as Held}
-use Rattle.fisca_nodes.specs.declared.node.Index.{Index}
 use Rattle.fisca_typing.specs.Nodes as node
 use Rattle.fisca_typing.specs.Nodes.{Node, Indices, no_index, index}
 use Rattle.fisca_values.specs.Persons.{persons_from}
-use Rattle.fisca_machine.specs.Running.{behind, below_frame}
+use Rattle.fisca_machine.specs.Running.{behind, below_frame, from, parametric}
 use Rattle.fisca_machine.specs.World.{groups}
 use Rattle.fisca_machine.specs.declared.pending.At.{At}
 use Rattle.fisca_machine.specs.declared.pending.Frame.{Frame}
@@ -59,13 +58,13 @@ weight_below g f ns (suc n) i = if i == n then weight_or g f (weight_below g f n
 abbrev pub weighing : World → List Held → Frame → Held → At → ℕ
 weighing w ns f e at = weight (groups w) f (weight_below (groups w) f ns at.visible) (node e)
 
-abbrev pub indices_weighing : World → List Held → Frame → List Index → At → ℕ
-indices_weighing w ns f is at = indices_weight (groups w) f (weight_below (groups w) f ns at.visible) (in_order (map index_view is))
+abbrev pub indices_weighing : World → List Held → Frame → Indices → At → ℕ
+indices_weighing w ns f is at = indices_weight (groups w) f (weight_below (groups w) f ns at.visible) is
 
 -- those behind the first
-abbrev pub weighing_behind : World → List Held → Frame → List Index → At → ℕ
-weighing_behind w ns f [] at = 1
-weighing_behind w ns f (n ∷ is) at = indices_weighing w ns f is at
+abbrev pub weighing_behind : World → List Held → Frame → Indices → At → ℕ
+weighing_behind w ns f no_index at = 1
+weighing_behind w ns f (index n size is) at = indices_weighing w ns f is at
 
 abbrev pub stack_weight : World → List Held → Frame → List Pending → List Kept → ℕ
 stack_weight w ns f [] vs = 0
@@ -80,7 +79,7 @@ stack_weight w ns f (then.First o t i at ∷ ks) vs =
     persons_weight (weighing w ns f t.now.values at) (persons_from (groups w) f.entity f.member t.now.role i) + stack_weight w ns f ks vs
 stack_weight w ns f (then.Part v m u i ∷ ks) vs = 1 + stack_weight w ns f ks (behind vs)
 stack_weight w ns f (then.Share s ∷ ks) vs = 1 + stack_weight w ns f ks vs
-stack_weight w ns f (then.Index a next i at ∷ ks) vs = weighing_behind w ns f (drop next a.now.indices.items) at + stack_weight w ns f ks (behind vs)
+stack_weight w ns f (then.Index a next i at ∷ ks) vs = weighing_behind w ns f (from next (parametric a.now).indices) at + stack_weight w ns f ks (behind vs)
 stack_weight w ns f (then.Scale a ∷ ks) vs = 1 + stack_weight w ns f ks (behind vs)
 stack_weight w ns f (then.Return ms t ∷ ks) vs = 1 + below_frame 0 vs (λ h ys. stack_weight w ms.now h ks ys)
 

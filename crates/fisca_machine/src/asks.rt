@@ -2,7 +2,7 @@
 
 ghost use Rattle.std.specs.Prelude.{◌≡◌, ◌∷◌, ◌<◌, ◌+◌, IfOk, IfErr, OnOk, drop, slice_get, Some};
 ghost use Rattle.fisca_inputs.specs.Seen.{value_seen};
-ghost use Rattle.fisca_meaning.specs.Questions as asking;
+ghost use Rattle.fisca_meaning.specs.Questions as questions;
 ghost use Rattle.fisca_meaning.specs.Dialogues.{computed, with_number};
 ghost use Rattle.fisca_num.specs.Operations.{sum_of};
 ghost use Rattle.fisca_time.specs.Period.{subs};
@@ -34,10 +34,10 @@ impl<'a> Machine<'a> {
         next: u32,
         sum: Fraction,
     ) -> Result<Control<'a>, Step>
-        ensures same { IfOk result (λ k. resume world.now self.new k ≡ (before (asking.ask_all variable member (drop next (subs period unit)) sum) (rest world.now self.old))) }
+        ensures same { IfOk result (λ k. resume world.now self.new k ≡ (before (questions.ask_all variable member (drop next (subs period unit)) sum) (rest world.now self.old))) }
         ensures waits { OnOk result (waiting world.now self.new ≡ waiting world.now self.old) }
         ensures lighter { IfOk result (λ k. load world.now self.new k < 1 + stack_weight world.now self.old.locals.now self.old.frame self.old.stack self.old.kept) }
-        ensures stop { IfErr result (λ s. Told s (before (asking.ask_all variable member (drop next (subs period unit)) sum) (rest world.now self.old)) (rest world.now self.new) (waiting world.now self.old) (waiting world.now self.new)) }
+        ensures stop { IfErr result (λ s. Told s (before (questions.ask_all variable member (drop next (subs period unit)) sum) (rest world.now self.old)) (rest world.now self.new) (waiting world.now self.old) (waiting world.now self.new)) }
     {
         match next_part(unit, period, next) {
             None => {
@@ -68,10 +68,10 @@ impl<'a> Machine<'a> {
         member: u32,
         period: Period,
     ) -> Result<Control<'a>, Step>
-        ensures same { IfOk result (λ k. resume world.now self.new k ≡ (before (asking.ask_sum variable unit member period) (rest world.now self.old))) }
+        ensures same { IfOk result (λ k. resume world.now self.new k ≡ (before (questions.ask_sum variable unit member period) (rest world.now self.old))) }
         ensures waits { OnOk result (waiting world.now self.new ≡ waiting world.now self.old) }
         ensures lighter { IfOk result (λ k. load world.now self.new k < 1 + stack_weight world.now self.old.locals.now self.old.frame self.old.stack self.old.kept) }
-        ensures stop { IfErr result (λ s. Told s (before (asking.ask_sum variable unit member period) (rest world.now self.old)) (rest world.now self.new) (waiting world.now self.old) (waiting world.now self.new)) }
+        ensures stop { IfErr result (λ s. Told s (before (questions.ask_sum variable unit member period) (rest world.now self.old)) (rest world.now self.new) (waiting world.now self.old) (waiting world.now self.new)) }
     {
         if has_no_parts(unit, period) {
             return Err(Step::Failed(Fault::PeriodMismatch(Key { variable, member, period })));
@@ -89,10 +89,10 @@ impl<'a> Machine<'a> {
         member: u32,
         period: Period,
     ) -> Result<Control<'a>, Step>
-        ensures same { IfOk result (λ k. resume world.now self.new k ≡ (before (asking.ask_by asking variable unit member period) (rest world.now self.old))) }
+        ensures same { IfOk result (λ k. resume world.now self.new k ≡ (before (questions.ask_by asking variable unit member period) (rest world.now self.old))) }
         ensures waits { OnOk result (waiting world.now self.new ≡ waiting world.now self.old) }
         ensures lighter { IfOk result (λ k. load world.now self.new k < 1 + stack_weight world.now self.old.locals.now self.old.frame self.old.stack self.old.kept) }
-        ensures stop { IfErr result (λ s. Told s (before (asking.ask_by asking variable unit member period) (rest world.now self.old)) (rest world.now self.new) (waiting world.now self.old) (waiting world.now self.new)) }
+        ensures stop { IfErr result (λ s. Told s (before (questions.ask_by asking variable unit member period) (rest world.now self.old)) (rest world.now self.new) (waiting world.now self.old) (waiting world.now self.new)) }
     {
         match asking {
             Asking::Plain => match plain_key(variable, unit, member, period) {
@@ -124,10 +124,10 @@ impl<'a> Machine<'a> {
         period: Period,
         at: At,
     ) -> Result<Control<'a>, Step>
-        ensures same { IfOk result (λ k. resume world.now self.new k ≡ (before (asking.ask_of (groups world.now) (point self.old.frame at) (Whom.Holder role) asking variable unit value_type period) (rest world.now self.old))) }
+        ensures same { IfOk result (λ k. resume world.now self.new k ≡ (before (questions.ask_of (groups world.now) (point self.old.frame at) (Whom.Holder role) asking variable unit value_type period) (rest world.now self.old))) }
         ensures waits { OnOk result (waiting world.now self.new ≡ waiting world.now self.old) }
         ensures lighter { IfOk result (λ k. load world.now self.new k < 1 + stack_weight world.now self.old.locals.now self.old.frame self.old.stack self.old.kept) }
-        ensures stop { IfErr result (λ s. Told s (before (asking.ask_of (groups world.now) (point self.old.frame at) (Whom.Holder role) asking variable unit value_type period) (rest world.now self.old)) (rest world.now self.new) (waiting world.now self.old) (waiting world.now self.new)) }
+        ensures stop { IfErr result (λ s. Told s (before (questions.ask_of (groups world.now) (point self.old.frame at) (Whom.Holder role) asking variable unit value_type period) (rest world.now self.old)) (rest world.now self.new) (waiting world.now self.old) (waiting world.now self.new)) }
     {
         match next_person(world.members, self.frame.entity, self.frame.member, Some(role), 0) {
             Some((person, _)) => self.ask_by(world, asking, variable, unit, person, period),
@@ -150,11 +150,11 @@ impl<'a> Machine<'a> {
         period: Period,
         at: At,
     ) -> Result<Control<'a>, Step>
-        requires moving { IsMoving (before (asking.ask_of (groups world.now) (point self.old.frame at) whom asking variable unit value_type period) (rest world.now self.old)) }
-        ensures same { IfOk result (λ k. resume world.now self.new k ≡ (before (asking.ask_of (groups world.now) (point self.old.frame at) whom asking variable unit value_type period) (rest world.now self.old))) }
+        requires moving { IsMoving (before (questions.ask_of (groups world.now) (point self.old.frame at) whom asking variable unit value_type period) (rest world.now self.old)) }
+        ensures same { IfOk result (λ k. resume world.now self.new k ≡ (before (questions.ask_of (groups world.now) (point self.old.frame at) whom asking variable unit value_type period) (rest world.now self.old))) }
         ensures waits { OnOk result (waiting world.now self.new ≡ waiting world.now self.old) }
         ensures lighter { IfOk result (λ k. load world.now self.new k < 1 + stack_weight world.now self.old.locals.now self.old.frame self.old.stack self.old.kept) }
-        ensures stop { IfErr result (λ s. Told s (before (asking.ask_of (groups world.now) (point self.old.frame at) whom asking variable unit value_type period) (rest world.now self.old)) (rest world.now self.new) (waiting world.now self.old) (waiting world.now self.new)) }
+        ensures stop { IfErr result (λ s. Told s (before (questions.ask_of (groups world.now) (point self.old.frame at) whom asking variable unit value_type period) (rest world.now self.old)) (rest world.now self.new) (waiting world.now self.old) (waiting world.now self.new)) }
     {
         match whom {
             Whom::Own => self.ask_by(world, asking, variable, unit, self.frame.member, period),
@@ -178,11 +178,11 @@ impl<'a> Machine<'a> {
         period: Period,
         at: At,
     ) -> Result<Control<'a>, Step>
-        requires moving { IsMoving (before (asking.ask_known (groups world.now) (point self.old.frame at) ask.now.whom ask.now.asking ask.now.variable period (slice_get (tables world.now).variables ask.now.variable)) (rest world.now self.old)) }
-        ensures same { IfOk result (λ k. resume world.now self.new k ≡ (before (asking.ask_known (groups world.now) (point self.old.frame at) ask.now.whom ask.now.asking ask.now.variable period (slice_get (tables world.now).variables ask.now.variable)) (rest world.now self.old))) }
+        requires moving { IsMoving (before (questions.ask_known (groups world.now) (point self.old.frame at) ask.now.whom ask.now.asking ask.now.variable period (slice_get (tables world.now).variables ask.now.variable)) (rest world.now self.old)) }
+        ensures same { IfOk result (λ k. resume world.now self.new k ≡ (before (questions.ask_known (groups world.now) (point self.old.frame at) ask.now.whom ask.now.asking ask.now.variable period (slice_get (tables world.now).variables ask.now.variable)) (rest world.now self.old))) }
         ensures waits { OnOk result (waiting world.now self.new ≡ waiting world.now self.old) }
         ensures lighter { IfOk result (λ k. load world.now self.new k < 1 + stack_weight world.now self.old.locals.now self.old.frame self.old.stack self.old.kept) }
-        ensures stop { IfErr result (λ s. Told s (before (asking.ask_known (groups world.now) (point self.old.frame at) ask.now.whom ask.now.asking ask.now.variable period (slice_get (tables world.now).variables ask.now.variable)) (rest world.now self.old)) (rest world.now self.new) (waiting world.now self.old) (waiting world.now self.new)) }
+        ensures stop { IfErr result (λ s. Told s (before (questions.ask_known (groups world.now) (point self.old.frame at) ask.now.whom ask.now.asking ask.now.variable period (slice_get (tables world.now).variables ask.now.variable)) (rest world.now self.old)) (rest world.now self.new) (waiting world.now self.old) (waiting world.now self.new)) }
     {
         match variable_at(world.tables, ask.variable) {
             None => unreachable!(),
@@ -209,11 +209,11 @@ impl<'a> Machine<'a> {
         ask: &Ask,
         at: At,
     ) -> Result<Control<'a>, Step>
-        requires moving { IsMoving (before (asking.at_period ask.now.moves.items self.old.frame.period (λ q. asking.ask_known (groups world.now) (point self.old.frame at) ask.now.whom ask.now.asking ask.now.variable q (slice_get (tables world.now).variables ask.now.variable))) (rest world.now self.old)) }
-        ensures same { IfOk result (λ k. resume world.now self.new k ≡ (before (asking.at_period ask.now.moves.items self.old.frame.period (λ q. asking.ask_known (groups world.now) (point self.old.frame at) ask.now.whom ask.now.asking ask.now.variable q (slice_get (tables world.now).variables ask.now.variable))) (rest world.now self.old))) }
+        requires moving { IsMoving (before (questions.at_period ask.now.moves.items self.old.frame.period (λ q. questions.ask_known (groups world.now) (point self.old.frame at) ask.now.whom ask.now.asking ask.now.variable q (slice_get (tables world.now).variables ask.now.variable))) (rest world.now self.old)) }
+        ensures same { IfOk result (λ k. resume world.now self.new k ≡ (before (questions.at_period ask.now.moves.items self.old.frame.period (λ q. questions.ask_known (groups world.now) (point self.old.frame at) ask.now.whom ask.now.asking ask.now.variable q (slice_get (tables world.now).variables ask.now.variable))) (rest world.now self.old))) }
         ensures waits { OnOk result (waiting world.now self.new ≡ waiting world.now self.old) }
         ensures lighter { IfOk result (λ k. load world.now self.new k < 1 + stack_weight world.now self.old.locals.now self.old.frame self.old.stack self.old.kept) }
-        ensures stop { IfErr result (λ s. Told s (before (asking.at_period ask.now.moves.items self.old.frame.period (λ q. asking.ask_known (groups world.now) (point self.old.frame at) ask.now.whom ask.now.asking ask.now.variable q (slice_get (tables world.now).variables ask.now.variable))) (rest world.now self.old)) (rest world.now self.new) (waiting world.now self.old) (waiting world.now self.new)) }
+        ensures stop { IfErr result (λ s. Told s (before (questions.at_period ask.now.moves.items self.old.frame.period (λ q. questions.ask_known (groups world.now) (point self.old.frame at) ask.now.whom ask.now.asking ask.now.variable q (slice_get (tables world.now).variables ask.now.variable))) (rest world.now self.old)) (rest world.now self.new) (waiting world.now self.old) (waiting world.now self.new)) }
     {
         match moved_all(ask.moves.as_slice(), self.frame.period) {
             Ok(period) => self.ask_known(world, ask, period, at),
@@ -233,10 +233,10 @@ impl<'a> Machine<'a> {
         sum: Fraction,
         number: Fraction,
     ) -> Result<Control<'a>, Step>
-        ensures same { IfOk result (λ k. resume world.now self.new k ≡ (before ((before (computed (sum_of sum number)) (λ y. with_number y (λ s. asking.ask_all variable member (drop next (subs period unit)) s)))) (rest world.now self.old))) }
+        ensures same { IfOk result (λ k. resume world.now self.new k ≡ (before ((before (computed (sum_of sum number)) (λ y. with_number y (λ s. questions.ask_all variable member (drop next (subs period unit)) s)))) (rest world.now self.old))) }
         ensures waits { OnOk result (waiting world.now self.new ≡ waiting world.now self.old) }
         ensures lighter { IfOk result (λ k. load world.now self.new k < 1 + stack_weight world.now self.old.locals.now self.old.frame self.old.stack self.old.kept) }
-        ensures stop { IfErr result (λ s. Told s (before ((before (computed (sum_of sum number)) (λ y. with_number y (λ s. asking.ask_all variable member (drop next (subs period unit)) s)))) (rest world.now self.old)) (rest world.now self.new) (waiting world.now self.old) (waiting world.now self.new)) }
+        ensures stop { IfErr result (λ s. Told s (before ((before (computed (sum_of sum number)) (λ y. with_number y (λ s. questions.ask_all variable member (drop next (subs period unit)) s)))) (rest world.now self.old)) (rest world.now self.new) (waiting world.now self.old) (waiting world.now self.new)) }
     {
         match sum.add(number) {
             Ok(sum) => self.parts(world, variable, member, unit, period, next, sum),

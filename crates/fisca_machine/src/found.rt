@@ -1,16 +1,18 @@
 //! What nodes name, looked up.
 
-ghost use Rattle.std.specs.Prelude.{◌≡◌, [], ◌∷◌, drop, slice_get, None, Some, MatchOption};
+ghost use Rattle.std.specs.Prelude.{◌≡◌, slice_get, None, Some, MatchOption};
 ghost use Rattle.fisca_meaning.specs.Questions.{at_start, part_of as part_of_day, counted as counts};
+ghost use Rattle.fisca_nodes.specs.Views.{index_view};
+ghost use Rattle.fisca_typing.specs.Nodes.{no_index, index};
 ghost use Rattle.fisca_tables.specs.Known.{tables as known};
 ghost use Rattle.fisca_tables.specs.KnownVariables.{value_type, variable};
 ghost use Rattle.fisca_values.specs.Ended.{IsMoving, ended};
-ghost use Rattle.fisca_machine.specs.Running.{applied as applies};
+ghost use Rattle.fisca_machine.specs.Running.{applied as applies, from, parametric};
 ghost use Rattle.fisca_inputs.specs.Seen.{value_seen};
 
 use crate::pending::Operation;
 use fisca_inputs::Value;
-use fisca_nodes::{Index, Node};
+use fisca_nodes::{Index, Node, Parameter};
 use fisca_tables::{DeclaredType, Tables, Variable};
 use fisca_time::Period;
 use fisca_typing::{DatePart, Move, ValueType};
@@ -43,11 +45,11 @@ pub(crate) fn local_at<'a>(locals: &'a [Node], place: usize) -> Option<&'a Node>
     locals.get(place)
 }
 
-/// The index at a place, and the place behind it.
-pub(crate) fn index_at<'a>(indices: &'a [Index], next: usize) -> Option<(&'a Index, usize)>
-    ensures { MatchOption result (drop next indices.now ≡ []) (λ p. drop next indices.now ≡ p.0.now ∷ drop p.1 indices.now) }
+/// The index at a place of a parameter, and the place behind it.
+pub(crate) fn index_at<'a>(parameter: &'a Parameter, next: usize) -> Option<(&'a Index, usize)>
+    ensures { MatchOption result (from next (parametric parameter.now).indices ≡ no_index) (λ p. from next (parametric parameter.now).indices ≡ index (index_view p.0.now).member (index_view p.0.now).size (from p.1 (parametric parameter.now).indices)) }
 {
-    match indices.get(next) {
+    match parameter.indices.as_slice().get(next) {
         None => None,
         Some(index) => Some((index, next + 1)),
     }

@@ -7,7 +7,7 @@ ghost use Rattle.fisca_meaning.specs.Questions.{at_start};
 ghost use Rattle.fisca_params.specs.Lookup.{sum_in};
 ghost use Rattle.fisca_params.specs.Tree.{content_at};
 ghost use Rattle.fisca_values.specs.Ended.{IsMoving};
-ghost use Rattle.fisca_machine.specs.Running.{before, rest, waiting, resume, Told, saying, choosing, chosen_parameter, scale_by, top};
+ghost use Rattle.fisca_machine.specs.Running.{before, rest, waiting, resume, Told, saying, choosing, from, parametric, chosen_parameter, scale_by, top};
 ghost use Rattle.fisca_machine.specs.Weights.{load, stack_weight, weighing, indices_weighing};
 ghost use Rattle.fisca_machine.specs.World.{tables};
 
@@ -37,11 +37,11 @@ impl<'a> Machine<'a> {
         chosen: usize,
         day: Instant,
     ) -> Result<Control<'a>, Step>
-        requires moving { IsMoving (before (chosen_parameter (tables world.now) x.now.places.items day chosen) (rest world.now self.old)) }
-        ensures same { IfOk result (λ k. resume world.now self.new k ≡ (before (chosen_parameter (tables world.now) x.now.places.items day chosen) (rest world.now self.old))) }
+        requires moving { IsMoving (before (chosen_parameter (tables world.now) (parametric x.now).places day chosen) (rest world.now self.old)) }
+        ensures same { IfOk result (λ k. resume world.now self.new k ≡ (before (chosen_parameter (tables world.now) (parametric x.now).places day chosen) (rest world.now self.old))) }
         ensures waits { OnOk result (waiting world.now self.new ≡ waiting world.now self.old) }
         ensures lighter { IfOk result (λ k. load world.now self.new k < 1 + stack_weight world.now self.old.locals.now self.old.frame self.old.stack self.old.kept) }
-        ensures stop { IfErr result (λ s. Told s (before (chosen_parameter (tables world.now) x.now.places.items day chosen) (rest world.now self.old)) (rest world.now self.new) (waiting world.now self.old) (waiting world.now self.new)) }
+        ensures stop { IfErr result (λ s. Told s (before (chosen_parameter (tables world.now) (parametric x.now).places day chosen) (rest world.now self.old)) (rest world.now self.new) (waiting world.now self.old) (waiting world.now self.new)) }
     {
         match x.places.as_slice().get(chosen) {
             None => unreachable!(),
@@ -65,13 +65,13 @@ impl<'a> Machine<'a> {
         day: Instant,
         at: At,
     ) -> Result<Control<'a>, Step>
-        requires moving { IsMoving (choosing world.now self.old.locals.now self.old.frame (drop next x.now.indices.items) chosen at (λ j. before (chosen_parameter (tables world.now) x.now.places.items day j) (rest world.now self.old))) }
-        ensures same { IfOk result (λ k. resume world.now self.new k ≡ (choosing world.now self.old.locals.now self.old.frame (drop next x.now.indices.items) chosen at (λ j. before (chosen_parameter (tables world.now) x.now.places.items day j) (rest world.now self.old)))) }
+        requires moving { IsMoving (choosing world.now self.old.locals.now self.old.frame (from next (parametric x.now).indices) chosen at (λ j. before (chosen_parameter (tables world.now) (parametric x.now).places day j) (rest world.now self.old))) }
+        ensures same { IfOk result (λ k. resume world.now self.new k ≡ (choosing world.now self.old.locals.now self.old.frame (from next (parametric x.now).indices) chosen at (λ j. before (chosen_parameter (tables world.now) (parametric x.now).places day j) (rest world.now self.old)))) }
         ensures waits { OnOk result (waiting world.now self.new ≡ waiting world.now self.old) }
-        ensures lighter { IfOk result (λ k. load world.now self.new k < indices_weighing world.now self.old.locals.now self.old.frame (drop next x.now.indices.items) at + stack_weight world.now self.old.locals.now self.old.frame self.old.stack self.old.kept) }
-        ensures stop { IfErr result (λ s. Told s (choosing world.now self.old.locals.now self.old.frame (drop next x.now.indices.items) chosen at (λ j. before (chosen_parameter (tables world.now) x.now.places.items day j) (rest world.now self.old))) (rest world.now self.new) (waiting world.now self.old) (waiting world.now self.new)) }
+        ensures lighter { IfOk result (λ k. load world.now self.new k < indices_weighing world.now self.old.locals.now self.old.frame (from next (parametric x.now).indices) at + stack_weight world.now self.old.locals.now self.old.frame self.old.stack self.old.kept) }
+        ensures stop { IfErr result (λ s. Told s (choosing world.now self.old.locals.now self.old.frame (from next (parametric x.now).indices) chosen at (λ j. before (chosen_parameter (tables world.now) (parametric x.now).places day j) (rest world.now self.old))) (rest world.now self.new) (waiting world.now self.old) (waiting world.now self.new)) }
     {
-        match index_at(x.indices.as_slice(), next) {
+        match index_at(x, next) {
             None => self.chosen(world, x, chosen, day),
             Some((index, _)) => {
                 let Ok(()) = self.put(Pending::Index(x, next, chosen, at)) else {
@@ -103,7 +103,7 @@ impl<'a> Machine<'a> {
     {
         match self.kept.pop() {
             Some(Kept::Day(Day { date: day })) => match value {
-                Value::Member(member) => match index_at(x.indices.as_slice(), next) {
+                Value::Member(member) => match index_at(x, next) {
                     None => unreachable!(),
                     Some((index, after)) => match chosen_behind(chosen, index.size, member) {
                         None => Err(Step::Memory),
@@ -123,11 +123,11 @@ impl<'a> Machine<'a> {
         x: &'a Parameter,
         at: At,
     ) -> Result<Control<'a>, Step>
-        requires moving { IsMoving (at_start x.now.moves.items self.old.frame.period (λ day. choosing world.now self.old.locals.now self.old.frame x.now.indices.items 0 at (λ j. before (chosen_parameter (tables world.now) x.now.places.items day j) (rest world.now self.old)))) }
-        ensures same { IfOk result (λ k. resume world.now self.new k ≡ (at_start x.now.moves.items self.old.frame.period (λ day. choosing world.now self.old.locals.now self.old.frame x.now.indices.items 0 at (λ j. before (chosen_parameter (tables world.now) x.now.places.items day j) (rest world.now self.old))))) }
+        requires moving { IsMoving (at_start (parametric x.now).moves self.old.frame.period (λ day. choosing world.now self.old.locals.now self.old.frame (parametric x.now).indices 0 at (λ j. before (chosen_parameter (tables world.now) (parametric x.now).places day j) (rest world.now self.old)))) }
+        ensures same { IfOk result (λ k. resume world.now self.new k ≡ (at_start (parametric x.now).moves self.old.frame.period (λ day. choosing world.now self.old.locals.now self.old.frame (parametric x.now).indices 0 at (λ j. before (chosen_parameter (tables world.now) (parametric x.now).places day j) (rest world.now self.old))))) }
         ensures waits { OnOk result (waiting world.now self.new ≡ waiting world.now self.old) }
-        ensures lighter { IfOk result (λ k. load world.now self.new k < 1 + (indices_weighing world.now self.old.locals.now self.old.frame x.now.indices.items at + stack_weight world.now self.old.locals.now self.old.frame self.old.stack self.old.kept)) }
-        ensures stop { IfErr result (λ s. Told s (at_start x.now.moves.items self.old.frame.period (λ day. choosing world.now self.old.locals.now self.old.frame x.now.indices.items 0 at (λ j. before (chosen_parameter (tables world.now) x.now.places.items day j) (rest world.now self.old)))) (rest world.now self.new) (waiting world.now self.old) (waiting world.now self.new)) }
+        ensures lighter { IfOk result (λ k. load world.now self.new k < 1 + (indices_weighing world.now self.old.locals.now self.old.frame (parametric x.now).indices at + stack_weight world.now self.old.locals.now self.old.frame self.old.stack self.old.kept)) }
+        ensures stop { IfErr result (λ s. Told s (at_start (parametric x.now).moves self.old.frame.period (λ day. choosing world.now self.old.locals.now self.old.frame (parametric x.now).indices 0 at (λ j. before (chosen_parameter (tables world.now) (parametric x.now).places day j) (rest world.now self.old)))) (rest world.now self.new) (waiting world.now self.old) (waiting world.now self.new)) }
     {
         match moved_all(x.moves.as_slice(), self.frame.period) {
             Err(_) => Err(Step::Failed(Fault::PeriodOutOfRange)),

@@ -95,19 +95,14 @@ module _ (c : Tables) (g : Groups) (E : Locals) (ls : meaning.Locals) (h : (i : 
     says_on (node.total o r a) p k = total_on o _ _ (λ m j. says_on a (at_person p m) j) (persons_at g p r) k
     says_on (node.negative a) p k = says_on a p _ ∙ sym (assoc (mean c g ls a p) negative_of k)
     says_on (node.opposite a) p k = says_on a p _ ∙ sym (assoc (mean c g ls a p) not_of k)
-    says_on (node.arithmetic o a b) p k = says_two (arithmetic_of o) a b p k
-    says_on (node.logic o a b) p k = says_two (logic_of o) a b p k
-    says_on (node.comparison o a b) p k = says_two (comparison_of o) a b p k
-    says_on (node.same a b) p k = says_two same_of a b p k
+    says_on (node.arithmetic o a b) p k = says_on a p _ ∙ next (mean c g ls a p) _ _ (λ x. says_on b p _ ∙ sym (assoc (mean c g ls b p) (arithmetic_of o x) k)) ∙ sym (assoc (mean c g ls a p) _ k)
+    says_on (node.logic o a b) p k = says_on a p _ ∙ next (mean c g ls a p) _ _ (λ x. says_on b p _ ∙ sym (assoc (mean c g ls b p) (logic_of o x) k)) ∙ sym (assoc (mean c g ls a p) _ k)
+    says_on (node.comparison o a b) p k = says_on a p _ ∙ next (mean c g ls a p) _ _ (λ x. says_on b p _ ∙ sym (assoc (mean c g ls b p) (comparison_of o x) k)) ∙ sym (assoc (mean c g ls a p) _ k)
+    says_on (node.same a b) p k = says_on a p _ ∙ next (mean c g ls a p) _ _ (λ x. says_on b p _ ∙ sym (assoc (mean c g ls b p) (same_of x) k)) ∙ sym (assoc (mean c g ls a p) _ k)
     says_on (node.choose q a b) p k =
         says_on q p _ ∙ next (mean c g ls q p) _ _ (λ x. ap₂ (chosen x) (says_on a p k) (says_on b p k) ∙ chosen_on x (mean c g ls a p) (mean c g ls b p) k) ∙ sym (assoc (mean c g ls q p) _ k)
     says_on (node.parameter is places ms) p k = start_same ms p.period _ _ (λ day. chooses_on is 0 p _ k) ∙ start_on ms p.period _ k
     says_on (node.scale_sum place ms a) p k = start_same ms p.period _ _ (λ day. says_on a p _ ∙ sym (assoc (mean c g ls a p) _ k)) ∙ start_on ms p.period _ k
-
-    says_two : (op : Value → Value → Dialogue) (a b : Node) (p : Point) (k : After)
-        → says c g E a p (λ x. says c g E b p (λ y. op x y >>= k)) ≡ (mean c g ls a p >>= λ x. mean c g ls b p >>= λ y. op x y) >>= k
-    says_two op a b p k =
-        says_on a p _ ∙ next (mean c g ls a p) _ _ (λ x. says_on b p _ ∙ sym (assoc (mean c g ls b p) (op x) k)) ∙ sym (assoc (mean c g ls a p) _ k)
 
     chooses_on : (is : Indices) (i : ℕ) (p : Point) (f : ℕ → Dialogue) (k : After) → chooses c g E is i p (λ j. f j >>= k) ≡ at_index c g ls is i p f >>= k
     chooses_on no_index i p f k = refl

@@ -1,5 +1,5 @@
 -- A formula with its locals says what it means.
-use Rattle.std.proofs.Common.{◌≡◌, ⊥, ℕ, zero, suc, List, [], ◌∷◌, ◌++◌, length, map, Option, Some, None, eq-eqb, ne_eqb, refl, sym, ap, ◌∙◌, ⊎_elim, slice_get}
+use Rattle.std.proofs.Common.{◌≡◌, ℕ, zero, suc, List, [], ◌∷◌, ◌++◌, length, map, Option, Some, None, eq-eqb, ne_eqb, refl, sym, ap, ◌∙◌, ⊎_elim, slice_get}
 use Rattle.std.proofs.lemmas.Bool.{cases_eq}
 use Rattle.fisca_meaning.specs.Dialogues.{Dialogue, stuck, ◌>>=◌}
 use Rattle.fisca_meaning.specs.Meaning.{Locals, mean, mean_from, local_at}
@@ -33,13 +33,13 @@ step : {X : Type 0} (xs : List X) (y : X) (ys : List X) → xs ++ y ∷ ys ≡ (
 step [] y ys = refl
 step (x ∷ xs) y ys = ap (λ zs. x ∷ zs) (step xs y ys)
 
-pub mean_or : Tables → Groups → Locals → Option Node → Point → Dialogue
+abbrev pub mean_or : Tables → Groups → Locals → Option Node → Point → Dialogue
 mean_or c g ls None = λ q. stuck
 mean_or c g ls (Some e) = λ q. mean c g ls (node e) q
 
 module _ (c : Tables) (g : Groups) (ns : List Node) where
   -- what the first so many locals mean
-  pub means : ℕ → Locals
+  abbrev pub means : ℕ → Locals
   means zero = []
   means (suc n) = means n ++ mean_or c g (means n) (slice_get ns n) ∷ []
 

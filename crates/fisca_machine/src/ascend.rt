@@ -3,7 +3,7 @@
 ghost use Rattle.std.specs.Prelude.{◌≡◌, ◌∷◌, ◌<◌, ◌+◌, IfOk, IfErr, OnOk};
 ghost use Rattle.fisca_inputs.specs.Seen.{value_seen};
 ghost use Rattle.fisca_values.specs.Ended.{IsMoving};
-ghost use Rattle.fisca_machine.specs.Running.{rest, waiting, resume, Told, top};
+ghost use Rattle.fisca_machine.specs.Running.{rest, waiting, resume, Told, top, waits};
 ghost use Rattle.fisca_machine.specs.Weights.{load, stack_weight};
 
 use crate::found::applied;
@@ -25,9 +25,9 @@ impl<'a> Machine<'a> {
     ) -> Result<Control<'a>, Step>
         requires moving { IsMoving (top world.now self.old.locals.now self.old.frame (Pending.Apply operation ∷ self.old.stack) self.old.kept (value_seen value)) }
         ensures same { IfOk result (λ k. resume world.now self.new k ≡ (top world.now self.old.locals.now self.old.frame (Pending.Apply operation ∷ self.old.stack) self.old.kept (value_seen value))) }
-        ensures waits { OnOk result (waiting world.now self.new ≡ waiting world.now self.old) }
+        ensures waits { OnOk result (waiting world.now self.new ≡ (waits world.now self.old.locals.now self.old.frame (Pending.Apply operation ∷ self.old.stack) self.old.kept)) }
         ensures lighter { IfOk result (λ k. load world.now self.new k < stack_weight world.now self.old.locals.now self.old.frame (Pending.Apply operation ∷ self.old.stack) self.old.kept) }
-        ensures stop { IfErr result (λ s. Told s (top world.now self.old.locals.now self.old.frame (Pending.Apply operation ∷ self.old.stack) self.old.kept (value_seen value)) (rest world.now self.new) (waiting world.now self.old) (waiting world.now self.new)) }
+        ensures stop { IfErr result (λ s. Told s (top world.now self.old.locals.now self.old.frame (Pending.Apply operation ∷ self.old.stack) self.old.kept (value_seen value)) (rest world.now self.new) (waits world.now self.old.locals.now self.old.frame (Pending.Apply operation ∷ self.old.stack) self.old.kept) (waiting world.now self.new)) }
     {
         match self.kept.pop() {
             Some(Kept::Value(left)) => {
@@ -49,9 +49,9 @@ impl<'a> Machine<'a> {
     ) -> Result<Control<'a>, Step>
         requires moving { IsMoving (top world.now self.old.locals.now self.old.frame (Pending.Choose left right at ∷ self.old.stack) self.old.kept (value_seen value)) }
         ensures same { IfOk result (λ k. resume world.now self.new k ≡ (top world.now self.old.locals.now self.old.frame (Pending.Choose left.entry right.entry at ∷ self.old.stack) self.old.kept (value_seen value))) }
-        ensures waits { OnOk result (waiting world.now self.new ≡ waiting world.now self.old) }
+        ensures waits { OnOk result (waiting world.now self.new ≡ (waits world.now self.old.locals.now self.old.frame (Pending.Choose left.entry right.entry at ∷ self.old.stack) self.old.kept)) }
         ensures lighter { IfOk result (λ k. load world.now self.new k < stack_weight world.now self.old.locals.now self.old.frame (Pending.Choose left.entry right.entry at ∷ self.old.stack) self.old.kept) }
-        ensures stop { IfErr result (λ s. Told s (top world.now self.old.locals.now self.old.frame (Pending.Choose left.entry right.entry at ∷ self.old.stack) self.old.kept (value_seen value)) (rest world.now self.new) (waiting world.now self.old) (waiting world.now self.new)) }
+        ensures stop { IfErr result (λ s. Told s (top world.now self.old.locals.now self.old.frame (Pending.Choose left.entry right.entry at ∷ self.old.stack) self.old.kept (value_seen value)) (rest world.now self.new) (waits world.now self.old.locals.now self.old.frame (Pending.Choose left.entry right.entry at ∷ self.old.stack) self.old.kept) (waiting world.now self.new)) }
     {
         match value {
             Value::Bool(true) => Ok(Control::Eval(left, at)),
@@ -70,9 +70,9 @@ impl<'a> Machine<'a> {
     ) -> Result<Control<'a>, Step>
         requires moving { IsMoving (top world.now self.old.locals.now self.old.frame (Pending.Return locals declared ∷ self.old.stack) self.old.kept (value_seen value)) }
         ensures same { IfOk result (λ k. resume world.now self.new k ≡ (top world.now self.old.locals.now self.old.frame (Pending.Return locals.entry declared ∷ self.old.stack) self.old.kept (value_seen value))) }
-        ensures waits { OnOk result (waiting world.now self.new ≡ waiting world.now self.old) }
+        ensures waits { OnOk result (waiting world.now self.new ≡ (waits world.now self.old.locals.now self.old.frame (Pending.Return locals.entry declared ∷ self.old.stack) self.old.kept)) }
         ensures lighter { IfOk result (λ k. load world.now self.new k < stack_weight world.now self.old.locals.now self.old.frame (Pending.Return locals.entry declared ∷ self.old.stack) self.old.kept) }
-        ensures stop { IfErr result (λ s. Told s (top world.now self.old.locals.now self.old.frame (Pending.Return locals.entry declared ∷ self.old.stack) self.old.kept (value_seen value)) (rest world.now self.new) (waiting world.now self.old) (waiting world.now self.new)) }
+        ensures stop { IfErr result (λ s. Told s (top world.now self.old.locals.now self.old.frame (Pending.Return locals.entry declared ∷ self.old.stack) self.old.kept (value_seen value)) (rest world.now self.new) (waits world.now self.old.locals.now self.old.frame (Pending.Return locals.entry declared ∷ self.old.stack) self.old.kept) (waiting world.now self.new)) }
     {
         match self.kept.pop() {
             Some(Kept::Frame(frame)) => match cast(declared, value) {
@@ -94,7 +94,7 @@ impl<'a> Machine<'a> {
     ) -> Result<Control<'a>, Step>
         requires moving { IsMoving (rest world.now self.old (value_seen self.old.value)) }
         ensures same { IfOk result (λ k. resume world.now self.new k ≡ (rest world.now self.old (value_seen self.old.value))) }
-        ensures waits { OnOk result (waiting world.now self.new ≡ waiting world.now self.old) }
+        ensures waits { OnOk result (waiting world.now self.new ≡ (waiting world.now self.old)) }
         ensures lighter { IfOk result (λ k. load world.now self.new k < stack_weight world.now self.old.locals.now self.old.frame self.old.stack self.old.kept) }
         ensures stop { IfErr result (λ s. Told s (rest world.now self.old (value_seen self.old.value)) (rest world.now self.new) (waiting world.now self.old) (waiting world.now self.new)) }
     {

@@ -7,7 +7,7 @@ ghost use Rattle.fisca_meaning.specs.Dialogues.{computed, with_number};
 ghost use Rattle.fisca_num.specs.Operations.{sum_of};
 ghost use Rattle.fisca_time.specs.Period.{subs};
 ghost use Rattle.fisca_values.specs.Ended.{IsMoving};
-ghost use Rattle.fisca_machine.specs.Running.{before, rest, waiting, resume, Told, point, top};
+ghost use Rattle.fisca_machine.specs.Running.{before, rest, waiting, resume, Told, point, top, waits};
 ghost use Rattle.fisca_machine.specs.Weights.{load, stack_weight};
 ghost use Rattle.fisca_machine.specs.World.{tables, groups};
 
@@ -35,7 +35,7 @@ impl<'a> Machine<'a> {
         sum: Fraction,
     ) -> Result<Control<'a>, Step>
         ensures same { IfOk result (λ k. resume world.now self.new k ≡ (before (questions.ask_all variable member (drop next (subs period unit)) sum) (rest world.now self.old))) }
-        ensures waits { OnOk result (waiting world.now self.new ≡ waiting world.now self.old) }
+        ensures waits { OnOk result (waiting world.now self.new ≡ (waiting world.now self.old)) }
         ensures lighter { IfOk result (λ k. load world.now self.new k < 1 + stack_weight world.now self.old.locals.now self.old.frame self.old.stack self.old.kept) }
         ensures stop { IfErr result (λ s. Told s (before (questions.ask_all variable member (drop next (subs period unit)) sum) (rest world.now self.old)) (rest world.now self.new) (waiting world.now self.old) (waiting world.now self.new)) }
     {
@@ -69,7 +69,7 @@ impl<'a> Machine<'a> {
         period: Period,
     ) -> Result<Control<'a>, Step>
         ensures same { IfOk result (λ k. resume world.now self.new k ≡ (before (questions.ask_sum variable unit member period) (rest world.now self.old))) }
-        ensures waits { OnOk result (waiting world.now self.new ≡ waiting world.now self.old) }
+        ensures waits { OnOk result (waiting world.now self.new ≡ (waiting world.now self.old)) }
         ensures lighter { IfOk result (λ k. load world.now self.new k < 1 + stack_weight world.now self.old.locals.now self.old.frame self.old.stack self.old.kept) }
         ensures stop { IfErr result (λ s. Told s (before (questions.ask_sum variable unit member period) (rest world.now self.old)) (rest world.now self.new) (waiting world.now self.old) (waiting world.now self.new)) }
     {
@@ -90,7 +90,7 @@ impl<'a> Machine<'a> {
         period: Period,
     ) -> Result<Control<'a>, Step>
         ensures same { IfOk result (λ k. resume world.now self.new k ≡ (before (questions.ask_by asking variable unit member period) (rest world.now self.old))) }
-        ensures waits { OnOk result (waiting world.now self.new ≡ waiting world.now self.old) }
+        ensures waits { OnOk result (waiting world.now self.new ≡ (waiting world.now self.old)) }
         ensures lighter { IfOk result (λ k. load world.now self.new k < 1 + stack_weight world.now self.old.locals.now self.old.frame self.old.stack self.old.kept) }
         ensures stop { IfErr result (λ s. Told s (before (questions.ask_by asking variable unit member period) (rest world.now self.old)) (rest world.now self.new) (waiting world.now self.old) (waiting world.now self.new)) }
     {
@@ -125,7 +125,7 @@ impl<'a> Machine<'a> {
         at: At,
     ) -> Result<Control<'a>, Step>
         ensures same { IfOk result (λ k. resume world.now self.new k ≡ (before (questions.ask_of (groups world.now) (point self.old.frame at) (Whom.Holder role) asking variable unit value_type period) (rest world.now self.old))) }
-        ensures waits { OnOk result (waiting world.now self.new ≡ waiting world.now self.old) }
+        ensures waits { OnOk result (waiting world.now self.new ≡ (waiting world.now self.old)) }
         ensures lighter { IfOk result (λ k. load world.now self.new k < 1 + stack_weight world.now self.old.locals.now self.old.frame self.old.stack self.old.kept) }
         ensures stop { IfErr result (λ s. Told s (before (questions.ask_of (groups world.now) (point self.old.frame at) (Whom.Holder role) asking variable unit value_type period) (rest world.now self.old)) (rest world.now self.new) (waiting world.now self.old) (waiting world.now self.new)) }
     {
@@ -152,7 +152,7 @@ impl<'a> Machine<'a> {
     ) -> Result<Control<'a>, Step>
         requires moving { IsMoving (before (questions.ask_of (groups world.now) (point self.old.frame at) whom asking variable unit value_type period) (rest world.now self.old)) }
         ensures same { IfOk result (λ k. resume world.now self.new k ≡ (before (questions.ask_of (groups world.now) (point self.old.frame at) whom asking variable unit value_type period) (rest world.now self.old))) }
-        ensures waits { OnOk result (waiting world.now self.new ≡ waiting world.now self.old) }
+        ensures waits { OnOk result (waiting world.now self.new ≡ (waiting world.now self.old)) }
         ensures lighter { IfOk result (λ k. load world.now self.new k < 1 + stack_weight world.now self.old.locals.now self.old.frame self.old.stack self.old.kept) }
         ensures stop { IfErr result (λ s. Told s (before (questions.ask_of (groups world.now) (point self.old.frame at) whom asking variable unit value_type period) (rest world.now self.old)) (rest world.now self.new) (waiting world.now self.old) (waiting world.now self.new)) }
     {
@@ -180,7 +180,7 @@ impl<'a> Machine<'a> {
     ) -> Result<Control<'a>, Step>
         requires moving { IsMoving (before (questions.ask_known (groups world.now) (point self.old.frame at) ask.now.whom ask.now.asking ask.now.variable period (slice_get (tables world.now).variables ask.now.variable)) (rest world.now self.old)) }
         ensures same { IfOk result (λ k. resume world.now self.new k ≡ (before (questions.ask_known (groups world.now) (point self.old.frame at) ask.now.whom ask.now.asking ask.now.variable period (slice_get (tables world.now).variables ask.now.variable)) (rest world.now self.old))) }
-        ensures waits { OnOk result (waiting world.now self.new ≡ waiting world.now self.old) }
+        ensures waits { OnOk result (waiting world.now self.new ≡ (waiting world.now self.old)) }
         ensures lighter { IfOk result (λ k. load world.now self.new k < 1 + stack_weight world.now self.old.locals.now self.old.frame self.old.stack self.old.kept) }
         ensures stop { IfErr result (λ s. Told s (before (questions.ask_known (groups world.now) (point self.old.frame at) ask.now.whom ask.now.asking ask.now.variable period (slice_get (tables world.now).variables ask.now.variable)) (rest world.now self.old)) (rest world.now self.new) (waiting world.now self.old) (waiting world.now self.new)) }
     {
@@ -211,7 +211,7 @@ impl<'a> Machine<'a> {
     ) -> Result<Control<'a>, Step>
         requires moving { IsMoving (before (questions.at_period ask.now.moves.items self.old.frame.period (λ q. questions.ask_known (groups world.now) (point self.old.frame at) ask.now.whom ask.now.asking ask.now.variable q (slice_get (tables world.now).variables ask.now.variable))) (rest world.now self.old)) }
         ensures same { IfOk result (λ k. resume world.now self.new k ≡ (before (questions.at_period ask.now.moves.items self.old.frame.period (λ q. questions.ask_known (groups world.now) (point self.old.frame at) ask.now.whom ask.now.asking ask.now.variable q (slice_get (tables world.now).variables ask.now.variable))) (rest world.now self.old))) }
-        ensures waits { OnOk result (waiting world.now self.new ≡ waiting world.now self.old) }
+        ensures waits { OnOk result (waiting world.now self.new ≡ (waiting world.now self.old)) }
         ensures lighter { IfOk result (λ k. load world.now self.new k < 1 + stack_weight world.now self.old.locals.now self.old.frame self.old.stack self.old.kept) }
         ensures stop { IfErr result (λ s. Told s (before (questions.at_period ask.now.moves.items self.old.frame.period (λ q. questions.ask_known (groups world.now) (point self.old.frame at) ask.now.whom ask.now.asking ask.now.variable q (slice_get (tables world.now).variables ask.now.variable))) (rest world.now self.old)) (rest world.now self.new) (waiting world.now self.old) (waiting world.now self.new)) }
     {
@@ -234,7 +234,7 @@ impl<'a> Machine<'a> {
         number: Fraction,
     ) -> Result<Control<'a>, Step>
         ensures same { IfOk result (λ k. resume world.now self.new k ≡ (before ((before (computed (sum_of sum number)) (λ y. with_number y (λ s. questions.ask_all variable member (drop next (subs period unit)) s)))) (rest world.now self.old))) }
-        ensures waits { OnOk result (waiting world.now self.new ≡ waiting world.now self.old) }
+        ensures waits { OnOk result (waiting world.now self.new ≡ (waiting world.now self.old)) }
         ensures lighter { IfOk result (λ k. load world.now self.new k < 1 + stack_weight world.now self.old.locals.now self.old.frame self.old.stack self.old.kept) }
         ensures stop { IfErr result (λ s. Told s (before ((before (computed (sum_of sum number)) (λ y. with_number y (λ s. questions.ask_all variable member (drop next (subs period unit)) s)))) (rest world.now self.old)) (rest world.now self.new) (waiting world.now self.old) (waiting world.now self.new)) }
     {
@@ -256,9 +256,9 @@ impl<'a> Machine<'a> {
     ) -> Result<Control<'a>, Step>
         requires moving { IsMoving (top world.now self.old.locals.now self.old.frame (Pending.Part variable member unit next ∷ self.old.stack) self.old.kept (value_seen value)) }
         ensures same { IfOk result (λ k. resume world.now self.new k ≡ (top world.now self.old.locals.now self.old.frame (Pending.Part variable member unit next ∷ self.old.stack) self.old.kept (value_seen value))) }
-        ensures waits { OnOk result (waiting world.now self.new ≡ waiting world.now self.old) }
+        ensures waits { OnOk result (waiting world.now self.new ≡ (waits world.now self.old.locals.now self.old.frame (Pending.Part variable member unit next ∷ self.old.stack) self.old.kept)) }
         ensures lighter { IfOk result (λ k. load world.now self.new k < stack_weight world.now self.old.locals.now self.old.frame (Pending.Part variable member unit next ∷ self.old.stack) self.old.kept) }
-        ensures stop { IfErr result (λ s. Told s (top world.now self.old.locals.now self.old.frame (Pending.Part variable member unit next ∷ self.old.stack) self.old.kept (value_seen value)) (rest world.now self.new) (waiting world.now self.old) (waiting world.now self.new)) }
+        ensures stop { IfErr result (λ s. Told s (top world.now self.old.locals.now self.old.frame (Pending.Part variable member unit next ∷ self.old.stack) self.old.kept (value_seen value)) (rest world.now self.new) (waits world.now self.old.locals.now self.old.frame (Pending.Part variable member unit next ∷ self.old.stack) self.old.kept) (waiting world.now self.new)) }
     {
         match self.kept.pop() {
             Some(Kept::Sum(PartSum { period, sum })) => match value {

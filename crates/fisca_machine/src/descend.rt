@@ -51,7 +51,7 @@ impl<'a> Machine<'a> {
         outcome: Result<Value, Fault>,
     ) -> Result<Control<'a>, Step>
         ensures same { IfOk result (λ k. resume world.now self.new k ≡ (before (ended outcome) (rest world.now self.old))) }
-        ensures waits { OnOk result (waiting world.now self.new ≡ waiting world.now self.old) }
+        ensures waits { OnOk result (waiting world.now self.new ≡ (waiting world.now self.old)) }
         ensures lighter { IfOk result (λ k. load world.now self.new k < 1 + stack_weight world.now self.old.locals.now self.old.frame self.old.stack self.old.kept) }
         ensures stop { IfErr result (λ s. Told s (before (ended outcome) (rest world.now self.old)) (rest world.now self.new) (waiting world.now self.old) (waiting world.now self.new)) }
     {
@@ -73,7 +73,7 @@ impl<'a> Machine<'a> {
         at: At,
     ) -> Result<Control<'a>, Step>
         ensures same { IfOk result (λ k. resume world.now self.new k ≡ (saying world.now self.old.locals.now self.old.frame pair.now.left at (λ v. saying world.now self.old.locals.now self.old.frame pair.now.right at (λ y. before (applied operation v y) (rest world.now self.old))))) }
-        ensures waits { OnOk result (waiting world.now self.new ≡ waiting world.now self.old) }
+        ensures waits { OnOk result (waiting world.now self.new ≡ (waiting world.now self.old)) }
         ensures lighter { IfOk result (λ k. load world.now self.new k < weighing world.now self.old.locals.now self.old.frame pair.now.left at + (weighing world.now self.old.locals.now self.old.frame pair.now.right at + 3) + stack_weight world.now self.old.locals.now self.old.frame self.old.stack self.old.kept) }
         ensures stop { IfErr result (λ s. Told s (saying world.now self.old.locals.now self.old.frame pair.now.left at (λ v. saying world.now self.old.locals.now self.old.frame pair.now.right at (λ y. before (applied operation v y) (rest world.now self.old)))) (rest world.now self.new) (waiting world.now self.old) (waiting world.now self.new)) }
     {
@@ -92,7 +92,7 @@ impl<'a> Machine<'a> {
         at: At,
     ) -> Result<Control<'a>, Step>
         ensures same { IfOk result (λ k. resume world.now self.new k ≡ (saying world.now self.old.locals.now self.old.frame condition.now at (λ v. chosen v (saying world.now self.old.locals.now self.old.frame pair.now.left at (rest world.now self.old)) (saying world.now self.old.locals.now self.old.frame pair.now.right at (rest world.now self.old))))) }
-        ensures waits { OnOk result (waiting world.now self.new ≡ waiting world.now self.old) }
+        ensures waits { OnOk result (waiting world.now self.new ≡ (waiting world.now self.old)) }
         ensures lighter { IfOk result (λ k. load world.now self.new k < weighing world.now self.old.locals.now self.old.frame condition.now at + (weighing world.now self.old.locals.now self.old.frame pair.now.left at + weighing world.now self.old.locals.now self.old.frame pair.now.right at + 2) + stack_weight world.now self.old.locals.now self.old.frame self.old.stack self.old.kept) }
         ensures stop { IfErr result (λ s. Told s (saying world.now self.old.locals.now self.old.frame condition.now at (λ v. chosen v (saying world.now self.old.locals.now self.old.frame pair.now.left at (rest world.now self.old)) (saying world.now self.old.locals.now self.old.frame pair.now.right at (rest world.now self.old)))) (rest world.now self.new) (waiting world.now self.old) (waiting world.now self.new)) }
     {
@@ -111,7 +111,7 @@ impl<'a> Machine<'a> {
     ) -> Result<Control<'a>, Step>
         requires moving { IsMoving (says_below (tables world.now) (groups world.now) self.old.locals.now at.visible place (point self.old.frame at) (rest world.now self.old)) }
         ensures same { IfOk result (λ k. resume world.now self.new k ≡ (says_below (tables world.now) (groups world.now) self.old.locals.now at.visible place (point self.old.frame at) (rest world.now self.old))) }
-        ensures waits { OnOk result (waiting world.now self.new ≡ waiting world.now self.old) }
+        ensures waits { OnOk result (waiting world.now self.new ≡ (waiting world.now self.old)) }
         ensures lighter { IfOk result (λ k. load world.now self.new k < 1 + weight_below (groups world.now) self.old.frame self.old.locals.now at.visible place + stack_weight world.now self.old.locals.now self.old.frame self.old.stack self.old.kept) }
         ensures stop { IfErr result (λ s. Told s (says_below (tables world.now) (groups world.now) self.old.locals.now at.visible place (point self.old.frame at) (rest world.now self.old)) (rest world.now self.new) (waiting world.now self.old) (waiting world.now self.new)) }
     {
@@ -133,7 +133,7 @@ impl<'a> Machine<'a> {
     ) -> Result<Control<'a>, Step>
         requires moving { IsMoving (saying world.now self.old.locals.now self.old.frame node.now at (rest world.now self.old)) }
         ensures same { IfOk result (λ k. resume world.now self.new k ≡ (saying world.now self.old.locals.now self.old.frame node.now at (rest world.now self.old))) }
-        ensures waits { OnOk result (waiting world.now self.new ≡ waiting world.now self.old) }
+        ensures waits { OnOk result (waiting world.now self.new ≡ (waiting world.now self.old)) }
         ensures lighter { IfOk result (λ k. load world.now self.new k < load world.now self.old (Control.Eval node.entry at)) }
         ensures stop { IfErr result (λ s. Told s (saying world.now self.old.locals.now self.old.frame node.now at (rest world.now self.old)) (rest world.now self.new) (waiting world.now self.old) (waiting world.now self.new)) }
     {

@@ -7,7 +7,7 @@ ghost use Rattle.fisca_meaning.specs.Questions.{at_start};
 ghost use Rattle.fisca_params.specs.Lookup.{sum_in};
 ghost use Rattle.fisca_params.specs.Tree.{content_at};
 ghost use Rattle.fisca_values.specs.Ended.{IsMoving};
-ghost use Rattle.fisca_machine.specs.Running.{before, rest, waiting, resume, Told, saying, choosing, from, parametric, chosen_parameter, scale_by, top};
+ghost use Rattle.fisca_machine.specs.Running.{before, rest, waiting, resume, Told, saying, choosing, from, parametric, chosen_parameter, scale_by, top, waits};
 ghost use Rattle.fisca_machine.specs.Weights.{load, stack_weight, weighing, indices_weighing};
 ghost use Rattle.fisca_machine.specs.World.{tables};
 
@@ -39,7 +39,7 @@ impl<'a> Machine<'a> {
     ) -> Result<Control<'a>, Step>
         requires moving { IsMoving (before (chosen_parameter (tables world.now) (parametric x.now).places day chosen) (rest world.now self.old)) }
         ensures same { IfOk result (λ k. resume world.now self.new k ≡ (before (chosen_parameter (tables world.now) (parametric x.now).places day chosen) (rest world.now self.old))) }
-        ensures waits { OnOk result (waiting world.now self.new ≡ waiting world.now self.old) }
+        ensures waits { OnOk result (waiting world.now self.new ≡ (waiting world.now self.old)) }
         ensures lighter { IfOk result (λ k. load world.now self.new k < 1 + stack_weight world.now self.old.locals.now self.old.frame self.old.stack self.old.kept) }
         ensures stop { IfErr result (λ s. Told s (before (chosen_parameter (tables world.now) (parametric x.now).places day chosen) (rest world.now self.old)) (rest world.now self.new) (waiting world.now self.old) (waiting world.now self.new)) }
     {
@@ -67,7 +67,7 @@ impl<'a> Machine<'a> {
     ) -> Result<Control<'a>, Step>
         requires moving { IsMoving (choosing world.now self.old.locals.now self.old.frame (from next (parametric x.now).indices) chosen at (λ j. before (chosen_parameter (tables world.now) (parametric x.now).places day j) (rest world.now self.old))) }
         ensures same { IfOk result (λ k. resume world.now self.new k ≡ (choosing world.now self.old.locals.now self.old.frame (from next (parametric x.now).indices) chosen at (λ j. before (chosen_parameter (tables world.now) (parametric x.now).places day j) (rest world.now self.old)))) }
-        ensures waits { OnOk result (waiting world.now self.new ≡ waiting world.now self.old) }
+        ensures waits { OnOk result (waiting world.now self.new ≡ (waiting world.now self.old)) }
         ensures lighter { IfOk result (λ k. load world.now self.new k < indices_weighing world.now self.old.locals.now self.old.frame (from next (parametric x.now).indices) at + stack_weight world.now self.old.locals.now self.old.frame self.old.stack self.old.kept) }
         ensures stop { IfErr result (λ s. Told s (choosing world.now self.old.locals.now self.old.frame (from next (parametric x.now).indices) chosen at (λ j. before (chosen_parameter (tables world.now) (parametric x.now).places day j) (rest world.now self.old))) (rest world.now self.new) (waiting world.now self.old) (waiting world.now self.new)) }
     {
@@ -97,9 +97,9 @@ impl<'a> Machine<'a> {
     ) -> Result<Control<'a>, Step>
         requires moving { IsMoving (top world.now self.old.locals.now self.old.frame (Pending.Index x next chosen at ∷ self.old.stack) self.old.kept (value_seen value)) }
         ensures same { IfOk result (λ k. resume world.now self.new k ≡ (top world.now self.old.locals.now self.old.frame (Pending.Index x.entry next chosen at ∷ self.old.stack) self.old.kept (value_seen value))) }
-        ensures waits { OnOk result (waiting world.now self.new ≡ waiting world.now self.old) }
+        ensures waits { OnOk result (waiting world.now self.new ≡ (waits world.now self.old.locals.now self.old.frame (Pending.Index x.entry next chosen at ∷ self.old.stack) self.old.kept)) }
         ensures lighter { IfOk result (λ k. load world.now self.new k < stack_weight world.now self.old.locals.now self.old.frame (Pending.Index x.entry next chosen at ∷ self.old.stack) self.old.kept) }
-        ensures stop { IfErr result (λ s. Told s (top world.now self.old.locals.now self.old.frame (Pending.Index x.entry next chosen at ∷ self.old.stack) self.old.kept (value_seen value)) (rest world.now self.new) (waiting world.now self.old) (waiting world.now self.new)) }
+        ensures stop { IfErr result (λ s. Told s (top world.now self.old.locals.now self.old.frame (Pending.Index x.entry next chosen at ∷ self.old.stack) self.old.kept (value_seen value)) (rest world.now self.new) (waits world.now self.old.locals.now self.old.frame (Pending.Index x.entry next chosen at ∷ self.old.stack) self.old.kept) (waiting world.now self.new)) }
     {
         match self.kept.pop() {
             Some(Kept::Day(Day { date: day })) => match value {
@@ -125,7 +125,7 @@ impl<'a> Machine<'a> {
     ) -> Result<Control<'a>, Step>
         requires moving { IsMoving (at_start (parametric x.now).moves self.old.frame.period (λ day. choosing world.now self.old.locals.now self.old.frame (parametric x.now).indices 0 at (λ j. before (chosen_parameter (tables world.now) (parametric x.now).places day j) (rest world.now self.old)))) }
         ensures same { IfOk result (λ k. resume world.now self.new k ≡ (at_start (parametric x.now).moves self.old.frame.period (λ day. choosing world.now self.old.locals.now self.old.frame (parametric x.now).indices 0 at (λ j. before (chosen_parameter (tables world.now) (parametric x.now).places day j) (rest world.now self.old))))) }
-        ensures waits { OnOk result (waiting world.now self.new ≡ waiting world.now self.old) }
+        ensures waits { OnOk result (waiting world.now self.new ≡ (waiting world.now self.old)) }
         ensures lighter { IfOk result (λ k. load world.now self.new k < 1 + (indices_weighing world.now self.old.locals.now self.old.frame (parametric x.now).indices at + stack_weight world.now self.old.locals.now self.old.frame self.old.stack self.old.kept)) }
         ensures stop { IfErr result (λ s. Told s (at_start (parametric x.now).moves self.old.frame.period (λ day. choosing world.now self.old.locals.now self.old.frame (parametric x.now).indices 0 at (λ j. before (chosen_parameter (tables world.now) (parametric x.now).places day j) (rest world.now self.old)))) (rest world.now self.new) (waiting world.now self.old) (waiting world.now self.new)) }
     {
@@ -146,7 +146,7 @@ impl<'a> Machine<'a> {
         at: At,
     ) -> Result<Control<'a>, Step>
         ensures same { IfOk result (λ k. resume world.now self.new k ≡ (at_start x.now.moves.items self.old.frame.period (λ day. saying world.now self.old.locals.now self.old.frame x.now.base at (λ v. before (scale_by (tables world.now) x.now.place day v) (rest world.now self.old))))) }
-        ensures waits { OnOk result (waiting world.now self.new ≡ waiting world.now self.old) }
+        ensures waits { OnOk result (waiting world.now self.new ≡ (waiting world.now self.old)) }
         ensures lighter { IfOk result (λ k. load world.now self.new k < weighing world.now self.old.locals.now self.old.frame x.now.base at + 2 + stack_weight world.now self.old.locals.now self.old.frame self.old.stack self.old.kept) }
         ensures stop { IfErr result (λ s. Told s (at_start x.now.moves.items self.old.frame.period (λ day. saying world.now self.old.locals.now self.old.frame x.now.base at (λ v. before (scale_by (tables world.now) x.now.place day v) (rest world.now self.old)))) (rest world.now self.new) (waiting world.now self.old) (waiting world.now self.new)) }
     {
@@ -176,7 +176,7 @@ impl<'a> Machine<'a> {
         number: Fraction,
     ) -> Result<Control<'a>, Step>
         ensures same { IfOk result (λ k. resume world.now self.new k ≡ (before (scale_value (sum_in (content_at (tables world.now).nodes x.now.place) day number)) (rest world.now self.old))) }
-        ensures waits { OnOk result (waiting world.now self.new ≡ waiting world.now self.old) }
+        ensures waits { OnOk result (waiting world.now self.new ≡ (waiting world.now self.old)) }
         ensures lighter { IfOk result (λ k. load world.now self.new k < 1 + stack_weight world.now self.old.locals.now self.old.frame self.old.stack self.old.kept) }
         ensures stop { IfErr result (λ s. Told s (before (scale_value (sum_in (content_at (tables world.now).nodes x.now.place) day number)) (rest world.now self.old)) (rest world.now self.new) (waiting world.now self.old) (waiting world.now self.new)) }
     {
@@ -198,9 +198,9 @@ impl<'a> Machine<'a> {
     ) -> Result<Control<'a>, Step>
         requires moving { IsMoving (top world.now self.old.locals.now self.old.frame (Pending.Scale x ∷ self.old.stack) self.old.kept (value_seen value)) }
         ensures same { IfOk result (λ k. resume world.now self.new k ≡ (top world.now self.old.locals.now self.old.frame (Pending.Scale x.entry ∷ self.old.stack) self.old.kept (value_seen value))) }
-        ensures waits { OnOk result (waiting world.now self.new ≡ waiting world.now self.old) }
+        ensures waits { OnOk result (waiting world.now self.new ≡ (waits world.now self.old.locals.now self.old.frame (Pending.Scale x.entry ∷ self.old.stack) self.old.kept)) }
         ensures lighter { IfOk result (λ k. load world.now self.new k < stack_weight world.now self.old.locals.now self.old.frame (Pending.Scale x.entry ∷ self.old.stack) self.old.kept) }
-        ensures stop { IfErr result (λ s. Told s (top world.now self.old.locals.now self.old.frame (Pending.Scale x.entry ∷ self.old.stack) self.old.kept (value_seen value)) (rest world.now self.new) (waiting world.now self.old) (waiting world.now self.new)) }
+        ensures stop { IfErr result (λ s. Told s (top world.now self.old.locals.now self.old.frame (Pending.Scale x.entry ∷ self.old.stack) self.old.kept (value_seen value)) (rest world.now self.new) (waits world.now self.old.locals.now self.old.frame (Pending.Scale x.entry ∷ self.old.stack) self.old.kept) (waiting world.now self.new)) }
     {
         match self.kept.pop() {
             Some(Kept::Day(Day { date: day })) => match value {

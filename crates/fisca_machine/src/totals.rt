@@ -5,7 +5,7 @@ ghost use Rattle.fisca_inputs.specs.Seen.{value_seen};
 ghost use Rattle.fisca_values.specs.Ended.{IsMoving};
 ghost use Rattle.fisca_values.specs.Persons.{persons_from};
 ghost use Rattle.fisca_values.specs.Totals.{step_of};
-ghost use Rattle.fisca_machine.specs.Running.{rest, waiting, resume, Told, saying_for, turn_then, first_then, total_then, top};
+ghost use Rattle.fisca_machine.specs.Running.{rest, waiting, resume, Told, saying_for, turn_then, first_then, total_then, top, waits};
 ghost use Rattle.fisca_machine.specs.Weights.{load, stack_weight, weighing, persons_weight};
 ghost use Rattle.fisca_machine.specs.World.{groups};
 
@@ -30,7 +30,7 @@ impl<'a> Machine<'a> {
         at: At,
     ) -> Result<Control<'a>, Step>
         ensures same { IfOk result (λ k. resume world.now self.new k ≡ (turn_then (step_of total) (saying_for world.now self.old.locals.now self.old.frame x.now.values at) (persons_from (groups world.now) self.old.frame.entity self.old.frame.member x.now.role next) (value_seen sum) (rest world.now self.old))) }
-        ensures waits { OnOk result (waiting world.now self.new ≡ waiting world.now self.old) }
+        ensures waits { OnOk result (waiting world.now self.new ≡ (waiting world.now self.old)) }
         ensures lighter { IfOk result (λ k. load world.now self.new k < persons_weight (weighing world.now self.old.locals.now self.old.frame x.now.values at) (persons_from (groups world.now) self.old.frame.entity self.old.frame.member x.now.role next) + stack_weight world.now self.old.locals.now self.old.frame self.old.stack self.old.kept) }
         ensures stop { IfErr result (λ s. Told s (turn_then (step_of total) (saying_for world.now self.old.locals.now self.old.frame x.now.values at) (persons_from (groups world.now) self.old.frame.entity self.old.frame.member x.now.role next) (value_seen sum) (rest world.now self.old)) (rest world.now self.new) (waiting world.now self.old) (waiting world.now self.new)) }
     {
@@ -60,7 +60,7 @@ impl<'a> Machine<'a> {
         at: At,
     ) -> Result<Control<'a>, Step>
         ensures same { IfOk result (λ k. resume world.now self.new k ≡ (first_then (step_of total) (saying_for world.now self.old.locals.now self.old.frame x.now.values at) (persons_from (groups world.now) self.old.frame.entity self.old.frame.member x.now.role 0) (rest world.now self.old))) }
-        ensures waits { OnOk result (waiting world.now self.new ≡ waiting world.now self.old) }
+        ensures waits { OnOk result (waiting world.now self.new ≡ (waiting world.now self.old)) }
         ensures lighter { IfOk result (λ k. load world.now self.new k < persons_weight (weighing world.now self.old.locals.now self.old.frame x.now.values at) (persons_from (groups world.now) self.old.frame.entity self.old.frame.member x.now.role 0) + stack_weight world.now self.old.locals.now self.old.frame self.old.stack self.old.kept) }
         ensures stop { IfErr result (λ s. Told s (first_then (step_of total) (saying_for world.now self.old.locals.now self.old.frame x.now.values at) (persons_from (groups world.now) self.old.frame.entity self.old.frame.member x.now.role 0) (rest world.now self.old)) (rest world.now self.new) (waiting world.now self.old) (waiting world.now self.new)) }
     {
@@ -84,7 +84,7 @@ impl<'a> Machine<'a> {
         at: At,
     ) -> Result<Control<'a>, Step>
         ensures same { IfOk result (λ k. resume world.now self.new k ≡ (total_then total (saying_for world.now self.old.locals.now self.old.frame x.now.values at) (persons_from (groups world.now) self.old.frame.entity self.old.frame.member x.now.role 0) (rest world.now self.old))) }
-        ensures waits { OnOk result (waiting world.now self.new ≡ waiting world.now self.old) }
+        ensures waits { OnOk result (waiting world.now self.new ≡ (waiting world.now self.old)) }
         ensures lighter { IfOk result (λ k. load world.now self.new k < 1 + (persons_weight (weighing world.now self.old.locals.now self.old.frame x.now.values at) (persons_from (groups world.now) self.old.frame.entity self.old.frame.member x.now.role 0) + stack_weight world.now self.old.locals.now self.old.frame self.old.stack self.old.kept)) }
         ensures stop { IfErr result (λ s. Told s (total_then total (saying_for world.now self.old.locals.now self.old.frame x.now.values at) (persons_from (groups world.now) self.old.frame.entity self.old.frame.member x.now.role 0) (rest world.now self.old)) (rest world.now self.new) (waiting world.now self.old) (waiting world.now self.new)) }
     {
@@ -106,9 +106,9 @@ impl<'a> Machine<'a> {
     ) -> Result<Control<'a>, Step>
         requires moving { IsMoving (top world.now self.old.locals.now self.old.frame (Pending.Turn total x next at ∷ self.old.stack) self.old.kept (value_seen value)) }
         ensures same { IfOk result (λ k. resume world.now self.new k ≡ (top world.now self.old.locals.now self.old.frame (Pending.Turn total x.entry next at ∷ self.old.stack) self.old.kept (value_seen value))) }
-        ensures waits { OnOk result (waiting world.now self.new ≡ waiting world.now self.old) }
+        ensures waits { OnOk result (waiting world.now self.new ≡ (waits world.now self.old.locals.now self.old.frame (Pending.Turn total x.entry next at ∷ self.old.stack) self.old.kept)) }
         ensures lighter { IfOk result (λ k. load world.now self.new k < stack_weight world.now self.old.locals.now self.old.frame (Pending.Turn total x.entry next at ∷ self.old.stack) self.old.kept) }
-        ensures stop { IfErr result (λ s. Told s (top world.now self.old.locals.now self.old.frame (Pending.Turn total x.entry next at ∷ self.old.stack) self.old.kept (value_seen value)) (rest world.now self.new) (waiting world.now self.old) (waiting world.now self.new)) }
+        ensures stop { IfErr result (λ s. Told s (top world.now self.old.locals.now self.old.frame (Pending.Turn total x.entry next at ∷ self.old.stack) self.old.kept (value_seen value)) (rest world.now self.new) (waits world.now self.old.locals.now self.old.frame (Pending.Turn total x.entry next at ∷ self.old.stack) self.old.kept) (waiting world.now self.new)) }
     {
         match self.kept.pop() {
             Some(Kept::Value(sum)) => match stepped(total, sum, value) {
@@ -131,9 +131,9 @@ impl<'a> Machine<'a> {
     ) -> Result<Control<'a>, Step>
         requires moving { IsMoving (top world.now self.old.locals.now self.old.frame (Pending.First total x next at ∷ self.old.stack) self.old.kept (value_seen value)) }
         ensures same { IfOk result (λ k. resume world.now self.new k ≡ (top world.now self.old.locals.now self.old.frame (Pending.First total x.entry next at ∷ self.old.stack) self.old.kept (value_seen value))) }
-        ensures waits { OnOk result (waiting world.now self.new ≡ waiting world.now self.old) }
+        ensures waits { OnOk result (waiting world.now self.new ≡ (waits world.now self.old.locals.now self.old.frame (Pending.First total x.entry next at ∷ self.old.stack) self.old.kept)) }
         ensures lighter { IfOk result (λ k. load world.now self.new k < stack_weight world.now self.old.locals.now self.old.frame (Pending.First total x.entry next at ∷ self.old.stack) self.old.kept) }
-        ensures stop { IfErr result (λ s. Told s (top world.now self.old.locals.now self.old.frame (Pending.First total x.entry next at ∷ self.old.stack) self.old.kept (value_seen value)) (rest world.now self.new) (waiting world.now self.old) (waiting world.now self.new)) }
+        ensures stop { IfErr result (λ s. Told s (top world.now self.old.locals.now self.old.frame (Pending.First total x.entry next at ∷ self.old.stack) self.old.kept (value_seen value)) (rest world.now self.new) (waits world.now self.old.locals.now self.old.frame (Pending.First total x.entry next at ∷ self.old.stack) self.old.kept) (waiting world.now self.new)) }
     {
         match value {
             Value::Number(number) => self.turn(world, total, x, next, Value::Number(number), at),

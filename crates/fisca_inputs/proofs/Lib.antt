@@ -11,4 +11,5 @@ pub mod SharedLaws
 pub mod Shares
 pub mod Steps
 pub mod Sums
+pub mod Typed
 mod Worked

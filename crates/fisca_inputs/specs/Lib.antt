@@ -9,3 +9,4 @@ pub mod Rules
 pub mod Seen
 pub mod Sharing
 pub mod Totals
+pub mod Typed

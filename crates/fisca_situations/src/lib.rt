@@ -2,6 +2,7 @@
 #![tactic(auto)]
 
 mod given;
+mod law;
 mod place;
 mod reading;
 mod said;
@@ -9,6 +10,7 @@ mod sections;
 mod situation;
 mod variables;
 
+pub use law::inputs_are_of_their_types;
 pub use reading::{Reading, reading_of};
 pub use said::{Said, said_of};
 pub use situation::Situation;

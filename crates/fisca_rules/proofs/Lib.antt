@@ -1,4 +1,5 @@
 mod Built
+mod Defaults
 pub mod Each
 mod Members
 mod Named

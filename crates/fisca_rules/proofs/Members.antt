@@ -43,7 +43,7 @@ then_ok (Err e) f y h = cc
 same_ok : {X E F : Type 0} {x y : X} → ◌≡◌ {A = Result X E} (Ok x) (Ok y) → ◌≡◌ {A = Result X F} (Ok x) (Ok y)
 same_ok {x = x} {y = y} h = let same : x ≡ y = cc in ap (λ z. Ok z) same
 
-told_ok : {X : Type 0} (place line : ℕ) (r : Result X Kind) (x : X) → told_at place line r ≡ Ok x → r ≡ Ok x
+pub told_ok : {X : Type 0} (place line : ℕ) (r : Result X Kind) (x : X) → told_at place line r ≡ Ok x → r ≡ Ok x
 told_ok place line (Ok x) y h = same_ok h
 told_ok place line (Err k) y h = cc
 
@@ -86,7 +86,7 @@ position_step : (b : Bool) (i e n : ℕ) (rest : Option ℕ) → (if b then Some
 position_step true i e n rest h k = let same : i ≡ e = cc in omega (arith, same)
 position_step false i e n rest h k = let later = k h in omega (arith, later)
 
-position_inside : {X : Type 0} (test : X → Bool) (i : ℕ) (xs : List X) (e : ℕ) → position_from test i xs ≡ Some e → e < i + length xs
+pub position_inside : {X : Type 0} (test : X → Bool) (i : ℕ) (xs : List X) (e : ℕ) → position_from test i xs ≡ Some e → e < i + length xs
 position_inside test i [] e h = cc
 position_inside test i (x ∷ xs) e h = position_step (test x) i e (length xs) (position_from test (i + 1) xs) h (λ k. position_inside test (i + 1) xs e k)
 
@@ -142,7 +142,7 @@ made_ok n v (Ok b) (Ok s) make keeps inside h = let same : make b s ≡ v = cc i
 made_ok n v (Ok b) (Err k) make keeps inside h = cc
 made_ok n v (Err k) told make keeps inside h = cc
 
-abbrev made : ℕ → ℕ → List ℕ → List Item → Basics → Told → Written
+abbrev pub made : ℕ → ℕ → List ℕ → List Item → Basics → Told → Written
 made place line n xs basics told = record {
   «module» = place;
   line = line;
@@ -171,14 +171,14 @@ inside_and : (n : ℕ) (vs : List Written) (v : Written) → AllInside n vs → 
 inside_and n [] v h k = (k, tt)
 inside_and n (w ∷ vs) v h k = (h.0, inside_and n vs v h.1 k)
 
-unless_keeps : (b : Bool) (f x : Found) (es : List Entity) → ◌≡◌ {A = Result Found Kind} (if b then bad_attribute else Ok (record f { entities = es })) (Ok x) → f.variables ≡ x.variables
+pub unless_keeps : (b : Bool) (f x : Found) (es : List Entity) → ◌≡◌ {A = Result Found Kind} (if b then bad_attribute else Ok (record f { entities = es })) (Ok x) → f.variables ≡ x.variables
 unless_keeps true f x es q = cc
 unless_keeps false f x es q = let same : record f { entities = es } ≡ x = cc in ap (λ (g : Found). g.variables) same
 
-entity_keeps : (f x : Found) (o : Result Entity Kind) → and_then o (with_entity f) ≡ Ok x → f.variables ≡ x.variables
+pub entity_keeps : (f x : Found) (o : Result Entity Kind) → and_then o (with_entity f) ≡ Ok x → f.variables ≡ x.variables
 entity_keeps f x o q = let one = then_ok o (with_entity f) x q in unless_keeps _ f x (f.entities ++ one.0 ∷ []) one.2
 
-same_found : {X : Type 0} (o : Result X BuildFault) (f x : Found) → and_then o (λ _. Ok f) ≡ Ok x → f.variables ≡ x.variables
+pub same_found : {X : Type 0} (o : Result X BuildFault) (f x : Found) → and_then o (λ _. Ok f) ≡ Ok x → f.variables ≡ x.variables
 same_found o f x q = let one = then_ok o (λ _. Ok f) x q in let same : f ≡ x = cc in ap (λ (g : Found). g.variables) same
 
 variable_step : (c : Declared) (ps : List Placed) (f g : Found) (place : ℕ) (s : Statement) →
@@ -222,7 +222,7 @@ variable_at n [] v e k h = cc
 variable_at n (w ∷ vs) zero e k h = typed_inside n w.value_type e k.0 h
 variable_at n (w ∷ vs) (suc v) e k h = variable_at n vs v e k.1 h
 
-person_keeps : (b : Bool) (f g : Found) → ◌≡◌ {A = Result Found BuildFault} (if b then Ok f else fault_at 0 1 kind.BadAttribute) (Ok g) → f ≡ g
+pub person_keeps : (b : Bool) (f g : Found) → ◌≡◌ {A = Result Found BuildFault} (if b then Ok f else fault_at 0 1 kind.BadAttribute) (Ok g) → f ≡ g
 person_keeps true f g q = cc
 person_keeps false f g q = cc
 

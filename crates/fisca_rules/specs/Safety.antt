@@ -1,13 +1,17 @@
--- Rule sets whose formulas are never stuck.
-use Rattle.std.specs.Prelude.{◌≡◌, ⊤, List, [], ◌∷◌, Some}
+-- Rule sets whose formulas are never stuck, and whose defaults are of their types.
+use Rattle.std.specs.Prelude.{◌≡◌, ⊤, ℕ, List, [], ◌∷◌, length, nat_lt, slice_get, Bool, true, false, Some, None}
 use Rattle.fisca_meaning.specs.Meaning.{formula_means}
 use Rattle.fisca_meaning.specs.Questions.{Groups, Point}
 use Rattle.fisca_meaning.specs.Safe.{IsSafe}
 use Rattle.fisca_meaning.specs.Wellformed.{before_cast}
 use Rattle.fisca_tables.specs.KnownVariables.{value_type}
+use Rattle.fisca_tables.specs.declared.variable.DeclaredType.{DeclaredType}
+use Rattle.fisca_tables.specs.declared.variable.DeclaredType.TheVariants as type
+use Rattle.fisca_tables.specs.declared.variable.DefaultValue.{DefaultValue}
+use Rattle.fisca_tables.specs.declared.variable.DefaultValue.TheVariants as default
 use Rattle.fisca_typing.specs.declared.kinds.ValueType.{ValueType}
-use Rattle.fisca_typing.specs.Tables.{Tables}
-use Rattle.fisca_variables.specs.VariableForms.{Written}
+use Rattle.fisca_typing.specs.Tables.{Choices, Tables, members_of}
+use Rattle.fisca_variables.specs.VariableForms.{Written, is_int}
 use Rattle.fisca_rules.specs.Rules.{Dated, Rules, known_by}
 
 -- As long as its questions are answered by values of the variables' types, a formula of this variable gives a value of its type, before
@@ -28,3 +32,77 @@ EachNeverStuck c (v ∷ vs) (ds ∷ more) = AllNeverStuck c v ds × EachNeverStu
 
 abbrev pub AreNeverStuck : Rules → Type 0
 AreNeverStuck r = EachNeverStuck (known_by r) r.variables r.formulas
+
+-- Defaults
+
+abbrev pub is_number : DefaultValue → Bool
+is_number (default.Number n) = true
+is_number (default.Bool b) = false
+is_number (default.Member i) = false
+is_number (default.Date d) = false
+is_number (default.Text t) = false
+
+-- a whole number of 32 bits
+abbrev pub is_whole : DefaultValue → Bool
+is_whole (default.Number n) = is_int n
+is_whole (default.Bool b) = false
+is_whole (default.Member i) = false
+is_whole (default.Date d) = false
+is_whole (default.Text t) = false
+
+abbrev pub is_bool : DefaultValue → Bool
+is_bool (default.Number n) = false
+is_bool (default.Bool b) = true
+is_bool (default.Member i) = false
+is_bool (default.Date d) = false
+is_bool (default.Text t) = false
+
+abbrev pub is_date : DefaultValue → Bool
+is_date (default.Number n) = false
+is_date (default.Bool b) = false
+is_date (default.Member i) = false
+is_date (default.Date d) = true
+is_date (default.Text t) = false
+
+abbrev pub is_text : DefaultValue → Bool
+is_text (default.Number n) = false
+is_text (default.Bool b) = false
+is_text (default.Member i) = false
+is_text (default.Date d) = false
+is_text (default.Text t) = true
+
+-- one of so many members
+abbrev pub is_member : ℕ → DefaultValue → Bool
+is_member n (default.Number x) = false
+is_member n (default.Bool b) = false
+is_member n (default.Member i) = nat_lt i n
+is_member n (default.Date d) = false
+is_member n (default.Text t) = false
+
+-- a default of this type, where there are these Enums
+abbrev pub is_default : List Choices → DeclaredType → DefaultValue → Bool
+is_default es type.Float d = is_number d
+is_default es type.Int d = is_whole d
+is_default es type.Bool d = is_bool d
+is_default es type.Date d = is_date d
+is_default es type.Text d = is_text d
+is_default es (type.Enum e) d = is_member (length (members_of (slice_get es e))) d
+
+abbrev pub AllDefaultsFit : List Choices → List Written → Type 0
+AllDefaultsFit es [] = ⊤
+AllDefaultsFit es (v ∷ vs) = (is_default es v.value_type v.default_value ≡ true) × AllDefaultsFit es vs
+
+abbrev pub DefaultsFit : Rules → Type 0
+DefaultsFit r = AllDefaultsFit (known_by r).enums r.variables
+
+-- Days and texts
+
+-- what no formula works out has none
+abbrev pub AreUncomputed : List Written → List (List Dated) → Type 0
+AreUncomputed [] [] = ⊤
+AreUncomputed [] (ds ∷ more) = ⊥
+AreUncomputed (v ∷ vs) [] = ⊥
+AreUncomputed (v ∷ vs) (ds ∷ more) = (value_type v.value_type ≡ None → ds ≡ []) × AreUncomputed vs more
+
+abbrev pub DaysAndTextsHaveNoFormulas : Rules → Type 0
+DaysAndTextsHaveNoFormulas r = AreUncomputed r.variables r.formulas

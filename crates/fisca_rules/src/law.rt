@@ -3,7 +3,7 @@
 ghost use Rattle.std.specs.Prelude.{◌≡◌, List, Ok};
 ghost use Rattle.fisca_params.specs.Tree.{TreeNode};
 ghost use Rattle.fisca_rules.specs.Rules.{Rules, rules_of};
-ghost use Rattle.fisca_rules.specs.Safety.{AreNeverStuck};
+ghost use Rattle.fisca_rules.specs.Safety.{AreNeverStuck, DaysAndTextsHaveNoFormulas, DefaultsFit};
 ghost use Rattle.fisca_syntax.specs.Modules.{Statement};
 
 use fisca_meaning::never_stuck;
@@ -16,3 +16,14 @@ pub fn rule_sets_are_never_stuck()
 {
     never_stuck()
 }
+
+/// The default of each variable of an accepted rule set is of the variable's type: a whole number of 32 bits for an `int`, and for an Enum a
+/// member that it has.
+pub fn defaults_are_of_their_types()
+    ensures { (nodes : List TreeNode) (modules : List (List Statement)) (r : Rules) → rules_of nodes modules ≡ Ok r → DefaultsFit r }
+{}
+
+/// Each variable of an accepted rule set has its formulas beside it, and days and texts have none.
+pub fn days_and_texts_have_no_formulas()
+    ensures { (nodes : List TreeNode) (modules : List (List Statement)) (r : Rules) → rules_of nodes modules ≡ Ok r → DaysAndTextsHaveNoFormulas r }
+{}

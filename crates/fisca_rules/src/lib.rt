@@ -7,5 +7,7 @@ mod rule_set;
 mod typed;
 
 pub use dated::Dated;
-pub use law::rule_sets_are_never_stuck;
+pub use law::{
+    days_and_texts_have_no_formulas, defaults_are_of_their_types, rule_sets_are_never_stuck,
+};
 pub use rule_set::RuleSet;

@@ -1,0 +1,235 @@
+-- In an accepted rule set each default is of its variable's type, and days and texts have no formulas.
+use Rattle.std.proofs.Common.{◌≡◌, ◌∙◌, ap, sym, subst, ℕ, zero, suc, ◌+◌, ◌<◌, List, [], ◌∷◌, ◌++◌, map, length, length-map, Bool, true, false, refl}
+use Rattle.std.specs.Prelude.{⊤, ◌==◌, nat_lt, if◌then◌else◌, slice_get, Option, Some, None, option_map, Result, Ok, Err, codes}
+use Rattle.std.specs.Str.{bytes_eq}
+use Rattle.std.proofs.lemmas.Bool.{lt-ltb}
+use Rattle.fisca_attributes.specs.AttributeForms.{value_at, type_value, period_value}
+use Rattle.fisca_attributes.specs.Values.{bad_attribute, needed, or_bad, number_value, truth_value, text_value, date_value, dotted_value}
+use Rattle.fisca_attributes.specs.declared.attributes.TypeName.{TypeName}
+use Rattle.fisca_attributes.specs.declared.attributes.TypeName.TheVariants as named
+use Rattle.fisca_attributes.specs.declared.dotted.Dotted.{Dotted}
+use Rattle.fisca_classes.specs.Build.{Found, Whole, enums_in, declared_in, found_from, statement_found, second_pass, variable_in, items_fit, with_person, none_yet, tables_of}
+use Rattle.fisca_expressions.specs.Tree.{Tree}
+use Rattle.fisca_expressions.specs.Words.{is}
+use Rattle.fisca_names.specs.declared.fault.BuildFault.{BuildFault}
+use Rattle.fisca_names.specs.Names.{Placed, placed_from, names_from, told_at}
+use Rattle.fisca_num.specs.Number.{Number}
+use Rattle.fisca_params.specs.Results.{and_then}
+use Rattle.fisca_params.specs.Tree.{TreeNode}
+use Rattle.fisca_syntax.specs.Modules.{Item, Statement, entity, entities, choices, variable}
+use Rattle.fisca_tables.specs.KnownEnums.{choices as known_choices}
+use Rattle.fisca_tables.specs.KnownVariables.{value_type}
+use Rattle.fisca_tables.specs.declared.choices.Choices.{Choices}
+use Rattle.fisca_tables.specs.declared.variable.DeclaredType.{DeclaredType}
+use Rattle.fisca_tables.specs.declared.variable.DeclaredType.TheVariants as type
+use Rattle.fisca_tables.specs.declared.variable.DefaultValue.{DefaultValue}
+use Rattle.fisca_tables.specs.declared.variable.DefaultValue.TheVariants as default
+use Rattle.fisca_time.specs.Instant.{CivilDate}
+use Rattle.fisca_time.specs.declared.unit.Unit.{Unit as TimeUnit}
+use Rattle.fisca_tokens.specs.declared.fault.Kind.{Kind}
+use Rattle.fisca_typing.specs.Tables.{Tables, members_of, place_in}
+use Rattle.fisca_typing.specs.declared.kinds.ValueType.{ValueType}
+use Rattle.fisca_variables.specs.VariableForms.{Written, enum_value, declared_type, default_or_none, entity_value, basics_of, told_of, variable_of, if_allowed, is_int, member_place, member_of}
+use Rattle.fisca_variables.specs.declared.basics.Basics.{Basics}
+use Rattle.fisca_variables.specs.declared.declared.Declared.{Declared}
+use Rattle.fisca_variables.specs.declared.told.Told.{Told}
+use Rattle.fisca_rules.specs.Rules.{Dated, Rules, all_of, formulas_by, formulas_of, known, rules_of}
+use Rattle.fisca_rules.specs.Safety.{is_number, is_whole, is_bool, is_date, is_text, is_member, is_default, AllDefaultsFit, DefaultsFit, AreUncomputed, DaysAndTextsHaveNoFormulas}
+use Rattle.fisca_rules.proofs.Members.{then_ok, told_ok, position_inside, entity_keeps, same_found, person_keeps, made}
+
+-- Each type
+
+number_fits : (r : Result Number Kind) (v : DefaultValue) → and_then r (λ n. Ok (default.Number n)) ≡ Ok v → is_number v ≡ true
+number_fits (Ok n) v h = let same : default.Number n ≡ v = cc in subst (λ x. is_number x ≡ true) same refl
+number_fits (Err k) v h = cc
+
+whole_fits : (r : Result Number Kind) (v : DefaultValue) → and_then r (λ n. if_allowed (is_int n) (default.Number n)) ≡ Ok v → is_whole v ≡ true
+whole_fits (Ok n) v h = by (is_int n) refl h
+  where
+    by : (b : Bool) → is_int n ≡ b → if_allowed b (default.Number n) ≡ Ok v → is_whole v ≡ true
+    by true e q = let same : default.Number n ≡ v = cc in subst (λ x. is_whole x ≡ true) same e
+    by false e q = cc
+whole_fits (Err k) v h = cc
+
+bool_fits : (r : Result Bool Kind) (v : DefaultValue) → and_then r (λ b. Ok (default.Bool b)) ≡ Ok v → is_bool v ≡ true
+bool_fits (Ok b) v h = let same : default.Bool b ≡ v = cc in subst (λ x. is_bool x ≡ true) same refl
+bool_fits (Err k) v h = cc
+
+date_fits : (r : Result CivilDate Kind) (v : DefaultValue) → and_then r (λ d. Ok (default.Date (Some d))) ≡ Ok v → is_date v ≡ true
+date_fits (Ok d) v h = let same : default.Date (Some d) ≡ v = cc in subst (λ x. is_date x ≡ true) same refl
+date_fits (Err k) v h = cc
+
+text_fits : (r : Result (List ℕ) Kind) (v : DefaultValue) → and_then r (λ t. Ok (default.Text (Some t))) ≡ Ok v → is_text v ≡ true
+text_fits (Ok t) v h = let same : default.Text (Some t) ≡ v = cc in subst (λ x. is_text x ≡ true) same refl
+text_fits (Err k) v h = cc
+
+known_at : (es : List Choices) (e : ℕ) (x : Choices) → slice_get es e ≡ Some x → length (members_of (slice_get (map known_choices es) e)) ≡ length x.members
+known_at [] e x h = cc
+known_at (y ∷ es) zero x h = let same : y ≡ x = cc in length-map (λ m. m.0) y.members ∙ ap (λ (z : Choices). length z.members) same
+known_at (y ∷ es) (suc e) x h = known_at es e x h
+
+place_inside : (x : Choices) (d : Dotted) (i : ℕ) → member_place x d ≡ Some i → i < length x.members
+place_inside x d i h = by (is d.left x.name) h
+  where
+    by : (b : Bool) → (if b then place_in (λ m. bytes_eq m.0 d.right) x.members else None) ≡ Some i → i < length x.members
+    by true e = position_inside (λ m. bytes_eq m.0 d.right) 0 x.members i e
+    by false e = cc
+
+member_fits : (es : List Choices) (e : ℕ) (d : Dotted) (v : DefaultValue) → or_bad (option_map default.Member (member_of (slice_get es e) d)) ≡ Ok v
+    → is_member (length (members_of (slice_get (map known_choices es) e))) v ≡ true
+member_fits es e d v h = by (slice_get es e) refl h
+  where
+    at : (x : Choices) → slice_get es e ≡ Some x → (o : Option ℕ) → member_place x d ≡ o → or_bad (option_map default.Member o) ≡ Ok v
+        → is_member (length (members_of (slice_get (map known_choices es) e))) v ≡ true
+    at x s None p q = cc
+    at x s (Some i) p q =
+        let same : default.Member i ≡ v = cc in
+        let count = known_at es e x s in
+        subst (λ y. is_member (length (members_of (slice_get (map known_choices es) e))) y ≡ true) same
+        (subst (λ n. nat_lt i n ≡ true) (sym count) (lt-ltb i (length x.members) (place_inside x d i p)))
+
+    by : (o : Option Choices) → slice_get es e ≡ o → or_bad (option_map default.Member (member_of o d)) ≡ Ok v
+        → is_member (length (members_of (slice_get (map known_choices es) e))) v ≡ true
+    by None s q = cc
+    by (Some x) s q = at x s (member_place x d) refl q
+
+abbrev fits_in : Declared → DeclaredType → DefaultValue → Type 0
+fits_in c d v = is_default (map known_choices c.enums) d v ≡ true
+
+-- what is made of the declared type
+declared_as : (c : Declared) (d made_type : DeclaredType) (v : DefaultValue) → ◌≡◌ {A = Result DeclaredType Kind} (Ok made_type) (Ok d) → fits_in c made_type v → fits_in c d v
+declared_as c d made_type v h t = let same : made_type ≡ d = cc in subst (λ x. fits_in c x v) same t
+
+enum_typed : (c : Declared) (values : Option Tree) (d : DeclaredType) → and_then (needed (enum_value c) values) (λ n. Ok (type.Enum n)) ≡ Ok d → (e : ℕ) × (type.Enum e ≡ d)
+enum_typed c values d h =
+    let one = then_ok (needed (enum_value c) values) (λ n. Ok (type.Enum n)) d h in
+    let same : type.Enum one.0 ≡ d = cc in
+    (one.0, same)
+
+made_default : (v w : DefaultValue) (is_fit : DefaultValue → Bool) → ◌≡◌ {A = Result DefaultValue Kind} (Ok w) (Ok v) → is_fit w ≡ true → is_fit v ≡ true
+made_default v w is_fit h t = let same : w ≡ v = cc in subst (λ x. is_fit x ≡ true) same t
+
+enum_fits : (c : Declared) (e : ℕ) (o : Option Tree) (v : DefaultValue) → default_or_none c named.Enum (type.Enum e) o ≡ Ok v → fits_in c (type.Enum e) v
+enum_fits c e None v h = cc
+enum_fits c e (Some t) v h =
+    let one = then_ok (dotted_value t) (λ d. or_bad (option_map default.Member (member_of (slice_get c.enums e) d))) v h in
+    member_fits c.enums e one.0 v one.2
+
+default_fits : (c : Declared) (t : TypeName) (values : Option Tree) (d : DeclaredType) (o : Option Tree) (v : DefaultValue) → declared_type c t values ≡ Ok d → default_or_none c t d o ≡ Ok v → fits_in c d v
+default_fits c named.Float values d None v h k = declared_as c d type.Float v h (made_default v _ is_number k refl)
+default_fits c named.Float values d (Some e) v h k = declared_as c d type.Float v h (number_fits (number_value e) v k)
+default_fits c named.Int values d None v h k = declared_as c d type.Int v h (made_default v _ is_whole k refl)
+default_fits c named.Int values d (Some e) v h k = declared_as c d type.Int v h (whole_fits (number_value e) v k)
+default_fits c named.Bool values d None v h k = declared_as c d type.Bool v h (made_default v _ is_bool k refl)
+default_fits c named.Bool values d (Some e) v h k = declared_as c d type.Bool v h (bool_fits (truth_value e) v k)
+default_fits c named.Date values d None v h k = declared_as c d type.Date v h (made_default v _ is_date k refl)
+default_fits c named.Date values d (Some e) v h k = declared_as c d type.Date v h (date_fits (date_value e) v k)
+default_fits c named.Text values d None v h k = declared_as c d type.Text v h (made_default v _ is_text k refl)
+default_fits c named.Text values d (Some e) v h k = declared_as c d type.Text v h (text_fits (text_value e) v k)
+default_fits c named.Enum values d o v h k =
+    let one = enum_typed c values d h in
+    subst (λ x. fits_in c x v) one.1 (enum_fits c one.0 o v (ap (λ x. default_or_none c named.Enum x o) one.1 ∙ k))
+
+-- Variables
+
+abbrev BasicsFit : Declared → Basics → Type 0
+BasicsFit c b = fits_in c b.value_type b.default_value
+
+basics_by : (c : Declared) (b : Basics) (types : Result TypeName Kind) (places : Result ℕ Kind) (periods : Result TimeUnit Kind) (values default : Option Tree) →
+    and_then types (λ t. and_then places (λ place. and_then periods (λ period. and_then (declared_type c t values) (λ d. and_then (default_or_none c t d default) (λ v.
+    Ok (record { entity = place; value_type = d; definition_period = period; default_value = v })))))) ≡ Ok b → BasicsFit c b
+basics_by c b (Ok t) (Ok place) (Ok period) values default h =
+    let one = then_ok (declared_type c t values) (λ d. and_then (default_or_none c t d default) (λ v. Ok (record { entity = place; value_type = d; definition_period = period; default_value = v }))) b h in
+    let two = then_ok (default_or_none c t one.0 default) (λ v. Ok (record { entity = place; value_type = one.0; definition_period = period; default_value = v })) b one.2 in
+    let same : record { entity = place; value_type = one.0; definition_period = period; default_value = two.0 } ≡ b = cc in
+    subst (BasicsFit c) same (default_fits c t values one.0 default two.0 one.1 two.1)
+basics_by c b (Ok t) (Ok place) (Err k) values default h = cc
+basics_by c b (Ok t) (Err k) periods values default h = cc
+basics_by c b (Err k) places periods values default h = cc
+
+basics_fit : (c : Declared) (xs : List Item) (b : Basics) → basics_of c xs ≡ Ok b → BasicsFit c b
+basics_fit c xs b h =
+    basics_by c b (needed type_value (value_at (codes "value_type") xs)) (needed (entity_value c) (value_at (codes "entity") xs)) (needed period_value (value_at (codes "definition_period") xs))
+    (value_at (codes "possible_values") xs) (value_at (codes "default_value") xs) h
+
+abbrev VariableFits : Declared → Written → Type 0
+VariableFits c v = fits_in c v.value_type v.default_value
+
+made_fits : (c : Declared) (v : Written) (basics : Result Basics Kind) (told : Result Told Kind) (make : Basics → Told → Written) → ((b : Basics) (s : Told) → BasicsFit c b → VariableFits c (make b s)) →
+    ((b : Basics) → basics ≡ Ok b → BasicsFit c b) → and_then basics (λ b. and_then told (λ s. Ok (make b s))) ≡ Ok v → VariableFits c v
+made_fits c v (Ok b) (Ok s) make keeps fit h = let same : make b s ≡ v = cc in subst (VariableFits c) same (keeps b s (fit b refl))
+made_fits c v (Ok b) (Err k) make keeps fit h = cc
+made_fits c v (Err k) told make keeps fit h = cc
+
+variable_fits : (c : Declared) (place line : ℕ) (n : List ℕ) (xs : List Item) (v : Written) → variable_of c place line n xs ≡ Ok v → VariableFits c v
+variable_fits c place line n xs v h = made_fits c v (basics_of c xs) (told_of xs) (made place line n xs) (λ b s t. t) (λ b e. basics_fit c xs b e) h
+
+abbrev AllFit : Declared → Found → Type 0
+AllFit c f = AllDefaultsFit (map known_choices c.enums) f.variables
+
+fits_and : (es : List Rattle.fisca_typing.specs.Tables.Choices) (vs : List Written) (v : Written) → AllDefaultsFit es vs → is_default es v.value_type v.default_value ≡ true → AllDefaultsFit es (vs ++ v ∷ [])
+fits_and es [] v h k = (k, tt)
+fits_and es (w ∷ vs) v h k = (h.0, fits_and es vs v h.1 k)
+
+variable_step : (c : Declared) (ps : List Placed) (f g : Found) (place : ℕ) (s : Statement) → ((x : Found) → found_from c x ps ≡ Ok g → AllFit c x → AllFit c g) →
+    AllFit c f → (x : Found) × (statement_found c f place s ≡ Ok x) × (found_from c x ps ≡ Ok g) → AllFit c g
+variable_step c ps f g place (entity a) rest k t = rest t.0 t.2 (subst (AllDefaultsFit (map known_choices c.enums)) (entity_keeps f t.0 _ (told_ok place a.line _ t.0 t.1)) k)
+variable_step c ps f g place (entities a) rest k t = rest t.0 t.2 (subst (AllDefaultsFit (map known_choices c.enums)) (same_found _ f t.0 t.1) k)
+variable_step c ps f g place (choices line n ms) rest k t = rest t.0 t.2 (subst (AllDefaultsFit (map known_choices c.enums)) (same_found _ f t.0 t.1) k)
+variable_step c ps f g place (variable line n xs) rest k t =
+    let one = then_ok (variable_in c place line n xs) (λ v. Ok (record f { variables = f.variables ++ v ∷ [] })) t.0 t.1 in
+    let fits = then_ok (items_fit c place xs [] xs) (λ _. told_at place line (variable_of c place line n xs)) one.0 one.1 in
+    let fit = variable_fits c place line n xs one.0 (told_ok place line _ one.0 fits.2) in
+    let same : record f { variables = f.variables ++ one.0 ∷ [] } ≡ t.0 = cc in
+    rest t.0 t.2 (subst (AllFit c) same (fits_and (map known_choices c.enums) f.variables one.0 k fit))
+
+variables_fit : (c : Declared) (ps : List Placed) (f g : Found) → found_from c f ps ≡ Ok g → AllFit c f → AllFit c g
+variables_fit c [] f g h k = let same : f ≡ g = cc in subst (AllFit c) same k
+variables_fit c (p ∷ ps) f g h k = variable_step c ps f g p.module p.statement (λ x e. variables_fit c ps x g e) k (then_ok _ _ _ h)
+
+-- Rule sets
+
+abbrev WholeFits : Whole → Type 0
+WholeFits w = AllDefaultsFit (map known_choices w.enums) w.variables
+
+whole_fits_in : (ms : List (List Statement)) (w : Whole) → tables_of ms ≡ Ok w → WholeFits w
+unfolding tables_of
+whole_fits_in ms w h =
+    let ps = placed_from 0 ms in
+    let names = then_ok (names_from [] ps) (λ _. second_pass ps) w h in
+    let person = then_ok (and_then (found_from (declared_in ps) none_yet ps) with_person) (λ f. Ok (record { entities = f.entities; enums = enums_in ps; variables = f.variables })) w names.2 in
+    let found = then_ok (found_from (declared_in ps) none_yet ps) with_person person.0 person.1 in
+    let kept : found.0 ≡ person.0 = person_keeps _ found.0 person.0 found.2 in
+    let same : record { entities = person.0.entities; enums = enums_in ps; variables = person.0.variables } ≡ w = cc in
+    subst WholeFits same (subst (AllFit (declared_in ps)) kept (variables_fit (declared_in ps) ps none_yet found.0 found.1 tt))
+
+pub defaults_fit : (nodes : List TreeNode) (ms : List (List Statement)) (r : Rules) → rules_of nodes ms ≡ Ok r → DefaultsFit r
+unfolding rules_of
+defaults_fit nodes ms r h =
+    let whole = then_ok _ _ _ h in
+    let formulas = then_ok _ _ _ whole.2 in
+    let same : record { entities = whole.0.entities; enums = whole.0.enums; variables = whole.0.variables; parameters = nodes; formulas = formulas.0 } ≡ r = cc in
+    subst DefaultsFit same (whole_fits_in ms whole.0 whole.1)
+
+-- Days and texts
+
+none_computed : (c : Tables) (v : Written) (o : Option ValueType) (ds : List Dated) → formulas_by c v o ≡ Ok ds → o ≡ None → ds ≡ []
+none_computed c v None ds h is = cc
+none_computed c v (Some t) ds h is = cc
+
+all_uncomputed : (c : Tables) (vs : List Written) (fs : List (List Dated)) → all_of (formulas_of c) vs ≡ Ok fs → AreUncomputed vs fs
+unfolding formulas_of
+all_uncomputed c [] fs h = let same : [] ≡ fs = cc in subst (AreUncomputed []) same tt
+all_uncomputed c (v ∷ vs) fs h =
+    let one = then_ok _ _ _ h in
+    let rest = then_ok _ _ _ one.2 in
+    let same : one.0 ∷ rest.0 ≡ fs = cc in
+    subst (AreUncomputed (v ∷ vs)) same (none_computed c v (value_type v.value_type) one.0 one.1, all_uncomputed c vs rest.0 rest.1)
+
+pub uncomputed : (nodes : List TreeNode) (ms : List (List Statement)) (r : Rules) → rules_of nodes ms ≡ Ok r → DaysAndTextsHaveNoFormulas r
+unfolding rules_of
+uncomputed nodes ms r h =
+    let whole = then_ok _ _ _ h in
+    let formulas = then_ok _ _ _ whole.2 in
+    let same : record { entities = whole.0.entities; enums = whole.0.enums; variables = whole.0.variables; parameters = nodes; formulas = formulas.0 } ≡ r = cc in
+    subst DaysAndTextsHaveNoFormulas same (all_uncomputed (known whole.0 nodes) whole.0.variables formulas.0 formulas.1)

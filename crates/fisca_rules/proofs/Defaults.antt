@@ -1,8 +1,9 @@
 -- In an accepted rule set each default is of its variable's type, and days and texts have no formulas.
-use Rattle.std.proofs.Common.{◌≡◌, ◌∙◌, ap, sym, subst, ℕ, zero, suc, ◌+◌, ◌<◌, List, [], ◌∷◌, ◌++◌, map, length, length-map, Bool, true, false, refl}
+use Rattle.std.proofs.Common.{◌≡◌, ◌∙◌, ap, sym, subst, ℕ, zero, suc, ◌+◌, ◌<◌, List, [], ◌∷◌, ◌++◌, map, length, Bool, true, false, refl}
 use Rattle.std.specs.Prelude.{⊤, ◌==◌, nat_lt, if◌then◌else◌, slice_get, Option, Some, None, option_map, Result, Ok, Err, codes}
 use Rattle.std.specs.Str.{bytes_eq}
 use Rattle.std.proofs.lemmas.Bool.{lt-ltb}
+use Rattle.std.proofs.lemmas.List.{length-map}
 use Rattle.fisca_attributes.specs.AttributeForms.{value_at, type_value, period_value}
 use Rattle.fisca_attributes.specs.Values.{bad_attribute, needed, or_bad, number_value, truth_value, text_value, date_value, dotted_value}
 use Rattle.fisca_attributes.specs.declared.attributes.TypeName.{TypeName}
@@ -65,7 +66,7 @@ text_fits (Err k) v h = cc
 
 known_at : (es : List Choices) (e : ℕ) (x : Choices) → slice_get es e ≡ Some x → length (members_of (slice_get (map known_choices es) e)) ≡ length x.members
 known_at [] e x h = cc
-known_at (y ∷ es) zero x h = let same : y ≡ x = cc in length-map (λ m. m.0) y.members ∙ ap (λ (z : Choices). length z.members) same
+known_at (y ∷ es) zero x h = let same : y ≡ x = cc in length-map y.members (λ m. m.0) ∙ ap (λ (z : Choices). length z.members) same
 known_at (y ∷ es) (suc e) x h = known_at es e x h
 
 place_inside : (x : Choices) (d : Dotted) (i : ℕ) → member_place x d ≡ Some i → i < length x.members

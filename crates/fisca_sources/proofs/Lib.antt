@@ -1,0 +1,4 @@
+pub mod Casts
+pub mod Latest
+pub mod Sources
+pub mod Values

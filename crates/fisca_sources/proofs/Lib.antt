@@ -1,4 +1,3 @@
 pub mod Casts
-pub mod Latest
 pub mod Sources
 pub mod Values

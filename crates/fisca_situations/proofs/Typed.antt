@@ -75,7 +75,7 @@ module _ (c : Known) where
 
   member_inside : (e : ℕ) (o : Option (List ℕ)) (i : ℕ) → option_and_then (member_named c e) o ≡ Some i → nat_lt i (length (members_at c e)) ≡ true
   member_inside e None i h = cc
-  member_inside e (Some t) i h = lt-ltb i (length (members_at c e)) (position_inside (λ m. bytes_eq m t) 0 (members_at c e) i h)
+  member_inside e (Some t) i h = let inside = position_inside (λ m. bytes_eq m t) 0 (members_at c e) i h in lt-ltb i (length (members_at c e)) (omega (arith, inside))
 
   of_member : (e : ℕ) (o : Option ℕ) → ((i : ℕ) → o ≡ Some i → nat_lt i (length (members_at c e)) ≡ true) → (w : Value) → input_or (option_map v.Member o) ≡ input w
       → is_typed c (Some (vt.Enum e)) (value_seen w) ≡ true
@@ -136,15 +136,15 @@ module _ (c : Tables) (default : Option Span) where
         by false e = cc
 
     read_typed : (gs : List Given) (line : ℕ) (n : Node) (r : Result Span TimeFault) → AllTyped gs → Typed (read_given c x gs line n r)
-    read_typed gs line n (Ok p) ts = value_typed gs line p n ts
+    read_typed gs line n (Ok p) ts hs h = value_typed gs line p n ts hs h
     read_typed gs line n (Err e) ts hs h = cc
 
     dated_typed : (gs : List Given) (key : List ℕ) (line : ℕ) (n : Node) → AllTyped gs → Typed (dated_given c x gs key line n)
     unfolding dated_given
     dated_typed gs key line null ts hs h = kept (known c) gs hs ts h
-    dated_typed gs key line (scalar t q l) ts = read_typed gs line (scalar t q l) (period_of_text key) ts
-    dated_typed gs key line (list is) ts = read_typed gs line (list is) (period_of_text key) ts
-    dated_typed gs key line (mapping es) ts = read_typed gs line (mapping es) (period_of_text key) ts
+    dated_typed gs key line (scalar t q l) ts hs h = read_typed gs line (scalar t q l) (period_of_text key) ts hs h
+    dated_typed gs key line (list is) ts hs h = read_typed gs line (list is) (period_of_text key) ts hs h
+    dated_typed gs key line (mapping es) ts hs h = read_typed gs line (mapping es) (period_of_text key) ts hs h
 
     all_dated_typed : (gs : List Given) (es : Entries) → AllTyped gs → Typed (all_dated c x gs es)
     all_dated_typed gs no_entries ts hs h = kept (known c) gs hs ts h
@@ -158,14 +158,14 @@ module _ (c : Tables) (default : Option Span) where
         by : (b : Bool) → (if b then value_given c x gs line eternity n else fault_at line kind.PeriodMismatch) ≡ Ok hs → AllTyped hs
         by true e = value_typed gs line eternity n ts hs e
         by false e = cc
-    default_typed gs line n (Some p) ts = value_typed gs line p n ts
+    default_typed gs line n (Some p) ts hs h = value_typed gs line p n ts hs h
 
     variable_typed : (gs : List Given) (line : ℕ) (n : Node) → AllTyped gs → Typed (variable_given c default x gs line n)
     unfolding variable_given
     variable_typed gs line null ts hs h = kept (known c) gs hs ts h
-    variable_typed gs line (scalar t q l) ts = default_typed gs line (scalar t q l) default ts
-    variable_typed gs line (list is) ts = default_typed gs line (list is) default ts
-    variable_typed gs line (mapping es) ts = all_dated_typed gs es ts
+    variable_typed gs line (scalar t q l) ts hs h = default_typed gs line (scalar t q l) default ts hs h
+    variable_typed gs line (list is) ts hs h = default_typed gs line (list is) default ts hs h
+    variable_typed gs line (mapping es) ts hs h = all_dated_typed gs es ts hs h
 
   at_typed : (entity : Option ℕ) (member : ℕ) (gs : List Given) (line : ℕ) (n : Node) (place : ℕ) (o : Option Variable) → slice_get c.variables place ≡ o → AllTyped gs
       → Typed (variable_at c default entity member gs line n place o)
@@ -181,7 +181,7 @@ module _ (c : Tables) (default : Option Span) where
   named_typed : (entity : Option ℕ) (member : ℕ) (gs : List Given) (line : ℕ) (n : Node) (o : Option ℕ) → AllTyped gs → Typed (named_given c default entity member gs line n o)
   unfolding named_given
   named_typed entity member gs line n None ts hs h = cc
-  named_typed entity member gs line n (Some place) ts = at_typed entity member gs line n place (slice_get c.variables place) refl ts
+  named_typed entity member gs line n (Some place) ts hs h = at_typed entity member gs line n place (slice_get c.variables place) refl ts hs h
 
   entry_typed : (entity : Option ℕ) (member : ℕ) (rs : List Role) (gs : List Given) (key : List ℕ) (line : ℕ) (n : Node) → AllTyped gs
       → Typed (entry_given c default entity member rs gs key line n)
@@ -224,7 +224,7 @@ module _ (c : Tables) (default : Option Span) where
 
   of_typed : (gs : List Given) (s : Section) (o : Option Entity) → AllTyped gs → Typed (section_of c default gs s o)
   of_typed gs s None ts hs h = kept (known c) gs hs ts h
-  of_typed gs s (Some e) ts = by_typed gs s e.roles ts
+  of_typed gs s (Some e) ts hs h = by_typed gs s e.roles ts hs h
 
   section_typed : (gs : List Given) (s : Section) → AllTyped gs → Typed (section_given c default gs s)
   unfolding section_given

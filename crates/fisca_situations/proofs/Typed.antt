@@ -2,11 +2,10 @@
 use Rattle.std.proofs.Common.{◌≡◌, ap, sym, subst, ◌∙◌, ℕ, zero, suc, ◌+◌, ◌<◌, List, [], ◌∷◌, ◌++◌, map, length, Bool, true, false, Option, Some, None, slice_get, refl, if◌then◌else◌, arith}
 use Rattle.std.specs.Prelude.{Result, Ok, Err, nat_lt, is_some, option_map, option_and_then}
 use Rattle.std.specs.List.{list_any, position_from}
-use Rattle.std.specs.Option.{unwrap_or}
 use Rattle.std.specs.Str.{bytes_eq}
 use Rattle.std.proofs.lemmas.Bool.{lt-ltb}
 use Rattle.fisca_inputs.proofs.Typed.{then_ok, inputs_typed, input_typed}
-use Rattle.fisca_inputs.specs.Entries.{Entries as Inputs, same_key, value_at}
+use Rattle.fisca_inputs.specs.Entries.{same_key, value_at}
 use Rattle.fisca_inputs.specs.Faults.{at_line}
 use Rattle.fisca_inputs.specs.Inputs.{and_given, key_given, inputs_of}
 use Rattle.fisca_inputs.specs.Rules.{is_accepted, rule_of}
@@ -38,9 +37,9 @@ use Rattle.fisca_time.specs.PeriodText.{period_of_text}
 use Rattle.fisca_time.specs.declared.fault.TimeFault.{TimeFault}
 use Rattle.fisca_typing.specs.Tables.{Entity, Role, Tables as Known, member_named, members_at}
 use Rattle.fisca_typing.specs.declared.kinds.ValueType.TheVariants as vt
-use Rattle.fisca_yaml.specs.Find.{as_bool, as_number, as_text, begins_on}
+use Rattle.fisca_yaml.specs.Find.{as_number, as_text}
 use Rattle.fisca_yaml.specs.Node.{Node, null, scalar, list, map as mapping, Entries, no_entries, entry}
-use Rattle.fisca_situations.specs.Reading.{Place, fault_at, with_value, given_of, value_given, read_given, dated_given, all_dated, at_default, variable_given, has_variable, variable_at, variable_of, named_given, entry_given, member_given, member_below, members_given, section_by, section_of, section_given, sections_given, inputs_given}
+use Rattle.fisca_situations.specs.Reading.{Place, fault_at, given_of, value_given, read_given, dated_given, all_dated, at_default, variable_given, has_variable, variable_at, variable_of, named_given, entry_given, member_given, member_below, members_given, section_by, section_of, section_given, sections_given, inputs_given}
 use Rattle.fisca_situations.specs.Situations.{Situation, told, reading_in, reading_of, situation_by, situation_of}
 use Rattle.fisca_situations.specs.Values.{said, input_or, unused_if, int_in, bool_in, member_in, day_in}
 use Rattle.fisca_situations.specs.declared.reading.Reading.{Reading}

@@ -1,5 +1,5 @@
 -- In an accepted rule set each default is of its variable's type, and days and texts have no formulas.
-use Rattle.std.proofs.Common.{◌≡◌, ◌∙◌, ap, sym, subst, ℕ, zero, suc, ◌+◌, ◌<◌, List, [], ◌∷◌, ◌++◌, map, length, Bool, true, false, refl}
+use Rattle.std.proofs.Common.{arith, ◌≡◌, ◌∙◌, ap, sym, subst, ℕ, zero, suc, ◌+◌, ◌<◌, List, [], ◌∷◌, ◌++◌, map, length, Bool, true, false, refl}
 use Rattle.std.specs.Prelude.{⊤, ◌==◌, nat_lt, if◌then◌else◌, slice_get, Option, Some, None, option_map, Result, Ok, Err, codes}
 use Rattle.std.specs.Str.{bytes_eq}
 use Rattle.std.proofs.lemmas.Bool.{lt-ltb}
@@ -34,7 +34,7 @@ use Rattle.fisca_variables.specs.VariableForms.{Written, enum_value, declared_ty
 use Rattle.fisca_variables.specs.declared.basics.Basics.{Basics}
 use Rattle.fisca_variables.specs.declared.declared.Declared.{Declared}
 use Rattle.fisca_variables.specs.declared.told.Told.{Told}
-use Rattle.fisca_rules.specs.Rules.{Dated, Rules, all_of, formulas_by, formulas_of, known, rules_of}
+use Rattle.fisca_rules.specs.Rules.{Dated, Rules, all_of, formulas_by, formulas_of, known, rules_of, with_formulas}
 use Rattle.fisca_rules.specs.Safety.{is_number, is_whole, is_bool, is_date, is_text, is_member, is_default, AllDefaultsFit, DefaultsFit, AreUncomputed, DaysAndTextsHaveNoFormulas}
 use Rattle.fisca_rules.proofs.Members.{then_ok, told_ok, position_inside, entity_keeps, same_found, person_keeps, made}
 
@@ -73,7 +73,7 @@ place_inside : (x : Choices) (d : Dotted) (i : ℕ) → member_place x d ≡ Som
 place_inside x d i h = by (is d.left x.name) h
   where
     by : (b : Bool) → (if b then place_in (λ m. bytes_eq m.0 d.right) x.members else None) ≡ Some i → i < length x.members
-    by true e = position_inside (λ m. bytes_eq m.0 d.right) 0 x.members i e
+    by true e = let inside = position_inside (λ m. bytes_eq m.0 d.right) 0 x.members i e in omega (arith, inside)
     by false e = cc
 
 member_fits : (es : List Choices) (e : ℕ) (d : Dotted) (v : DefaultValue) → or_bad (option_map default.Member (member_of (slice_get es e) d)) ≡ Ok v
@@ -207,8 +207,8 @@ whole_fits_in ms w h =
 pub defaults_fit : (nodes : List TreeNode) (ms : List (List Statement)) (r : Rules) → rules_of nodes ms ≡ Ok r → DefaultsFit r
 unfolding rules_of
 defaults_fit nodes ms r h =
-    let whole = then_ok _ _ _ h in
-    let formulas = then_ok _ _ _ whole.2 in
+    let whole = then_ok (tables_of ms) (with_formulas nodes) r h in
+    let formulas = then_ok (all_of (formulas_of (known whole.0 nodes)) whole.0.variables) (λ fs. Ok (record { entities = whole.0.entities; enums = whole.0.enums; variables = whole.0.variables; parameters = nodes; formulas = fs })) r whole.2 in
     let same : record { entities = whole.0.entities; enums = whole.0.enums; variables = whole.0.variables; parameters = nodes; formulas = formulas.0 } ≡ r = cc in
     subst DefaultsFit same (whole_fits_in ms whole.0 whole.1)
 
@@ -230,7 +230,7 @@ all_uncomputed c (v ∷ vs) fs h =
 pub uncomputed : (nodes : List TreeNode) (ms : List (List Statement)) (r : Rules) → rules_of nodes ms ≡ Ok r → DaysAndTextsHaveNoFormulas r
 unfolding rules_of
 uncomputed nodes ms r h =
-    let whole = then_ok _ _ _ h in
-    let formulas = then_ok _ _ _ whole.2 in
+    let whole = then_ok (tables_of ms) (with_formulas nodes) r h in
+    let formulas = then_ok (all_of (formulas_of (known whole.0 nodes)) whole.0.variables) (λ fs. Ok (record { entities = whole.0.entities; enums = whole.0.enums; variables = whole.0.variables; parameters = nodes; formulas = fs })) r whole.2 in
     let same : record { entities = whole.0.entities; enums = whole.0.enums; variables = whole.0.variables; parameters = nodes; formulas = formulas.0 } ≡ r = cc in
     subst DaysAndTextsHaveNoFormulas same (all_uncomputed (known whole.0 nodes) whole.0.variables formulas.0 formulas.1)

@@ -6,7 +6,6 @@ pub mod Remaining
 pub mod Rising
 pub mod Sizes
 pub mod Steps
-pub mod Groups
 pub mod Positions
 pub mod Orders
 pub mod Specs

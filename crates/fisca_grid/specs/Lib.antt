@@ -5,6 +5,8 @@ pub mod Run
 pub mod Continued
 pub mod Fault
 pub mod Axes
+pub mod Grid
+pub mod Turning
 pub mod AxesFault
 pub mod Condition
 pub mod Words

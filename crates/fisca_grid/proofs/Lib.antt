@@ -6,9 +6,10 @@ pub mod Remaining
 pub mod Rising
 pub mod Sizes
 pub mod Steps
+pub mod Groups
+pub mod Kept
 pub mod Positions
 pub mod Orders
-pub mod Specs
 mod Prefixes
 mod Cuts
 mod Counts

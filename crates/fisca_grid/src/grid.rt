@@ -74,6 +74,16 @@ fn read_size(specs: &[AxisSpec], groups: &[u32]) -> Result<u64, AxesFault>
     Ok(size)
 }
 
+/// The number of values of the first axis of a group.
+fn shared_count(group: &[Axis]) -> u64
+    ensures { result ≡ count_of (specs_of group.now) }
+{
+    match group {
+        [] => 0,
+        [axis, ..] => axis.spec.count,
+    }
+}
+
 /// Appends the axes of a group, which go to the next place after so many positions.
 fn push_group(turning: &mut Vec<Turning>, group: &[Axis], pace: u64) -> Result<(), AllocError>
     requires { 0 < pace }
@@ -101,9 +111,7 @@ fn spread(alloc: Global, axes: &[Axis], groups: &[u32]) -> Result<Vec<Turning>, 
     for length in groups {
         let (group, others) = rest.split_at(*length as usize);
         push_group(&mut turning, group, pace)?;
-        if let [axis, ..] = group {
-            pace *= axis.spec.count;
-        }
+        pace *= shared_count(group);
         rest = others;
     }
     Ok(turning)

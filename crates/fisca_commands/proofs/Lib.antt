@@ -1,4 +1,3 @@
-mod ManyWords
 mod Parts
 mod FirstModule
 mod Endings

@@ -8,8 +8,9 @@ use Rattle.fisca_grid.specs.declared.axes.AxesFault.{AxesFault}
 use Rattle.fisca_grid.specs.declared.axes.AxesFault.TheVariants as axes
 use Rattle.fisca_grid.specs.declared.fault.RunEnd.{RunEnd}
 use Rattle.fisca_grid.specs.declared.fault.RunFault.TheVariants as run
-use Rattle.fisca_commands.specs.declared.axes.Filter.{Filter}
-use Rattle.fisca_commands.specs.AxesRun.{FilteredAxes, required_filter, optional_filter, filter_from, filtered_axes, axes_within_limits, named_fault, required_axes, name_of, specs_of, own_groups, axes_of_words, IsAxesRun, IsRefused, IsAxesAnswer, is_write}
+use Rattle.fisca_grid.specs.NamedAxes.{name_of, specs_of, own_groups, filter_from}
+use Rattle.fisca_grid.specs.declared.condition.Filter.{Filter}
+use Rattle.fisca_commands.specs.AxesRun.{FilteredAxes, required_filter, optional_filter, filtered_axes, axes_within_limits, named_fault, required_axes, axes_of_words, IsAxesRun, IsRefused, IsAxesAnswer, is_write}
 use Rattle.fisca_commands.specs.Ending.{Outcome, IsTold, IsRunEnding}
 use Rattle.fisca_commands.specs.Refusal.{status_of}
 use Rattle.fisca_commands.specs.declared.refusal.Refusal.{Refusal}

@@ -8,6 +8,8 @@ pub mod Sizes
 pub mod Steps
 pub mod Groups
 pub mod Kept
+pub mod Described
+pub mod Values
 pub mod Positions
 pub mod Orders
 mod Prefixes

@@ -10,3 +10,5 @@ pub mod Turning
 pub mod AxesFault
 pub mod Condition
 pub mod Words
+pub mod AxesRow
+pub mod NamedAxes

@@ -1,6 +1,6 @@
 use Rattle.std.proofs.Common.{◌≡◌, drop, map, string_bytes}
-use Rattle.fisca_commands.specs.AxesRun.{name_of, has_twins}
-use Rattle.fisca_commands.proofs.axes.has_twins.Given as goal
+use Rattle.fisca_grid.specs.NamedAxes.{name_of, has_twins}
+use Rattle.fisca_grid.proofs.named_axes.has_twins.Given as goal
 
 -- the names that are left have twins, if any have
 abbrev pub invariant-loop-i : goal.invariant-loop-i

@@ -1,8 +1,8 @@
 use Rattle.std.proofs.Common.{◌≡◌, drop, map, string_bytes}
 use Rattle.std.specs.List.{list_any}
 use Rattle.std.specs.Str.{bytes_eq}
-use Rattle.fisca_commands.specs.AxesRun.{name_of}
-use Rattle.fisca_commands.proofs.axes.is_named.Given as goal
+use Rattle.fisca_grid.specs.NamedAxes.{name_of}
+use Rattle.fisca_grid.proofs.named_axes.is_named.Given as goal
 
 -- the name is among those that are left, if at all
 abbrev pub invariant-loop-word : goal.invariant-loop-word

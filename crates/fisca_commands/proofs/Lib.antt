@@ -2,3 +2,4 @@ mod Parts
 mod FirstModule
 mod Endings
 mod Written
+mod Named

@@ -56,7 +56,7 @@ fn size(alloc: Global, axes: Result<Axes, AxesFault>) -> Result<String, Fault> {
 fn step(alloc: Global, spec: AxisSpec, words: &[String]) -> Result<String, Fault> {
     let position = number(one(words)?)?;
     let axes = Axes::build(alloc, &[spec], &[1])?;
-    if position >= axes.size() {
+    if axes.count() == 0 || position >= axes.size() {
         return Err(Fault::Malformed);
     }
     Ok(axes.step(0, position).text(alloc)?)
@@ -68,7 +68,7 @@ fn compare(alloc: Global, spec: AxisSpec, words: &[String]) -> Result<String, Fa
     let position = number(position)?;
     let with = Fraction::from_decimal(with)?;
     let axes = Axes::build(alloc, &[spec], &[1])?;
-    if position >= axes.size() {
+    if axes.count() == 0 || position >= axes.size() {
         return Err(Fault::Malformed);
     }
     let order = match axes.compare(0, position, with) {

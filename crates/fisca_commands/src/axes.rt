@@ -41,7 +41,12 @@ fn build(alloc: Global, words: &[String], specs: &[AxisSpec]) -> Result<Axes, Re
 }
 
 /// The rows of these axes, which the words describe, with a condition.
-fn limit_rows(alloc: Global, words: &[String], specs: &[AxisSpec], keep: Option<&str>) -> Result<AxisRows, Refusal>
+fn limit_rows(
+    alloc: Global,
+    words: &[String],
+    specs: &[AxisSpec],
+    keep: Option<&str>,
+) -> Result<AxisRows, Refusal>
     requires { specs_of (map (λ word. string_bytes word) words.now) ≡ Some specs.now }
     ensures ok { IfOk result (λ rows. axes_within_limits (map name_of (map (λ word. string_bytes word) words.now)) specs.now (named_fault (map name_of (map (λ word. string_bytes word) words.now)) (axes_fault specs.now (own_groups specs.now))) (option_map (λ text. text.now) keep.entry) ≡ Ok (record { axes = rows.axes; keep = rows.keep })) }
     ensures err { IfErr result (λ refusal. refusal ≢ Refusal.Memory → axes_within_limits (map name_of (map (λ word. string_bytes word) words.now)) specs.now (named_fault (map name_of (map (λ word. string_bytes word) words.now)) (axes_fault specs.now (own_groups specs.now))) (option_map (λ text. text.now) keep.entry) ≡ Err refusal) }

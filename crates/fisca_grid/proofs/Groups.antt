@@ -1,5 +1,5 @@
 -- Axes in groups: faults, sizes and places, group by group.
-use Rattle.std.proofs.Common.{◌≡◌, ℕ, zero, suc, ◌+◌, ◌-◌, ◌*◌, ◌/◌, ◌%◌, ◌<◌, ◌≤◌, min, cond, Bool, true, false, not, ◌==◌, ◌||◌, List, [], ◌∷◌, ◌++◌, length, map, take, drop, sum, Option, Some, None, slice_get, refl, sym, ap, ap₂, ◌∙◌, arith, ⊎_elim, append_assoc, length-append, append-nil}
+use Rattle.std.proofs.Common.{◌≡◌, ℕ, zero, suc, ◌+◌, ◌-◌, ◌*◌, ◌/◌, ◌%◌, ◌<◌, ◌≤◌, min, cond, Bool, true, false, not, ◌==◌, ◌||◌, List, [], ◌∷◌, ◌++◌, length, map, take, drop, sum, Option, Some, None, slice_get, refl, sym, ap, ap₂, ◌∙◌, arith, ⊎_elim, append_assoc, length-append}
 use Rattle.std.proofs.Math.Nat.{div-div-eq-div-mul, mul_assoc, mul-zero, mul-pos, mul-le-mul_right, le-mul_of_pos_right}
 use Rattle.std.proofs.lemmas.Bool.{cases_lt, eqb-true, not-false}
 use Rattle.std.proofs.lemmas.Bool.Decides.{nat_tests}
@@ -11,8 +11,8 @@ use Rattle.fisca_grid.specs.declared.axes.Axis.{Axis}
 use Rattle.fisca_grid.specs.declared.axes.AxisSpec.{AxisSpec}
 use Rattle.fisca_grid.specs.declared.axes.AxesFault.{AxesFault}
 use Rattle.fisca_grid.specs.declared.axes.AxesFault.TheVariants.{BadCount}
-use Rattle.fisca_grid.specs.Axes.{axis_fault, first_axis_fault, is_count, is_bound}
-use Rattle.fisca_grid.specs.Grid.{count_of, counts_of, groups_of, product_of, size_of, has_two_counts, places_at, with_places, axes_at, axes_in}
+use Rattle.fisca_grid.specs.Axes.{axis_fault, first_axis_fault, is_count}
+use Rattle.fisca_grid.specs.Grid.{count_of, groups_of, size_of, has_two_counts, axes_at, axes_in}
 use Rattle.fisca_grid.specs.Turning.{specs_of, turned}
 
 fault_head : (o : Option AxesFault) (rest : List AxesFault) → slice_get (cons_option o rest) 0 ≡ option_or o (slice_get rest 0)

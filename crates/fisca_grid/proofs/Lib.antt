@@ -12,6 +12,7 @@ pub mod Described
 pub mod Values
 pub mod Positions
 pub mod Orders
+pub mod Tuples
 mod Prefixes
 mod Cuts
 mod Counts

@@ -1,5 +1,5 @@
 -- The values of axes at their places, and the condition on one of them.
-use Rattle.std.proofs.Common.{◌≡◌, ℕ, zero, suc, ◌+◌, ◌<◌, Bool, true, false, cond, List, [], ◌∷◌, ◌++◌, length, take, Option, Some, None, Result, Ok, Err, IfOk, slice_get, refl, sym, ap, ap₂, ◌∙◌, arith, add-one, append_assoc, append-nil, subst}
+use Rattle.std.proofs.Common.{◌≡◌, ℕ, zero, suc, ◌<◌, Bool, true, false, cond, List, [], ◌∷◌, ◌++◌, length, take, Option, Some, None, Result, Ok, Err, IfOk, slice_get, refl, sym, ap, ap₂, ◌∙◌, arith, append_assoc, append-nil, subst}
 use Rattle.std.specs.Option.{ForSome}
 use Rattle.std.specs.declared.convert.Infallible.{Infallible}
 use Rattle.fisca_num.specs.declared.faults.NumFault.{NumFault}

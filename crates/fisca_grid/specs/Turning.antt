@@ -1,5 +1,5 @@
 -- How a grid is kept: a flat list of axes, each with the number of positions for which it stays at a place.
-use Rattle.std.specs.Prelude.{◌≡◌, ℕ, ◌+◌, ◌/◌, ◌%◌, List, [], ◌∷◌, map, length, Option, None}
+use Rattle.std.specs.Prelude.{◌≡◌, ℕ, ◌/◌, ◌%◌, List, map, None}
 use Rattle.fisca_grid.specs.Grid.{groups_of, size_of, axes_at, axes_fault}
 use Rattle.fisca_grid.specs.declared.axes.Axis.{Axis}
 use Rattle.fisca_grid.specs.declared.axes.AxisSpec.{AxisSpec}

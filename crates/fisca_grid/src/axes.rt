@@ -271,4 +271,3 @@ fn fraction(numerator: i64, denominator: u64) -> Fraction
         Err(_) => unreachable!(),
     }
 }
-

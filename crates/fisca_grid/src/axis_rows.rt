@@ -61,9 +61,7 @@ impl AxisRows {
             None => true,
             Some(filter) => {
                 let condition = filter.condition;
-                let order = self
-                    .axes
-                    .compare(filter.axis, position, condition.constant);
+                let order = self.axes.compare(filter.axis, position, condition.constant);
                 condition.comparison.is_met_by(order)
             }
         }

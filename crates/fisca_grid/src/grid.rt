@@ -197,8 +197,6 @@ impl Axes {
         ensures { ForSome (slice_get (axes_at self.now position) axis) (λ at. IfOk (step_of at.0 at.1) (λ value. result ≡ number_cmp value number)) }
     {
         let turning = &self.axes[axis];
-        turning
-            .axis
-            .compare(turning.place(position), number)
+        turning.axis.compare(turning.place(position), number)
     }
 }

@@ -1,7 +1,8 @@
 //! Laws of the lines of a run, whatever stands at the positions of its grid.
 
-ghost use Rattle.std.specs.Prelude.{◌≡◌, ℕ, ◌<◌, ◌≤◌, Option, None, map, All};
+ghost use Rattle.std.specs.Prelude.{◌≡◌, ℕ, ◌<◌, ◌≤◌, Option, None, List, [], map, length, slice_index_or, All};
 ghost use Rattle.std.specs.List.Sorted.{IsStrictlyIncreasing};
+ghost use Rattle.fisca_grid.specs.Grid.{grid, product_of, places_at};
 ghost use Rattle.fisca_grid.specs.Row.{Row, Fault};
 ghost use Rattle.fisca_grid.specs.Lines.{lines, run_end, AtEnd, MoreFrom, FaultAt};
 ghost use Rattle.fisca_grid.specs.Continued.{IsContinued};
@@ -19,4 +20,11 @@ pub fn runs_continue<F>()
 pub fn positions_rise<F>()
     ensures rising { (row : ℕ → Row F) (size from : ℕ) (limit : Option ℕ) → IsStrictlyIncreasing (map (λ line. line.0) (lines row size from limit)) }
     ensures within { (row : ℕ → Row F) (size from : ℕ) (limit : Option ℕ) → All (λ line. (from ≤ line.0) × (line.0 < size)) (lines row size from limit) }
+{}
+
+/// A grid has a position for each tuple of places, of which the first place turns fastest: as many as the product of the
+/// counts, and the places at a position are the tuple that stands there among all.
+pub fn positions_are_tuples()
+    ensures size { (counts : List ℕ) → length (grid counts) ≡ product_of counts }
+    ensures places { (counts : List ℕ) (position : ℕ) → position < product_of counts → slice_index_or (grid counts) position [] ≡ places_at counts position }
 {}

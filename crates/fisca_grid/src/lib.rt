@@ -23,7 +23,7 @@ pub use condition::{Comparison, Condition, Filter, read_condition};
 pub use cursor::GridCursor;
 pub use fault::{RowFault, RunEnd, RunFault};
 pub use grid::Axes;
-pub use law::{positions_rise, runs_continue};
+pub use law::{positions_are_tuples, positions_rise, runs_continue};
 pub use memory_sink::MemorySink;
 pub use named_axes::{has_twins, own_groups, read_axes, read_filter};
 pub use rows::{Rows, Selection};

@@ -1,4 +1,4 @@
-use Rattle.std.proofs.Common.{◌≡◌, ◌++◌, take, drop}
+use Rattle.std.proofs.Common.{◌≡◌, take, drop}
 use Rattle.fisca_grid.specs.Axes.{first_axis_fault}
 use Rattle.fisca_grid.specs.Turning.{specs_of}
 use Rattle.fisca_grid.proofs.grid.accept_axes.Given as goal

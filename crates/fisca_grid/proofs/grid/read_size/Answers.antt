@@ -1,4 +1,4 @@
-use Rattle.std.proofs.Common.{◌≡◌, ◌∷◌, ◌+◌, ◌-◌, ◌^◌, drop, drop-cons, add-one, get_or, arith}
+use Rattle.std.proofs.Common.{◌≡◌, ◌∷◌, ◌+◌, ◌-◌, ◌^◌, drop, drop-cons, add-one, get_or}
 use Rattle.fisca_grid.proofs.Groups.{left_grouped, left_alike, left_size}
 use Rattle.fisca_grid.proofs.grid.read_size.Goals as goal
 

@@ -1,4 +1,4 @@
-use Rattle.std.proofs.Common.{◌≡◌, ◌*◌, ◌/◌, ◌++◌, ◌<◌, ℕ, false, drop, sum, map, length}
+use Rattle.std.proofs.Common.{◌≡◌, ◌*◌, ◌/◌, ◌++◌, ℕ, false, drop, sum, map, length}
 use Rattle.std.specs.List.{list_any}
 use Rattle.fisca_grid.specs.Grid.{groups_of, has_two_counts, size_of, axes_at}
 use Rattle.fisca_grid.specs.Turning.{specs_of, axes_of, placed}

@@ -1,4 +1,4 @@
-use Rattle.std.proofs.Common.{◌≡◌, ◌<◌, ◌++◌, ◌∙◌, length, sym, ap}
+use Rattle.std.proofs.Common.{◌<◌, ◌++◌, ◌∙◌, length, sym, ap}
 use Rattle.std.specs.Option.{ForSome}
 use Rattle.fisca_grid.specs.AxesRow.{line_of}
 use Rattle.fisca_grid.specs.Grid.{axes_at}

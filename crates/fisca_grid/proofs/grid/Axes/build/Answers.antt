@@ -1,4 +1,4 @@
-use Rattle.std.proofs.Common.{◌≡◌, ◌∙◌, ◌<◌, List, ap, sym, subst}
+use Rattle.std.proofs.Common.{◌∙◌, ◌<◌, List, ap, sym, subst}
 use Rattle.fisca_grid.specs.Grid.{groups_of, size_of}
 use Rattle.fisca_grid.specs.Turning.{specs_of}
 use Rattle.fisca_grid.specs.declared.axes.AxisSpec.{AxisSpec}

@@ -1,4 +1,4 @@
-use Rattle.std.proofs.Common.{◌≡◌, Some, sym, ap, ◌∙◌, arith}
+use Rattle.std.proofs.Common.{◌≡◌, arith}
 use Rattle.fisca_grid.proofs.Kept.{count_is, axis_is}
 use Rattle.fisca_grid.proofs.grid.Axes.step.Goals as goal
 

@@ -115,6 +115,7 @@ fn within_len(tokens: &[Token]) -> usize
         .count()
 }
 
+#[tactic(auto, using(crate::proofs::Split::none_cut, crate::proofs::Split::last_cut))]
 /// Takes the last line's tokens off, if there is a line. What they took is free at once, so that no token is kept twice.
 fn cut(tokens: &mut Vec<Token>) -> Result<Option<Vec<Token>>, AllocError>
     ensures value { IfOk result (λ cut. MatchOption cut (spec.lines tokens.old.items ≡ [])
@@ -154,7 +155,7 @@ fn push(found: &mut Vec<Line>, tokens: Vec<Token>) -> Result<(), AllocError>
 }
 
 /// The lines of these tokens, the last one first.
-#[tactic(auto, using(crate::proofs::Split::one_more))]
+#[tactic(auto, using(crate::proofs::Split::one_more, crate::proofs::Split::at_the_end))]
 pub(crate) fn lines(alloc: Global, tokens: Vec<Token>) -> Result<Vec<Line>, AllocError>
     ensures { IfOk result (λ v. reverse v.items ≡ spec.lines tokens.items) }
 {

@@ -2,8 +2,8 @@ use Rattle.std.proofs.Common.{◌≡◌, ◌++◌, length, reverse}
 use Rattle.fisca_syntax.specs.Lines.{lines}
 use Rattle.fisca_syntax.proofs.line.lines.Given as goal
 
-abbrev pub invariant-loop-line : goal.invariant-loop-line
-invariant-loop-line l = lines l.tokens.items ≡ lines l.left.items ++ reverse l.found.items
+abbrev pub invariant-loop-found : goal.invariant-loop-found
+invariant-loop-found l = lines l.tokens.items ≡ lines l.left.items ++ reverse l.found.items
 
-abbrev pub decreases-loop-line : goal.decreases-loop-line
-decreases-loop-line l = length l.left.items
+abbrev pub decreases-loop-found : goal.decreases-loop-found
+decreases-loop-found l = length l.left.items

@@ -115,8 +115,8 @@ fn within_len(tokens: &[Token]) -> usize
         .count()
 }
 
-#[tactic(auto, using(crate::proofs::Split::none_cut, crate::proofs::Split::last_cut))]
 /// Takes the last line's tokens off, if there is a line. What they took is free at once, so that no token is kept twice.
+#[tactic(auto, using(crate::proofs::Split::none_cut, crate::proofs::Split::last_cut))]
 fn cut(tokens: &mut Vec<Token>) -> Result<Option<Vec<Token>>, AllocError>
     ensures value { IfOk result (λ cut. MatchOption cut (spec.lines tokens.old.items ≡ [])
         (λ line. spec.lines tokens.old.items ≡ spec.lines tokens.new.items ++ spec.line_by (spec.indent_of line.items) line.items [])) }
@@ -156,12 +156,11 @@ fn push(found: &mut Vec<Line>, tokens: Vec<Token>) -> Result<(), AllocError>
 
 /// The lines of these tokens, the last one first.
 #[tactic(auto, using(crate::proofs::Split::one_more, crate::proofs::Split::at_the_end))]
-pub(crate) fn lines(alloc: Global, tokens: Vec<Token>) -> Result<Vec<Line>, AllocError>
+pub(crate) fn lines(alloc: Global, mut tokens: Vec<Token>) -> Result<Vec<Line>, AllocError>
     ensures { IfOk result (λ v. reverse v.items ≡ spec.lines tokens.items) }
 {
-    let mut left = tokens;
     let mut found = Vec::new(alloc);
-    while let Some(line) = cut(&mut left)? {
+    while let Some(line) = cut(&mut tokens)? {
         push(&mut found, line)?;
     }
     Ok(found)

@@ -100,7 +100,9 @@ fn inputs(situation: &Situation) -> u64 {
     };
     for variable in 0..2usize {
         for member in 0..situation.members(1 - variable) {
-            sum = sum.wrapping_mul(31).wrapping_add(of_member(situation, years, variable, member));
+            sum = sum
+                .wrapping_mul(31)
+                .wrapping_add(of_member(situation, years, variable, member));
         }
     }
     sum
@@ -109,15 +111,26 @@ fn inputs(situation: &Situation) -> u64 {
 /// The same of a variable and a member.
 fn of_member(situation: &Situation, years: Period, variable: usize, member: u32) -> u64 {
     let mut sum = 0u64;
-    for i in 0..96u32 {
+    let Ok(count) = years.sub_count(Unit::Month) else {
+        return sum;
+    };
+    for i in 0..count {
         let key = Key {
             variable,
             member,
             period: years.sub(Unit::Month, i),
         };
-        if let Some(Value::Number(number)) = situation.input(&key) {
-            sum = sum.wrapping_mul(31).wrapping_add(number.numerator() as u64);
+        if let Some(value) = situation.input(&key) {
+            sum = sum.wrapping_mul(31).wrapping_add(numerator_of(value));
         }
     }
     sum
+}
+
+/// The numerator of a number; 0 of any other value.
+fn numerator_of(value: Value) -> u64 {
+    match value {
+        Value::Number(number) => number.numerator().unsigned_abs(),
+        Value::Bool(_) | Value::Member(_) => 0,
+    }
 }

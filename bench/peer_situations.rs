@@ -58,6 +58,8 @@ fn map_at<'a>(lines: &[&'a str], first: usize, column: usize) -> (Vec<Entry<'a>>
         at += 1;
         let value = if let Some(items) = rest.strip_prefix('[') {
             Tree::List(items.trim_end_matches(']').split(", ").collect())
+        } else if rest == "{}" {
+            Tree::Map(Vec::new())
         } else if !rest.is_empty() {
             Tree::Scalar(rest)
         } else {
@@ -178,8 +180,7 @@ fn given(givens: &mut Vec<Given>, keys: &mut HashSet<Key, Folds>, tables: &Table
 fn map_of<'t, 'a>(value: &'t Tree<'a>, line: usize) -> Result<&'t [Entry<'a>], Fault> {
     match value {
         Tree::Map(entries) => Ok(entries),
-        Tree::Null => Ok(&[]),
-        Tree::Scalar(_) | Tree::List(_) => fault(line, Kind::BadValue),
+        Tree::Null | Tree::Scalar(_) | Tree::List(_) => fault(line, Kind::BadValue),
     }
 }
 

@@ -7,7 +7,7 @@ mod task;
 use clap::error::ErrorKind;
 use fisca_commands::{Ending, Task, run_task};
 use fisca_folder::{FolderFault, read_rules};
-use fisca_grid::StreamSink;
+use fisca_lines::StreamSink;
 use fisca_params::SourceFile;
 use folder::DiskFolder;
 use std::io::{BufWriter, Write};

@@ -4,7 +4,7 @@ ghost use Rattle.std.specs.Prelude.{◌≡◌, false, IfOk, map, string_bytes, c
 ghost use Rattle.clap.specs.Matches.{found_of};
 ghost use Rattle.clap.specs.declared.builder.command.Command.TheViews.{out-Command};
 ghost use Rattle.clap.specs.Walk.{rows_of, rule_of};
-ghost use Rattle.clap.specs.Simple.{app_of, subcommand_of};
+ghost use Rattle.clap.specs.Simple.{app_of, new_app, subcommand_of};
 ghost use Rattle.clap.specs.Faults.{fault_of};
 ghost use Rattle.clap.specs.Kinds.{FailsBy};
 ghost use Rattle.fisca.specs.CommandLine.{axis_rule, option_rule, number_rule, required_rule, axes_app, check_app, fisca_app, IsAxesTask, IsCheckTask, IsTaskOf};
@@ -38,14 +38,17 @@ const CHECK_EXAMPLE: &str = "Example:
 
 const RULES_HELP: &str = "The folder of the rule set: entities.py, variables and parameters";
 
-const AXES_ABOUT: &str = "List the values of an axis";
+const AXES_ABOUT: &str = "List the values of axes";
 
 const AXES_LONG: &str =
-    "List the values of an axis, one line a position: the position, a tab, the value.
+    "List the values of axes, one line a position: the position, and for each axis a tab and its value.
 
-The axis NAME=MIN..MAX/COUNT has the positions 0 to COUNT-1. The value at position I is exactly
+The axis NAME=MIN..MAX/COUNT has the places 0 to COUNT-1. The value at place I is exactly
 MIN + I * (MAX - MIN) / (COUNT - 1), and MIN where COUNT is 1. It is printed as a decimal where
 it has one, such as 0.5, and else as a fraction, such as 1/3.
+
+The positions of several axes are all tuples of places, counted from 0, of which the first turns
+fastest.
 
 The last line is 'end' where no position is left, and 'more P' where --rows ended the list: the
 same command with --from P lists the rest.";
@@ -54,6 +57,8 @@ const AXES_EXAMPLE: &str = "Example:
   fisca axes salary=0..2000/5 --keep \"salary>=500\" --rows 2";
 
 const AXES_EXAMPLES: &str = "Examples:
+  fisca axes salary=0..1000/2 rent=500..600/2
+      lists 0 and 500, 1000 and 500, 0 and 600, 1000 and 600
   fisca axes salary=0..2000/5
       lists 0, 500, 1000, 1500 and 2000
   fisca axes salary=0..2000/5 --keep \"salary>=500\" --rows 2
@@ -64,14 +69,15 @@ const AXES_EXAMPLES: &str = "Examples:
 Exit status:
   0  done
   2  the command line is wrong
-  3  refused: BadWord (no axis of that form), BadCount, BadBound, BadCondition or BadPosition
+  3  refused: BadWord (no axis of that form), BadCount, BadBound, TooLarge, AxisOverlap (two axes
+     of one name), BadCondition or BadPosition
   5  the output could not be written
   6  out of memory";
 
-const AXIS_HELP: &str = "The axis, NAME=MIN..MAX/COUNT";
+const AXIS_HELP: &str = "An axis, NAME=MIN..MAX/COUNT";
 
 const AXIS_LONG: &str =
-    "The axis, NAME=MIN..MAX/COUNT, such as salary=0..2000/5 (at present just one)
+    "An axis, NAME=MIN..MAX/COUNT, such as salary=0..2000/5: up to 16, of 2^32 positions in all
 
 NAME   ASCII letters, digits and '_', of which the first is no digit
 MIN    the first value, a decimal number such as -0.5
@@ -80,11 +86,12 @@ COUNT  the number of values, 1 to 1048576
 
 MIN and MAX are at most 10^9 in size, with at most 3 decimals.";
 
-const KEEP_HELP: &str = "List only values that meet a condition, such as \"salary>=500\"";
+const KEEP_HELP: &str = "List only where an axis meets a condition, such as \"salary>=500\"";
 
-const KEEP_LONG: &str = "List only values that meet a condition, such as \"salary>=500\"
+const KEEP_LONG: &str =
+    "List only positions where an axis's value meets a condition, such as \"salary>=500\"
 
-It is the axis's name, one of >= <= == != > < and a decimal number. Spaces may stand
+It is an axis's name, one of >= <= == != > < and a decimal number. Spaces may stand
 around the comparison alone. Quote it, or the shell takes > and < for redirections.";
 
 const FROM_HELP: &str = "Begin at this position [default: 0]";
@@ -136,6 +143,26 @@ fn keep_option<'a>(alloc: Global) -> Arg<'a>
         .long_help(KEEP_LONG)
 }
 
+/// The option `--from`.
+fn from_option<'a>(alloc: Global) -> Arg<'a>
+    ensures rule { rule_of result ≡ number_rule (codes "from") }
+    ensures local { result.global ≡ false }
+{
+    number(alloc, "from", "P", FROM_HELP).long_help(FROM_LONG)
+}
+
+/// The command `axes` with its help, and no arguments yet.
+fn axes_page<'a>(alloc: Global) -> Command<'a>
+    ensures app { app_of result ≡ new_app (codes "axes") }
+    ensures local { (out-Command result).has_globals ≡ false }
+{
+    Command::new(alloc, "axes")
+        .about(AXES_ABOUT)
+        .long_about(AXES_LONG)
+        .after_help(AXES_EXAMPLE)
+        .after_long_help(AXES_EXAMPLES)
+}
+
 /// The command `axes`.
 fn axes_command<'a>(alloc: Global) -> Result<Command<'a>, AllocError>
     ensures app { IfOk result (λ command. app_of command ≡ axes_app) }
@@ -143,17 +170,9 @@ fn axes_command<'a>(alloc: Global) -> Result<Command<'a>, AllocError>
 {
     let axis = axis_argument(alloc);
     let keep = keep_option(alloc);
-    let from = number(alloc, "from", "P", FROM_HELP).long_help(FROM_LONG);
+    let from = from_option(alloc);
     let rows = number(alloc, "rows", "N", ROWS_HELP);
-    Command::new(alloc, "axes")
-        .about(AXES_ABOUT)
-        .long_about(AXES_LONG)
-        .after_help(AXES_EXAMPLE)
-        .after_long_help(AXES_EXAMPLES)
-        .arg(axis)?
-        .arg(keep)?
-        .arg(from)?
-        .arg(rows)
+    axes_page(alloc).arg(axis)?.arg(keep)?.arg(from)?.arg(rows)
 }
 
 /// The command `check`.

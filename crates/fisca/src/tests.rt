@@ -20,6 +20,8 @@ fn each_command_line_ends_with_its_status(rt: HostRuntime) -> Result<(), AllocEr
         ("fisca axes salary=0..2000/5 --from 5", 0),
         ("fisca axes salary=0..2000/5 --from 6", 3),
         ("fisca axes salary=0..2000/5 --keep rent>0 --from 6", 3),
+        ("fisca axes a=0..1/2 b=5..6/2", 0),
+        ("fisca axes a=0..1/2 a=5..6/2", 3),
         ("fisca axes salary=7..9", 3),
         ("fisca axes salary=7..9/0", 3),
         ("fisca axes salary=0..1000000001/2", 3),

@@ -94,7 +94,7 @@ pub fn date_value(alloc: Global, value: &Expr<'_>) -> Result<Instant, Kind>
     ensures { Gives (λ d. d) (spec.date_value (tree value.now)) result }
 {
     match bare(value) {
-        Expr::Applied(called, Suffix::Call, inside) => {
+        Expr::Applied(Suffix::Call, called, inside) => {
             if !is_date(&**called) {
                 return Err(Kind::BadAttribute);
             }

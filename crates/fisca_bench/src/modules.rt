@@ -141,7 +141,7 @@ fn expression(expr: &Expr<'_>) -> u64 {
         Expr::Attribute(inside, name) => expression(inside)
             .wrapping_add(1)
             .wrapping_add(length(name)),
-        Expr::Applied(inside, _, behind) => {
+        Expr::Applied(_, inside, behind) => {
             expression(inside)
                 .wrapping_add(1)
                 .wrapping_add(arguments(behind))

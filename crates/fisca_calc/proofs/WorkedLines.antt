@@ -2,7 +2,7 @@
 use Rattle.std.proofs.Common.{◌≡◌, ℕ, ◌*◌, List, [], ◌∷◌, ◌++◌, codes, refl}
 use Rattle.std.specs.Prelude.{true, Some, Result, Ok, Err, if◌then◌else◌, ◌==◌}
 use Rattle.fisca_columns.specs.Shown.{shown}
-use Rattle.fisca_grid.specs.Row.{Row, Nothing, Line, Fault}
+use Rattle.fisca_lines.specs.Row.{Row, Nothing, Line, Fault}
 use Rattle.fisca_inputs.specs.Entries.{key}
 use Rattle.fisca_inputs.specs.declared.given.Value.{Value}
 use Rattle.fisca_inputs.specs.declared.given.Value.TheVariants as v

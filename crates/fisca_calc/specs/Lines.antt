@@ -1,9 +1,9 @@
 -- The lines of columns.
 use Rattle.std.specs.Prelude.{◌≡◌, ⊤, ℕ, List, [], ◌∷◌, ◌++◌, slice_get, Option, Some, None, Result, Ok, Err}
 use Rattle.fisca_columns.specs.Texts.{key_text, value_text}
-use Rattle.fisca_grid.specs.Row.{Row, Nothing, Line, Fault}
-use Rattle.fisca_grid.specs.declared.fault.RowFault.{RowFault}
-use Rattle.fisca_grid.specs.declared.fault.RowFault.TheVariants as fault
+use Rattle.fisca_lines.specs.Row.{Row, Nothing, Line, Fault}
+use Rattle.fisca_lines.specs.declared.fault.RowFault.{RowFault}
+use Rattle.fisca_lines.specs.declared.fault.RowFault.TheVariants as fault
 use Rattle.fisca_inputs.specs.declared.given.Value.{Value}
 use Rattle.fisca_inputs.specs.declared.key.Key.{Key}
 use Rattle.fisca_members.specs.declared.entity_members.EntityMembers.{EntityMembers}

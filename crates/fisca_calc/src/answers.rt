@@ -1,7 +1,7 @@
 //! What answers the values of keys.
 
-use fisca_grid::RowFault;
 use fisca_inputs::{Key, Value};
+use fisca_lines::RowFault;
 use fisca_situations::Situation;
 
 /// What answers the values of keys in a situation.

@@ -3,15 +3,15 @@
 ghost use Rattle.std.specs.Prelude.{◌≡◌, ◌++◌, IsTrue, None, length, OnOk, string_bytes};
 ghost use Rattle.std.specs.List.{list_all};
 ghost use Rattle.fisca_calc.specs.Lines.{column_row, line_of};
-ghost use Rattle.fisca_grid.specs.Run.{IsRun, is_write};
-ghost use Rattle.fisca_grid.specs.Sink.{CountsFailure};
+ghost use Rattle.fisca_lines.specs.Run.{IsRun, is_write};
+ghost use Rattle.fisca_lines.specs.Sink.{CountsFailure};
 ghost use Rattle.fisca_situations.specs.Views.{situation as situation_view};
 ghost use Rattle.fisca_tables.specs.Known.{tables as known};
 
 use crate::answers::Answers;
 use fisca_columns::{write_key, write_value};
-use fisca_grid::{RowFault, RowSink, Rows, RunEnd, RunFault, Selection, write_lines};
 use fisca_inputs::{Key, Value};
+use fisca_lines::{RowFault, RowSink, Rows, RunEnd, RunFault, Selection, write_lines};
 use fisca_situations::Situation;
 use fisca_tables::Tables;
 use std::alloc::{AllocError, Global};

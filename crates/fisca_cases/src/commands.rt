@@ -4,7 +4,7 @@ use crate::fault::{Fault, push_refusal};
 use crate::words::number;
 use crate::written::Written;
 use fisca_commands::{Task, axes_words, check_rules, run_task};
-use fisca_grid::{MemorySink, RunEnd};
+use fisca_lines::{MemorySink, RunEnd};
 use fisca_params::SourceFile;
 use std::alloc::{AllocError, Global};
 

@@ -47,7 +47,7 @@ fn show(shown: &mut Written, expr: &Expr<'_>) {
             shown.push(".");
             push(shown, name);
         }
-        Expr::Applied(value, suffix, inside) => {
+        Expr::Applied(suffix, value, inside) => {
             show(shown, value);
             shown.push(opening(*suffix));
             show_arguments(shown, inside);

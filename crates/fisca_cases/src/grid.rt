@@ -3,7 +3,7 @@
 use crate::fault::Fault;
 use crate::words::{number, one, two};
 use crate::written::Written;
-use fisca_grid::{Axes, AxesFault, AxisSpec, GridCursor};
+use fisca_grid::{Axes, AxesFault, AxisSpec, GridCursor, read_axis};
 use fisca_num::Fraction;
 use std::alloc::Global;
 use std::cmp::Ordering;
@@ -13,6 +13,7 @@ pub fn answer(alloc: Global, operation: &str, words: &[String]) -> Result<String
     match operation {
         "no_groups" => size(alloc, Axes::build(alloc, &[], &[])),
         "empty_group" => size(alloc, Axes::build(alloc, &[], &[0])),
+        "pair" => pair(alloc, words),
         _ => match words {
             [min, max, count, rest @ ..] => {
                 let spec = axis(min.as_str(), max.as_str(), count.as_str())?;
@@ -29,6 +30,43 @@ fn axis(min: &str, max: &str, count: &str) -> Result<AxisSpec, Fault> {
         min: Fraction::from_decimal(min)?,
         max: Fraction::from_decimal(max)?,
     })
+}
+
+/// The values at a position of three axes, of which the first two are a group.
+fn pair(alloc: Global, words: &[String]) -> Result<String, Fault> {
+    match words {
+        [position, first, second, third] => {
+            let specs = [
+                described(first.as_str())?,
+                described(second.as_str())?,
+                described(third.as_str())?,
+            ];
+            let axes = Axes::build(alloc, &specs, &[2, 1])?;
+            values(alloc, &axes, number(position.as_str())?)
+        }
+        _ => Err(Fault::Malformed),
+    }
+}
+
+/// The axis that a word describes.
+fn described(word: &str) -> Result<AxisSpec, Fault> {
+    match read_axis(word) {
+        Some((_, spec)) => Ok(spec),
+        None => Err(Fault::Malformed),
+    }
+}
+
+/// The values of all axes at a position.
+fn values(alloc: Global, axes: &Axes, position: u64) -> Result<String, Fault> {
+    if position >= axes.size() {
+        return Err(Fault::Malformed);
+    }
+    let mut shown = Written::new(alloc);
+    for axis in 0..axes.count() {
+        shown.push(if axis == 0 { "" } else { " " });
+        shown.push(axes.step(axis, position).text(alloc)?.as_str());
+    }
+    Ok(shown.finish()?)
 }
 
 /// What is asked of an axis.
@@ -56,7 +94,7 @@ fn size(alloc: Global, axes: Result<Axes, AxesFault>) -> Result<String, Fault> {
 fn step(alloc: Global, spec: AxisSpec, words: &[String]) -> Result<String, Fault> {
     let position = number(one(words)?)?;
     let axes = Axes::build(alloc, &[spec], &[1])?;
-    if position >= axes.size() {
+    if axes.count() == 0 || position >= axes.size() {
         return Err(Fault::Malformed);
     }
     Ok(axes.step(0, position).text(alloc)?)
@@ -68,7 +106,7 @@ fn compare(alloc: Global, spec: AxisSpec, words: &[String]) -> Result<String, Fa
     let position = number(position)?;
     let with = Fraction::from_decimal(with)?;
     let axes = Axes::build(alloc, &[spec], &[1])?;
-    if position >= axes.size() {
+    if axes.count() == 0 || position >= axes.size() {
         return Err(Fault::Malformed);
     }
     let order = match axes.compare(0, position, with) {

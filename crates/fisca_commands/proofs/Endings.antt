@@ -1,17 +1,16 @@
 -- The status that is told of an answer is 5 exactly where the sink failed.
-use Rattle.std.proofs.Common.{◌≡◌, inl, inr, ℕ, ◌==◌, ◌&&◌, cond, is_ok, Bool, false, List, [], ◌∷◌, Option, Some, None, Result, Ok, Err, MatchResult, refl, sym, ap, ◌∙◌}
+use Rattle.std.proofs.Common.{◌≡◌, inl, inr, ℕ, ◌==◌, ◌&&◌, cond, is_ok, Bool, false, List, map, Option, Some, None, Result, Ok, Err, MatchResult, refl, sym, ap, ◌∙◌}
 use Rattle.std.proofs.lemmas.Bool.{ne_eqb, true≢false}
-use Rattle.fisca_grid.specs.Axes.{axes_fault}
-use Rattle.fisca_grid.specs.Sink.{one_more}
-use Rattle.fisca_grid.specs.Condition.{condition_of}
-use Rattle.fisca_grid.specs.Words.{axis_of}
+use Rattle.fisca_grid.specs.Grid.{axes_fault, groups_of}
+use Rattle.fisca_lines.specs.Sink.{one_more}
 use Rattle.fisca_grid.specs.declared.axes.AxisSpec.{AxisSpec}
 use Rattle.fisca_grid.specs.declared.axes.AxesFault.{AxesFault}
 use Rattle.fisca_grid.specs.declared.axes.AxesFault.TheVariants as axes
-use Rattle.fisca_grid.specs.declared.fault.RunEnd.{RunEnd}
-use Rattle.fisca_grid.specs.declared.fault.RunFault.TheVariants as run
-use Rattle.fisca_grid.specs.declared.condition.Condition.{Condition}
-use Rattle.fisca_commands.specs.AxesRun.{FilteredAxes, required_condition, optional_condition, filtered_axis, axis_within_limits, required_axis, axes_of_words, IsAxesRun, IsRefused, IsAxesAnswer, is_write}
+use Rattle.fisca_lines.specs.declared.fault.RunEnd.{RunEnd}
+use Rattle.fisca_lines.specs.declared.fault.RunFault.TheVariants as run
+use Rattle.fisca_grid.specs.NamedAxes.{name_of, specs_of, own_groups, filter_from}
+use Rattle.fisca_grid.specs.declared.condition.Filter.{Filter}
+use Rattle.fisca_commands.specs.AxesRun.{FilteredAxes, required_filter, optional_filter, filtered_axes, axes_within_limits, named_fault, required_axes, axes_of_words, IsAxesRun, IsRefused, IsAxesAnswer, is_write}
 use Rattle.fisca_commands.specs.Ending.{Outcome, IsTold, IsRunEnding}
 use Rattle.fisca_commands.specs.Refusal.{status_of}
 use Rattle.fisca_commands.specs.declared.refusal.Refusal.{Refusal}
@@ -22,36 +21,37 @@ abbrev IsUnwritten : {X : Type 0} → Result X Refusal → Type 0
 IsUnwritten (Ok x) = Unit {0}
 IsUnwritten (Err refusal) = (status_of refusal == 5) ≡ false
 
-unwritten_condition : (condition : Option Condition) → IsUnwritten (required_condition condition)
-unwritten_condition None = refl
-unwritten_condition (Some condition) = tt
+unwritten_filter : (filter : Option Filter) → IsUnwritten (required_filter filter)
+unwritten_filter None = refl
+unwritten_filter (Some filter) = tt
 
-unwritten_keep : (name : List ℕ) (keep : Option (List ℕ)) → IsUnwritten (optional_condition name keep)
-unwritten_keep name None = tt
-unwritten_keep name (Some text) = unwritten_condition (condition_of name text)
+unwritten_keep : (names : List (List ℕ)) (keep : Option (List ℕ)) → IsUnwritten (optional_filter names keep)
+unwritten_keep names None = tt
+unwritten_keep names (Some text) = unwritten_filter (filter_from 0 names text)
 
-unwritten_axis : (axis : AxisSpec) (keep : Result (Option Condition) Refusal) → IsUnwritten keep → IsUnwritten (filtered_axis axis keep)
-unwritten_axis axis (Ok keep) h = tt
-unwritten_axis axis (Err refusal) h = h
+unwritten_axes : (axes : List (List AxisSpec)) (keep : Result (Option Filter) Refusal) → IsUnwritten keep → IsUnwritten (filtered_axes axes keep)
+unwritten_axes axes (Ok keep) h = tt
+unwritten_axes axes (Err refusal) h = h
 
 unwritten_fault : (fault : AxesFault) → (status_of (Axes fault) == 5) ≡ false
 unwritten_fault axes.NoAxes = refl
+unwritten_fault axes.CountsDiffer = refl
 unwritten_fault axes.BadCount = refl
+unwritten_fault axes.TooLarge = refl
+unwritten_fault axes.AxisOverlap = refl
 unwritten_fault axes.BadBound = refl
 unwritten_fault axes.Memory = refl
 
-unwritten_limits : (named : List ℕ × AxisSpec) (fault : Option AxesFault) (keep : Option (List ℕ)) → IsUnwritten (axis_within_limits named fault keep)
-unwritten_limits named None keep = unwritten_axis named.1 (optional_condition named.0 keep) (unwritten_keep named.0 keep)
-unwritten_limits named (Some fault) keep = unwritten_fault fault
+unwritten_limits : (names : List (List ℕ)) (specs : List AxisSpec) (fault : Option AxesFault) (keep : Option (List ℕ)) → IsUnwritten (axes_within_limits names specs fault keep)
+unwritten_limits names specs None keep = unwritten_axes (groups_of specs (own_groups specs)) (optional_filter names keep) (unwritten_keep names keep)
+unwritten_limits names specs (Some fault) keep = unwritten_fault fault
 
-unwritten_required : (named : Option (List ℕ × AxisSpec)) (keep : Option (List ℕ)) → IsUnwritten (required_axis named keep)
-unwritten_required None keep = refl
-unwritten_required (Some named) keep = unwritten_limits named (axes_fault (named.1 ∷ []) (1 ∷ [])) keep
+unwritten_required : (names : List (List ℕ)) (specs : Option (List AxisSpec)) (keep : Option (List ℕ)) → IsUnwritten (required_axes names specs keep)
+unwritten_required names None keep = refl
+unwritten_required names (Some specs) keep = unwritten_limits names specs (named_fault names (axes_fault specs (own_groups specs))) keep
 
 unwritten_words : (words : List (List ℕ)) (keep : Option (List ℕ)) → IsUnwritten (axes_of_words words keep)
-unwritten_words [] keep = refl
-unwritten_words (word ∷ []) keep = unwritten_required (axis_of word) keep
-unwritten_words (word ∷ other ∷ words) keep = refl
+unwritten_words words keep = unwritten_required (map name_of words) (specs_of words) keep
 
 abbrev is_failed_write : Result RunEnd Refusal → Bool
 is_failed_write (Ok end) = false

@@ -1,5 +1,5 @@
-mod ManyWords
 mod Parts
 mod FirstModule
 mod Endings
 mod Written
+mod Named

@@ -1,80 +1,56 @@
 -- What `fisca axes` answers and writes.
-use Rattle.std.specs.Prelude.{◌≡◌, ◌⊎◌, Bool, false, ℕ, List, [], ◌∷◌, ◌++◌, Option, Some, None, Result, Ok, Err, if◌then◌else◌, MatchResult}
-use Rattle.std.specs.Fmt.{decimal}
+use Rattle.std.specs.Prelude.{◌≡◌, ◌⊎◌, Bool, false, ℕ, List, map, Option, Some, None, Result, Ok, Err, if◌then◌else◌, MatchResult}
+use Rattle.std.specs.Option.{option_or}
 use Rattle.std.specs.Io.KnownBytes.{Keeps}
-use Rattle.std.specs.declared.convert.Infallible.{Infallible}
-use Rattle.fisca_num.specs.declared.faults.NumFault.{NumFault}
-use Rattle.fisca_num.specs.Number.{Number}
-use Rattle.fisca_num.specs.Text.{text_of}
-use Rattle.fisca_grid.specs.Axes.{axes_fault, size_of, step_of}
-use Rattle.fisca_grid.specs.Row.{Row, Nothing, Line}
-use Rattle.fisca_grid.specs.Run.{IsRun, is_write as run_is_write}
+use Rattle.fisca_grid.specs.AxesRow.{axes_row}
+use Rattle.fisca_grid.specs.Grid.{axes_fault, groups_of, size_of}
+use Rattle.fisca_grid.specs.NamedAxes.{name_of, specs_of, own_groups, has_twins, filter_from}
+use Rattle.fisca_lines.specs.Run.{IsRun, is_write as run_is_write}
 use Rattle.fisca_grid.specs.declared.axes.AxisSpec.{AxisSpec}
 use Rattle.fisca_grid.specs.declared.axes.AxesFault.{AxesFault}
-use Rattle.fisca_grid.specs.declared.axes.AxesFault.TheVariants.{NoAxes}
-use Rattle.fisca_grid.specs.declared.fault.RunEnd.{RunEnd}
-use Rattle.fisca_grid.specs.declared.condition.Condition.{Condition}
+use Rattle.fisca_grid.specs.declared.axes.AxesFault.TheVariants.{AxisOverlap}
+use Rattle.fisca_grid.specs.declared.condition.Filter.{Filter}
+use Rattle.fisca_lines.specs.declared.fault.RunEnd.{RunEnd}
 use Rattle.fisca_commands.specs.declared.refusal.Refusal.{Refusal}
 use Rattle.fisca_commands.specs.declared.refusal.Refusal.TheVariants.{Params, Formula, Axes, BadWord, BadCondition, Run, Write, Memory, TooManyFiles}
-use Rattle.fisca_grid.specs.Condition.{condition_of, is_kept}
-use Rattle.fisca_grid.specs.Words.{axis_of}
 
-abbrev pub tab : ℕ
-tab = 9
-
-abbrev pub line_feed : ℕ
-line_feed = 10
-
--- the line of a position: its number, a tab, the value and a line feed
-abbrev pub line_of : ℕ → Number → List ℕ
-line_of position value = decimal position ++ tab ∷ text_of value ++ line_feed ∷ []
-
--- the line of a value that meets the condition, and nothing for another
-abbrev pub row_of : Option Condition → ℕ → Result Number NumFault → Row Infallible
-row_of keep position (Ok value) = if is_kept keep value then Line (line_of position value) else Nothing
-row_of keep position (Err fault) = Nothing
-
--- what stands at a position of an axis. Its value there is always a number, as `each_step_is_a_number` of `fisca_grid` says, so
--- no line is left out for want of one
-abbrev pub axes_row : List AxisSpec → Option Condition → ℕ → Row Infallible
-axes_row [] keep position = Nothing
-axes_row (axis ∷ axes) keep position = row_of keep position (step_of axis position)
-
--- the axes of a run, at present one, and its condition
+-- the grid of a run, and its condition
 pub record FilteredAxes : Type 0 where
-  pub axes : List AxisSpec
-  pub keep : Option Condition
+  pub axes : List (List AxisSpec)
+  pub keep : Option Filter
 
 -- a condition, which a text that is given has to state
-abbrev pub required_condition : Option Condition → Result (Option Condition) Refusal
-required_condition None = Err BadCondition
-required_condition (Some condition) = Ok (Some condition)
+abbrev pub required_filter : Option Filter → Result (Option Filter) Refusal
+required_filter None = Err BadCondition
+required_filter (Some filter) = Ok (Some filter)
 
--- the condition that a text states of the axis of this name, if a text is given
-abbrev pub optional_condition : List ℕ → Option (List ℕ) → Result (Option Condition) Refusal
-optional_condition name None = Ok None
-optional_condition name (Some text) = required_condition (condition_of name text)
+-- the condition that a text states of one of the axes of these names, if a text is given
+abbrev pub optional_filter : List (List ℕ) → Option (List ℕ) → Result (Option Filter) Refusal
+optional_filter names None = Ok None
+optional_filter names (Some text) = required_filter (filter_from 0 names text)
 
--- an axis with its condition
-abbrev pub filtered_axis : AxisSpec → Result (Option Condition) Refusal → Result FilteredAxes Refusal
-filtered_axis axis (Ok keep) = Ok (record { axes = axis ∷ []; keep = keep })
-filtered_axis axis (Err refusal) = Err refusal
+-- a grid with its condition
+abbrev pub filtered_axes : List (List AxisSpec) → Result (Option Filter) Refusal → Result FilteredAxes Refusal
+filtered_axes axes (Ok keep) = Ok (record { axes = axes; keep = keep })
+filtered_axes axes (Err refusal) = Err refusal
 
--- a named axis, which has to be within its limits, with the condition that this text states of it
-abbrev pub axis_within_limits : List ℕ × AxisSpec → Option AxesFault → Option (List ℕ) → Result FilteredAxes Refusal
-axis_within_limits named None keep = filtered_axis named.1 (optional_condition named.0 keep)
-axis_within_limits named (Some fault) keep = Err (Axes fault)
+-- the fault of axes of these names: that of the grid, or else that two have one name
+abbrev pub named_fault : List (List ℕ) → Option AxesFault → Option AxesFault
+named_fault names fault = option_or fault (if has_twins names then Some AxisOverlap else None)
 
--- the axis that a word describes, as it has to, with the condition that this text states of it
-abbrev pub required_axis : Option (List ℕ × AxisSpec) → Option (List ℕ) → Result FilteredAxes Refusal
-required_axis None keep = Err BadWord
-required_axis (Some named) keep = axis_within_limits named (axes_fault (named.1 ∷ []) (1 ∷ [])) keep
+-- axes of these names, which have to make a grid, with the condition that this text states of one of them
+abbrev pub axes_within_limits : List (List ℕ) → List AxisSpec → Option AxesFault → Option (List ℕ) → Result FilteredAxes Refusal
+axes_within_limits names specs None keep = filtered_axes (groups_of specs (own_groups specs)) (optional_filter names keep)
+axes_within_limits names specs (Some fault) keep = Err (Axes fault)
 
--- the axes that the words describe, with the condition that this text states, or the first refusal: of the words, then of the axes, then of the condition. At present there is one axis
+-- the axes that words describe, as they have to
+abbrev pub required_axes : List (List ℕ) → Option (List AxisSpec) → Option (List ℕ) → Result FilteredAxes Refusal
+required_axes names None keep = Err BadWord
+required_axes names (Some specs) keep = axes_within_limits names specs (named_fault names (axes_fault specs (own_groups specs))) keep
+
+-- the grid that the words describe, each an axis that is a group of its own, with the condition that this text states, or the first refusal: of the words, then of the axes, then of the condition
 abbrev pub axes_of_words : List (List ℕ) → Option (List ℕ) → Result FilteredAxes Refusal
-axes_of_words [] keep = Err (Axes NoAxes)
-axes_of_words (word ∷ []) keep = required_axis (axis_of word) keep
-axes_of_words (word ∷ other ∷ words) keep = Err BadWord
+axes_of_words words keep = required_axes (map name_of words) (specs_of words) keep
 
 -- what a run over the axes answers, and what a sink that held `old` then holds
 abbrev pub IsAxesRun : FilteredAxes → ℕ → Option ℕ → Option (List ℕ) → Option (List ℕ) → Result RunEnd Refusal → Type 0

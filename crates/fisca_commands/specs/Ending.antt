@@ -1,8 +1,8 @@
 -- How a command ends: what it answers, tells and writes.
 use Rattle.std.specs.Prelude.{◌≡◌, ◌≢◌, ◌⊎◌, ℕ, List, map, Option, Some, None, option_map, Result, Ok, Err, string_bytes}
 use Rattle.std.specs.Io.KnownBytes.{Appends, Keeps}
-use Rattle.fisca_grid.specs.Run.{AppendsPart}
-use Rattle.fisca_grid.specs.declared.fault.RunEnd.{RunEnd}
+use Rattle.fisca_lines.specs.Run.{AppendsPart}
+use Rattle.fisca_lines.specs.declared.fault.RunEnd.{RunEnd}
 use Rattle.fisca_params.specs.Source.{Source}
 use Rattle.fisca_commands.specs.declared.refusal.Refusal.{Refusal}
 use Rattle.fisca_commands.specs.declared.refusal.Refusal.TheVariants.{Write, Memory}

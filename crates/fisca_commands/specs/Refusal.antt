@@ -5,7 +5,7 @@ use Rattle.fisca_grid.specs.AxesFault.{name_of}
 use Rattle.fisca_params.specs.Names.{name_of as name_of_params}
 use Rattle.fisca_tokens.specs.Faults.{name_of as name_of_kind}
 use Rattle.fisca_grid.specs.declared.axes.AxesFault.TheVariants as axes
-use Rattle.fisca_grid.specs.declared.fault.RunFault.TheVariants as run
+use Rattle.fisca_lines.specs.declared.fault.RunFault.TheVariants as run
 use Rattle.fisca_folder.specs.Shown.{shown}
 use Rattle.fisca_commands.specs.declared.refusal.Refusal.{Refusal}
 use Rattle.fisca_commands.specs.declared.refusal.Refusal.TheVariants.{Params, Formula, Axes, BadWord, BadCondition, Run, Write, Memory, TooManyFiles}

@@ -1,7 +1,7 @@
 //! `fisca check`: whether the files of a rule set are accepted, and what they hold.
 
 ghost use Rattle.std.specs.Prelude.{◌≡◌, nat_lt, ℕ, ◌<◌, cond, IfOk, IfSome, OnOk, IsTrue, ◌↔◌, string_bytes, length};
-ghost use Rattle.fisca_grid.specs.Sink.{CountsFailure};
+ghost use Rattle.fisca_lines.specs.Sink.{CountsFailure};
 ghost use Rattle.fisca_params.specs.Answers.{file_of, Refuses};
 ghost use Rattle.fisca_params.specs.Files.{tree_of};
 ghost use Rattle.fisca_rules.specs.Views.{rule_set};
@@ -10,7 +10,7 @@ ghost use Rattle.fisca_commands.specs.Check.{count_of_files, text_of, text_of_co
 use super::modules::build_rules;
 use super::refusal::Refusal;
 use fisca_folder::is_rule_path;
-use fisca_grid::{RowSink, hand_over};
+use fisca_lines::{RowSink, hand_over};
 use fisca_params::{ParamFault, ParamTree, SourceFile};
 use fisca_rules::RuleSet;
 use std::alloc::{AllocError, Global};

@@ -4,7 +4,7 @@ ghost use Rattle.std.specs.Prelude.{◌≡◌, option_map};
 ghost use Rattle.fisca_commands.specs.Ending.{done, told_of, IsTold};
 
 use super::refusal::Refusal;
-use fisca_grid::RunFault;
+use fisca_lines::RunFault;
 use std::alloc::Global;
 use std::borrow::CowStr;
 use std::marker::Model;

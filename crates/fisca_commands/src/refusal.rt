@@ -6,7 +6,8 @@ ghost use Rattle.fisca_folder.specs.Shown.{shown};
 ghost use Rattle.fisca_commands.specs.Refusal.{number_of, status_of, reason_of, place_of, line_of};
 
 use fisca_folder::write_shown;
-use fisca_grid::{AxesFault, RunFault};
+use fisca_grid::AxesFault;
+use fisca_lines::RunFault;
 use fisca_params::ParamFault;
 use fisca_tokens::Kind;
 use std::alloc::{AllocError, AllocFailed, Global};

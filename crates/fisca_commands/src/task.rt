@@ -1,7 +1,7 @@
 //! What a command line asks for, and the running of it.
 
 ghost use Rattle.std.specs.Prelude.{◌≡◌, ◌==◌, ◌&&◌, is_ok, map, option_map, string_bytes};
-ghost use Rattle.fisca_grid.specs.Sink.{CountsFailure};
+ghost use Rattle.fisca_lines.specs.Sink.{CountsFailure};
 ghost use Rattle.fisca_commands.specs.Ending.{IsTaskEnding, IsAxesEnding, IsCheckEnding, IsRunEnding};
 
 use super::axes::axes_words;
@@ -9,7 +9,7 @@ use super::check::check_rules;
 use super::ending::Ending;
 use super::last_line::write_end;
 use super::refusal::Refusal;
-use fisca_grid::{RowSink, RunEnd};
+use fisca_lines::{RowSink, RunEnd};
 use fisca_params::SourceFile;
 use std::alloc::Global;
 

@@ -30,7 +30,7 @@ expr_step (Expr-F.Number t) = number t
 expr_step (Expr-F.Text t) = text t
 expr_step (Expr-F.Bracketed b xs) = bracketed b xs
 expr_step (Expr-F.Attribute e t) = attribute e.value t
-expr_step (Expr-F.Applied e s xs) = applied s e.value xs
+expr_step (Expr-F.Applied s e xs) = applied s e.value xs
 expr_step (Expr-F.Prefixed p e) = prefixed p e.value
 expr_step (Expr-F.Binary o a b) = binary o a.value b.value
 expr_step (Expr-F.Compare o a b) = compare o a.value b.value
@@ -40,7 +40,7 @@ arguments_step xs = series_of xs.comma xs.items.items
 
 abbrev pub argument_step : Argument-F Argument Tree Series → Argument
 argument_step (Argument-F.Positional e) = positional e
-argument_step (Argument-F.Keyword k e) = keyword k e
+argument_step (Argument-F.Keyword k e) = keyword k e.value
 argument_step (Argument-F.Entry k e) = entry k.value e.value
 
 abbrev pub tree : Expr → Tree

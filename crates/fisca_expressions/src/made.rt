@@ -44,7 +44,7 @@ pub(crate) fn applied<'a>(
 {
     let height = left.height.max(inside.height) + 1;
     Ok(Measured {
-        expr: Expr::Applied(Box::new(alloc, left.expr)?, suffix, inside.arguments),
+        expr: Expr::Applied(suffix, Box::new(alloc, left.expr)?, inside.arguments),
         height,
     })
 }
@@ -176,14 +176,18 @@ pub(crate) fn positional<'a>(value: Measured<'a>) -> MeasuredArgument<'a>
 }
 
 /// An argument by keyword.
-pub(crate) fn keyword<'a>(key: Slice<'a>, value: Measured<'a>) -> MeasuredArgument<'a>
-    ensures value { argument_view result.argument ≡ spec.keyword key.entry (tree value.entry.expr) }
-    ensures low { result.height ≡ value.entry.height }
+pub(crate) fn keyword<'a>(
+    alloc: Global,
+    key: Slice<'a>,
+    value: Measured<'a>,
+) -> Result<MeasuredArgument<'a>, AllocError>
+    ensures value { IfOk result (λ m. argument_view m.argument ≡ spec.keyword key.entry (tree value.entry.expr)) }
+    ensures low { IfOk result (λ m. m.height ≡ value.entry.height) }
 {
-    MeasuredArgument {
-        argument: Argument::Keyword(key, value.expr),
+    Ok(MeasuredArgument {
+        argument: Argument::Keyword(key, Box::new(alloc, value.expr)?),
         height: value.height,
-    }
+    })
 }
 
 /// An entry of a map.

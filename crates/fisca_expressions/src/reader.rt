@@ -137,7 +137,7 @@ fn read_argument<'a>(
             cursor.advance();
             cursor.advance();
             let value = read(alloc, cursor, mode, depth, 0)?;
-            Ok(keyword(key, value))
+            Ok(keyword(alloc, key, value)?)
         }
         None => {
             if takes_positional(place) {

@@ -91,7 +91,7 @@ pub enum Expr<'a> {
     /// An expression, a point and a name.
     Attribute(Box<Expr<'a>>, Slice<'a>),
     /// An expression, and what stands in brackets behind it.
-    Applied(Box<Expr<'a>>, Suffix, Arguments<'a>),
+    Applied(Suffix, Box<Expr<'a>>, Arguments<'a>),
     /// A prefix and its operand.
     Prefixed(Prefix, Box<Expr<'a>>),
     /// Two operands.
@@ -116,9 +116,9 @@ pub struct Arguments<'a> {
 pub enum Argument<'a> {
     /// An expression alone.
     Positional(Expr<'a>),
-    /// `NAME=expression`
-    Keyword(Slice<'a>, Expr<'a>),
-    /// `expression: expression`, in a map. In boxes, since it is rare: so the others take less room.
+    /// `NAME=expression`. In a box, since it is rare: so the others take less room.
+    Keyword(Slice<'a>, Box<Expr<'a>>),
+    /// `expression: expression`, in a map, in boxes as well.
     Entry(Box<Expr<'a>>, Box<Expr<'a>>),
 }
 

@@ -37,7 +37,7 @@ pub fn thing_of<'a, 't>(alloc: Global, tree: &'t Expr<'a>, names: &Names) -> Res
             bracketed(alloc, names, *bracket, inside.items.as_slice())
         }
         Expr::Attribute(front, name) => attribute(alloc, names, front, name.as_bytes()),
-        Expr::Applied(front, suffix, behind) => {
+        Expr::Applied(suffix, front, behind) => {
             let before = thing_of(alloc, front, names);
             applied(alloc, names, *suffix, before, behind.items.as_slice())
         }

@@ -1,13 +1,13 @@
--- The axes of a grid.
-use Rattle.std.specs.Prelude.{◌≡◌, ℕ, ℤ, ◌+◌, ◌-◌, ◌*◌, ◌%◌, ◌^◌, ◌<◌, ◌≤◌, ◌*ℤ◌, max, pos, unsigned_abs, Bool, ◌&&◌, ◌||◌, ◌==◌, nat_le, if◌then◌else◌, List, [], ◌∷◌, length, Option, Some, None, Result, slice_get}
-use Rattle.std.specs.List.{list_any, filter_map}
+-- An axis of a grid.
+use Rattle.std.specs.Prelude.{◌≡◌, ℕ, ℤ, ◌+◌, ◌-◌, ◌*◌, ◌%◌, ◌^◌, ◌<◌, ◌≤◌, ◌*ℤ◌, max, pos, unsigned_abs, Bool, ◌&&◌, ◌==◌, nat_le, if◌then◌else◌, List, Option, Some, None, Result, slice_get}
+use Rattle.std.specs.List.{filter_map}
 use Rattle.fisca_num.specs.declared.faults.NumFault.{NumFault}
 use Rattle.fisca_num.specs.Rational.{Ratio, ratio_sum, ratio_difference, ratio_product}
 use Rattle.fisca_num.specs.Number.{Number, ratio_of}
 use Rattle.fisca_num.specs.Operations.{number_of}
 use Rattle.fisca_grid.specs.declared.axes.AxisSpec.{AxisSpec}
 use Rattle.fisca_grid.specs.declared.axes.AxesFault.{AxesFault}
-use Rattle.fisca_grid.specs.declared.axes.AxesFault.TheVariants.{NoAxes, BadCount, BadBound}
+use Rattle.fisca_grid.specs.declared.axes.AxesFault.TheVariants.{BadCount, BadBound}
 
 -- into how many steps an axis divides the way from `min` to `max`: one fewer than its values, and one where it has one value
 abbrev pub steps_of : AxisSpec → ℕ
@@ -40,15 +40,6 @@ axis_fault axis = if is_count axis.count then (if is_bound axis.min && is_bound 
 -- the first fault of the axes in order
 abbrev pub first_axis_fault : List AxisSpec → Option AxesFault
 first_axis_fault axes = slice_get (filter_map axis_fault axes) 0
-
--- what is wrong with axes in groups of these lengths
-abbrev pub axes_fault : List AxisSpec → List ℕ → Option AxesFault
-axes_fault axes groups = if (length groups == 0) || list_any (λ group. group == 0) groups then Some NoAxes else first_axis_fault axes
-
--- the number of positions of a grid of one axis: one for each of its values
-abbrev pub size_of : List AxisSpec → ℕ
-size_of [] = 0
-size_of (axis ∷ axes) = axis.count
 
 -- an axis as a line of rationals: the value at a place is (first + place * increment) / denominator, whose parts stay within 63 bits
 pub record IsLine (axis : AxisSpec) (first increment : ℤ) (denominator : ℕ) : Type 0 where

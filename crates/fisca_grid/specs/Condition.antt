@@ -64,8 +64,3 @@ condition_of name text = option_and_then (λ rest. comparison_in (past_spaces re
 -- a value meets a condition
 abbrev pub meets : Condition → Number → Bool
 meets condition value = is_met_by condition.comparison (number_cmp value condition.constant)
-
--- a value meets the condition, if there is one
-abbrev pub is_kept : Option Condition → Number → Bool
-is_kept None value = true
-is_kept (Some condition) value = meets condition value

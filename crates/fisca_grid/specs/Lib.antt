@@ -1,10 +1,8 @@
-pub mod Row
-pub mod Lines
-pub mod Sink
-pub mod Run
-pub mod Continued
-pub mod Fault
 pub mod Axes
+pub mod Grid
+pub mod Turning
 pub mod AxesFault
 pub mod Condition
 pub mod Words
+pub mod AxesRow
+pub mod NamedAxes

@@ -1,16 +1,14 @@
-//! The axes of a grid.
+//! An axis: its limits, its values, and how they stand to numbers.
 
-ghost use Rattle.std.specs.Prelude.{◌≡◌, ◌≢◌, ℕ, [], ◌∷◌, ◌≤◌, ◌<◌, ◌*◌, ◌+◌, ◌^◌, ◌+ℤ◌, ◌-ℤ◌, ◌*ℤ◌, pos, unsigned_abs, length, sum, IsOk, IfOk, IfErr, IfSome, Some, None, Ok, true, slice_get};
+ghost use Rattle.std.specs.Prelude.{◌≡◌, ◌≢◌, ℕ, ◌≤◌, ◌<◌, ◌*◌, ◌+◌, ◌^◌, ◌+ℤ◌, ◌-ℤ◌, ◌*ℤ◌, pos, unsigned_abs, length, sum, IsOk, IfOk, IfErr, IfSome, Some, None, Ok, true, slice_get};
 ghost use Rattle.std.specs.Int.{◌∣◌, IsGcd};
-ghost use Rattle.std.specs.Option.{ForSome};
 ghost use Rattle.fisca_num.specs.Number.{number_cmp};
 ghost use Rattle.fisca_num.specs.Operations.{number_of};
-ghost use Rattle.fisca_grid.specs.Axes.{axes_fault, axis_fault, is_bound, step_of, size_of, IsLine};
+ghost use Rattle.fisca_grid.specs.Axes.{axis_fault, is_bound, step_of, IsLine};
 
 use fisca_num::Fraction;
-use std::alloc::{AllocError, AllocFailed, Global};
+use std::alloc::{AllocError, AllocFailed};
 use std::cmp::Ordering;
-use std::marker::Model;
 use thiserror::Error;
 
 /// An axis as it is asked for: so many values, from `min` to `max` in equal steps.
@@ -30,8 +28,14 @@ pub struct AxisSpec {
 pub enum AxesFault {
     /// 1: there is no axis, or a group has none.
     NoAxes = 1,
+    /// 2: two axes of a group have different counts.
+    CountsDiffer = 2,
     /// 3: a count is outside 1 to 1,048,576.
     BadCount = 3,
+    /// 4: there are more than 16 axes, or more than 2^32 positions.
+    TooLarge = 4,
+    /// 7: two axes move the same value.
+    AxisOverlap = 7,
     /// 9: a bound's size is above 10^9, or it has more than three decimals.
     BadBound = 9,
     /// 10: memory was refused.
@@ -47,13 +51,16 @@ impl AxesFault {
     {
         match self {
             AxesFault::NoAxes => "NoAxes",
+            AxesFault::CountsDiffer => "CountsDiffer",
             AxesFault::BadCount => "BadCount",
+            AxesFault::TooLarge => "TooLarge",
+            AxesFault::AxisOverlap => "AxisOverlap",
             AxesFault::BadBound => "BadBound",
             AxesFault::Memory => "Memory",
         }
     }
 
-    /// The number of the fault: 1, 3, 9 or 10.
+    /// The number of the fault: 1 to 4, 7, 9 or 10.
     pub fn number(self) -> u8
         ensures { result ≡ number_of_fault self }
     {
@@ -129,11 +136,12 @@ fn thousandths(bound: Fraction) -> i64
 
 /// An axis whose values are (first + place * increment) / denominator.
 #[derive(Clone, Copy, Debug)]
-struct Axis {
-    spec: AxisSpec,
+pub(crate) struct Axis {
+    pub(crate) spec: AxisSpec,
     first: i64,
     increment: i64,
     denominator: u64,
+    ghost some: { 0 < spec.count },
     ghost line: { IsLine spec first increment denominator },
 }
 
@@ -141,7 +149,7 @@ impl Axis {
     ghost use Rattle.fisca_grid.specs.Axes.{axis_fault};
 
     /// The axis, where its count and its bounds are within the limits.
-    fn new(spec: AxisSpec) -> Result<Axis, AxesFault>
+    pub(crate) fn new(spec: AxisSpec) -> Result<Axis, AxesFault>
         ensures ok { IfOk result (λ axis. (axis.spec ≡ spec) × (axis_fault spec ≡ None)) }
         ensures err { IfErr result (λ fault. axis_fault spec ≡ Some fault) }
     {
@@ -184,7 +192,7 @@ impl Axis {
     }
 
     /// The value at a place.
-    fn value(&self, place: u64) -> Fraction
+    pub(crate) fn value(&self, place: u64) -> Fraction
         requires { place < self.now.spec.count }
         ensures { step_of self.now.spec place ≡ Ok result }
     {
@@ -192,7 +200,7 @@ impl Axis {
     }
 
     /// How the value at a place stands to a number. Nothing is brought to lowest terms.
-    fn compare(&self, place: u64, number: Fraction) -> Ordering
+    pub(crate) fn compare(&self, place: u64, number: Fraction) -> Ordering
         requires { place < self.now.spec.count }
         ensures { IfOk (step_of self.now.spec place) (λ value. result ≡ number_cmp value number) }
     {
@@ -261,80 +269,5 @@ fn fraction(numerator: i64, denominator: u64) -> Fraction
     match Fraction::new(numerator, denominator as i64) {
         Ok(value) => value,
         Err(_) => unreachable!(),
-    }
-}
-
-/// The axes of a grid, at present one. Contracts see the list of what was asked for.
-#[derive(Debug, Drop)]
-pub struct Axes {
-    axes: Vec<Axis>,
-}
-
-impl Model for Axes {
-    ghost use Rattle.std.specs.Prelude.{List, map, ◌≤◌, vec_len};
-    ghost use Rattle.fisca_grid.specs.declared.axes.AxisSpec.{AxisSpec};
-
-    ghost Value = { List AxisSpec };
-
-    ghost view = { λ a. map (λ axis. axis.spec) a.axes.items };
-}
-
-impl Axes {
-    /// The grid of these axes, in groups of these lengths: at present of one axis in one group.
-    ///
-    /// The faults in order: `NoAxes` where there is no group or a group is empty; then `BadCount` and `BadBound` of the
-    /// axis. `Memory` only where memory was refused.
-    pub fn build(alloc: Global, specs: &[AxisSpec], groups: &[u32]) -> Result<Axes, AxesFault>
-        requires one_axis { length specs.now ≤ 1 }
-        requires one_group { length groups.now ≤ 1 }
-        requires grouped { sum groups.now ≡ length specs.now }
-        ensures ok { IfOk result (λ axes. (axes ≡ specs.now) × (axes_fault specs.now groups.now ≡ None)) }
-        ensures err { IfErr result (λ fault. fault ≢ AxesFault.Memory → axes_fault specs.now groups.now ≡ Some fault) }
-    {
-        match specs.first() {
-            Some(spec) => Axes::of_one(alloc, *spec),
-            None => Err(AxesFault::NoAxes),
-        }
-    }
-
-    /// The grid of one axis.
-    fn of_one(alloc: Global, spec: AxisSpec) -> Result<Axes, AxesFault>
-        ensures ok { IfOk result (λ axes. (axes ≡ spec ∷ []) × (axis_fault spec ≡ None)) }
-        ensures err { IfErr result (λ fault. fault ≢ AxesFault.Memory → axis_fault spec ≡ Some fault) }
-    {
-        let axis = Axis::new(spec)?;
-        let mut axes = Vec::with_capacity(alloc, 1)?;
-        axes.push(axis)?;
-        Ok(Axes { axes })
-    }
-
-    /// The number of positions, 1 to 2^32.
-    pub fn size(&self) -> u64
-        ensures { result ≡ size_of self.now }
-    {
-        match self.axes.first() {
-            Some(axis) => axis.spec.count,
-            None => 0,
-        }
-    }
-
-    /// The exact value of an axis at a position of the grid: `min + position * (max - min) / (count - 1)`, and `min`
-    /// where the count is 1.
-    pub fn step(&self, axis: usize, position: u64) -> Fraction
-        requires axis { axis < length self.now }
-        requires position { ForSome (slice_get self.now axis) (λ spec. position < spec.count) }
-        ensures { IfSome (slice_get self.now axis) (λ spec. step_of spec position ≡ Ok result) }
-    {
-        self.axes[axis].value(position)
-    }
-
-    /// How the value of an axis at a position of the grid stands to a number: as `step(axis, position).cmp(&number)`,
-    /// without working out the value's lowest terms.
-    pub fn compare(&self, axis: usize, position: u64, number: Fraction) -> Ordering
-        requires axis { axis < length self.now }
-        requires position { ForSome (slice_get self.now axis) (λ spec. position < spec.count) }
-        ensures { IfSome (slice_get self.now axis) (λ spec. IfOk (step_of spec position) (λ value. result ≡ number_cmp value number)) }
-    {
-        self.axes[axis].compare(position, number)
     }
 }

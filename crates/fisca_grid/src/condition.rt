@@ -106,3 +106,10 @@ pub fn read_condition(name: &str, text: &str) -> Option<Condition>
     let rest = after(name, text)?;
     read_comparison_in(past_spaces(rest))
 }
+
+/// A condition on the values of an axis, by the axis's index in the grid.
+#[derive(Clone, Copy, Debug)]
+pub struct Filter {
+    pub axis: usize,
+    pub condition: Condition,
+}

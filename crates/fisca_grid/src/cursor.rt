@@ -2,10 +2,10 @@
 
 ghost use Rattle.std.specs.Prelude.{◌≡◌, length};
 ghost use Rattle.std.specs.Iterator.{YieldsFirst, item_count};
-ghost use Rattle.fisca_grid.specs.Axes.{size_of};
-ghost use Rattle.fisca_grid.specs.Lines.{positions_from};
+ghost use Rattle.fisca_grid.specs.Grid.{size_of};
+ghost use Rattle.fisca_lines.specs.Lines.{positions_from};
 
-use super::axes::Axes;
+use super::grid::Axes;
 use std::marker::Model;
 
 /// The positions of a grid from a start to the last, in order. Contracts see the list of those that are left.
@@ -17,7 +17,7 @@ pub struct GridCursor {
 
 impl Model for GridCursor {
     ghost use Rattle.std.specs.Prelude.{ℕ, List};
-    ghost use Rattle.fisca_grid.specs.Lines.{positions_from};
+    ghost use Rattle.fisca_lines.specs.Lines.{positions_from};
 
     ghost Value = { List ℕ };
 

@@ -1,22 +1,11 @@
-//! Laws of the lines of a run, whatever stands at the positions of its grid.
+//! The laws of grids.
 
-ghost use Rattle.std.specs.Prelude.{◌≡◌, ℕ, ◌<◌, ◌≤◌, Option, None, map, All};
-ghost use Rattle.std.specs.List.Sorted.{IsStrictlyIncreasing};
-ghost use Rattle.fisca_grid.specs.Row.{Row, Fault};
-ghost use Rattle.fisca_grid.specs.Lines.{lines, run_end, AtEnd, MoreFrom, FaultAt};
-ghost use Rattle.fisca_grid.specs.Continued.{IsContinued};
+ghost use Rattle.std.specs.Prelude.{◌≡◌, ℕ, ◌<◌, List, [], length, slice_index_or};
+ghost use Rattle.fisca_grid.specs.Grid.{grid, product_of, places_at};
 
-/// A run that answers a position continues from there with exactly the remaining lines, and to the
-/// same end; where it answers that it is at its end, no line remains; where it stops at a fault, the
-/// fault stands at its position, and no line remains before it.
-pub fn runs_continue<F>()
-    ensures more { (row : ℕ → Row F) (size from position : ℕ) (limit : Option ℕ) → from ≤ size → run_end row size from limit ≡ MoreFrom position → IsContinued row size from limit position }
-    ensures ended { (row : ℕ → Row F) (size from : ℕ) (limit : Option ℕ) → from ≤ size → run_end row size from limit ≡ AtEnd → lines row size from None ≡ lines row size from limit }
-    ensures faulted { (row : ℕ → Row F) (size from position : ℕ) (limit : Option ℕ) (x : F) → from ≤ size → run_end row size from limit ≡ FaultAt position x → (row position ≡ Fault x) × (lines row size from None ≡ lines row size from limit) }
-{}
-
-/// The positions of the lines of a run rise strictly, and are positions of the grid from the start on.
-pub fn positions_rise<F>()
-    ensures rising { (row : ℕ → Row F) (size from : ℕ) (limit : Option ℕ) → IsStrictlyIncreasing (map (λ line. line.0) (lines row size from limit)) }
-    ensures within { (row : ℕ → Row F) (size from : ℕ) (limit : Option ℕ) → All (λ line. (from ≤ line.0) × (line.0 < size)) (lines row size from limit) }
+/// A grid has a position for each tuple of places, of which the first place turns fastest: as many as the product of the
+/// counts, and the places at a position are the tuple that stands there among all.
+pub fn positions_are_tuples()
+    ensures size { (counts : List ℕ) → length (grid counts) ≡ product_of counts }
+    ensures places { (counts : List ℕ) (position : ℕ) → position < product_of counts → slice_index_or (grid counts) position [] ≡ places_at counts position }
 {}

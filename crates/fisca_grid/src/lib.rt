@@ -1,26 +1,21 @@
-//! Grids of axes, and the lines of a run over a grid.
+//! Axes, grids of axes in groups, and the rows of a grid.
 #![tactic(auto)]
 
 mod axes;
+mod axis_rows;
 mod condition;
 mod cursor;
-mod fault;
+mod grid;
 mod law;
-mod memory_sink;
-mod rows;
-mod run;
-mod sink;
-mod stream_sink;
+mod named_axes;
+mod turning;
 mod words;
 
-pub use axes::{Axes, AxesFault, AxisSpec, each_step_is_a_number};
-pub use condition::{Comparison, Condition, read_condition};
+pub use axes::{AxesFault, AxisSpec, each_step_is_a_number};
+pub use axis_rows::AxisRows;
+pub use condition::{Comparison, Condition, Filter, read_condition};
 pub use cursor::GridCursor;
-pub use fault::{RowFault, RunEnd, RunFault};
-pub use law::{positions_rise, runs_continue};
-pub use memory_sink::MemorySink;
-pub use rows::{Rows, Selection};
-pub use run::write_lines;
-pub use sink::{RowSink, SinkFault, hand_over};
-pub use stream_sink::StreamSink;
+pub use grid::Axes;
+pub use law::positions_are_tuples;
+pub use named_axes::{has_twins, own_groups, read_axes, read_filter};
 pub use words::read_axis;

@@ -20,7 +20,7 @@ pub fn size_of(tree: &Expr, locals: &Locals) -> Size
         Expr::Number(_) | Expr::Text(_) => one(),
         Expr::Bracketed(_, inside) => above(size_all(inside.items.as_slice(), locals)),
         Expr::Attribute(inside, _) => above(size_of(inside, locals)),
-        Expr::Applied(front, _, behind) => {
+        Expr::Applied(_, front, behind) => {
             let first = size_of(front, locals);
             above(beside(first, size_all(behind.items.as_slice(), locals)))
         }

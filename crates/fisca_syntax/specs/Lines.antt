@@ -23,6 +23,11 @@ abbrev pub line_by : Option ℕ → List Token → List Line → List Line
 line_by None ts others = others
 line_by (Some indent) ts others = record { indent = indent; tokens = ts } ∷ others
 
+-- the indentation of the first token, if it begins a line
+abbrev pub indent_of : List Token → Option ℕ
+indent_of [] = None
+indent_of (t ∷ ts) = t.indent
+
 -- each token that begins a line, with those behind it that begin none
 abbrev pub lines : List Token → List Line
 lines [] = []

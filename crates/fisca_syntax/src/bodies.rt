@@ -61,7 +61,7 @@ fn read_step<'a>(
     text: &'a str,
     indent: usize,
     line: &Line,
-    lines: &mut Lines<'_, '_>,
+    lines: &mut Lines,
 ) -> Result<Step<'a>, FormulaFault>
     ensures { Takes step (spec.body_line text.now indent line.now lines.old) result lines.new }
 {
@@ -106,12 +106,12 @@ pub(crate) fn keep<T: Drop>(found: &mut Vec<T>, one: Option<T>) -> Result<(), Fo
 fn next_member<'a>(
     text: &'a str,
     indent: usize,
-    lines: &mut Lines<'_, '_>,
+    lines: &mut Lines,
 ) -> Result<Option<Option<Member<'a>>>, FormulaFault>
     ensures { Takes (λ m. m) (spec.turn indent (spec.enum_line text.now) lines.old) result lines.new }
 {
     match lines.next_at(indent)? {
-        Some(line) => Ok(Some(read_member(text, line)?)),
+        Some(line) => Ok(Some(read_member(text, &line)?)),
         None => Ok(None),
     }
 }
@@ -121,7 +121,7 @@ pub(crate) fn read_members<'a>(
     alloc: Global,
     text: &'a str,
     indent: usize,
-    lines: &mut Lines<'_, '_>,
+    lines: &mut Lines,
 ) -> Result<Vec<Member<'a>>, FormulaFault>
     ensures { Takes (λ v. v.items) (spec.block indent (spec.enum_line text.now) (length lines.old) lines.old) result lines.new }
 {
@@ -141,12 +141,12 @@ fn next_step<'a>(
     text: &'a str,
     end: usize,
     indent: usize,
-    lines: &mut Lines<'_, '_>,
+    lines: &mut Lines,
 ) -> Result<Step<'a>, FormulaFault>
     ensures { Takes step (spec.step_at text.now end indent lines.old) result lines.new }
 {
     match lines.next_at(indent)? {
-        Some(line) => read_step(alloc, text, indent, line, lines),
+        Some(line) => read_step(alloc, text, indent, &line, lines),
         None => Err(lines.missing(end)),
     }
 }
@@ -157,7 +157,7 @@ fn read_body<'a>(
     text: &'a str,
     end: usize,
     indent: usize,
-    lines: &mut Lines<'_, '_>,
+    lines: &mut Lines,
 ) -> Result<(Vec<Assignment<'a>>, Returned<'a>), FormulaFault>
     ensures { Takes (λ b. (map assigned b.0.items, answer b.1)) (spec.body text.now end indent (length lines.old) lines.old) result lines.new }
 {
@@ -178,7 +178,7 @@ fn read_formula<'a>(
     text: &'a str,
     end: usize,
     line: &Line,
-    lines: &mut Lines<'_, '_>,
+    lines: &mut Lines,
 ) -> Result<Formula<'a>, FormulaFault>
     ensures { Takes formula_view (spec.formula_at text.now end line.now lines.old) result lines.new }
 {
@@ -202,7 +202,7 @@ fn read_item<'a>(
     text: &'a str,
     end: usize,
     line: &Line,
-    lines: &mut Lines<'_, '_>,
+    lines: &mut Lines,
 ) -> Result<Option<Item<'a>>, FormulaFault>
     ensures { Takes (option_map item) (spec.variable_line text.now end line.now lines.old) result lines.new }
 {
@@ -236,12 +236,12 @@ fn next_item<'a>(
     text: &'a str,
     end: usize,
     indent: usize,
-    lines: &mut Lines<'_, '_>,
+    lines: &mut Lines,
 ) -> Result<Option<Option<Item<'a>>>, FormulaFault>
     ensures { Takes (option_map (option_map item)) (spec.turn indent (spec.variable_line text.now end) lines.old) result lines.new }
 {
     match lines.next_at(indent)? {
-        Some(line) => Ok(Some(read_item(alloc, text, end, line, lines)?)),
+        Some(line) => Ok(Some(read_item(alloc, text, end, &line, lines)?)),
         None => Ok(None),
     }
 }
@@ -252,7 +252,7 @@ pub(crate) fn read_items<'a>(
     text: &'a str,
     end: usize,
     indent: usize,
-    lines: &mut Lines<'_, '_>,
+    lines: &mut Lines,
 ) -> Result<Vec<Item<'a>>, FormulaFault>
     ensures { Takes (λ v. map item v.items) (spec.block indent (spec.variable_line text.now end) (length lines.old) lines.old) result lines.new }
 {

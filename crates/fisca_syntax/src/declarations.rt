@@ -24,7 +24,7 @@ fn read_class<'a>(
     text: &'a str,
     end: usize,
     line: &Line,
-    lines: &mut Lines<'_, '_>,
+    lines: &mut Lines,
 ) -> Result<Statement<'a>, FormulaFault>
     ensures { Takes statement (spec.class_at text.now end line.now lines.old) result lines.new }
 {
@@ -51,7 +51,7 @@ fn read_statement<'a>(
     text: &'a str,
     end: usize,
     line: &Line,
-    lines: &mut Lines<'_, '_>,
+    lines: &mut Lines,
 ) -> Result<Option<Statement<'a>>, FormulaFault>
     ensures { Takes (option_map statement) (spec.module_line text.now end line.now lines.old) result lines.new }
 {
@@ -79,12 +79,12 @@ fn next_statement<'a>(
     alloc: Global,
     text: &'a str,
     end: usize,
-    lines: &mut Lines<'_, '_>,
+    lines: &mut Lines,
 ) -> Result<Option<Option<Statement<'a>>>, FormulaFault>
     ensures { Takes (option_map (option_map statement)) (spec.turn 0 (spec.module_line text.now end) lines.old) result lines.new }
 {
     match lines.next_at(0)? {
-        Some(line) => Ok(Some(read_statement(alloc, text, end, line, lines)?)),
+        Some(line) => Ok(Some(read_statement(alloc, text, end, &line, lines)?)),
         None => Ok(None),
     }
 }
@@ -94,7 +94,7 @@ pub(crate) fn read_statements<'a>(
     alloc: Global,
     text: &'a str,
     end: usize,
-    lines: &mut Lines<'_, '_>,
+    lines: &mut Lines,
 ) -> Result<Vec<Statement<'a>>, FormulaFault>
     ensures { Takes (λ v. map statement v.items) (spec.block 0 (spec.module_line text.now end) (length lines.old) lines.old) result lines.new }
 {

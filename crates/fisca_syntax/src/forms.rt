@@ -31,7 +31,7 @@ fn is_entity(value: &Expr) -> bool
     ensures { result ≡ spec.is_entity (tree value.now) }
 {
     match bare(value) {
-        Expr::Applied(callee, Suffix::Call, _) => {
+        Expr::Applied(Suffix::Call, callee, _) => {
             is_the_name(b"build_entity".as_slice(), &**callee)
         }
         _ => false,

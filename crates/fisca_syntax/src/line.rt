@@ -1,6 +1,6 @@
 //! Lines of tokens.
 
-ghost use Rattle.std.specs.Prelude.{◌≡◌, ◌≤◌, ◌<◌, [], ◌++◌, length, IfOk, IfSome, MatchOption, OnOk};
+ghost use Rattle.std.specs.Prelude.{◌≡◌, ◌≤◌, ◌<◌, [], ◌++◌, length, reverse, IfOk, IfSome, MatchOption, OnOk};
 ghost use Rattle.fisca_expressions.specs.Views.{line_in};
 ghost use Rattle.fisca_syntax.specs.Lines as spec;
 
@@ -9,19 +9,20 @@ use fisca_tokens::{FormulaFault, Kind, Token};
 use std::alloc::{AllocError, Global};
 use std::marker::Model;
 
-/// A line: how far it is indented, and its tokens.
+/// A line: how far it is indented, and its tokens. They are its own, so that they go with the line once that is read: a tree
+/// grows where they were.
 #[derive(Drop)]
-pub(crate) struct Line<'t> {
+pub(crate) struct Line {
     indent: usize,
-    tokens: &'t [Token],
+    tokens: Vec<Token>,
 }
 
-impl<'t> Model for Line<'t> {
+impl Model for Line {
     ghost use Rattle.fisca_syntax.specs.Lines.{Line};
 
     ghost Value = { Line };
 
-    ghost view = { λ l. record { indent = l.indent; tokens = l.tokens.now } };
+    ghost view = { λ l. record { indent = l.indent; tokens = l.tokens.items } };
 }
 
 /// The line of the token behind which so many are left, or of the last one.
@@ -44,7 +45,7 @@ pub(crate) fn last_line(tokens: &[Token]) -> usize
     line_of(tokens, 0)
 }
 
-impl<'t> Line<'t> {
+impl Line {
     ghost use Rattle.fisca_expressions.specs.Signs.{signs};
 
     /// How far it is indented.
@@ -58,21 +59,21 @@ impl<'t> Line<'t> {
     pub fn number(&self) -> usize
         ensures { result ≡ spec.number self.now }
     {
-        line_of(self.tokens, self.tokens.len())
+        line_of(self.tokens.as_slice(), self.tokens.len())
     }
 
     /// Its tokens.
-    pub fn tokens(&self) -> &'t [Token]
+    pub fn tokens(&self) -> &[Token]
         ensures { result.now ≡ self.now.tokens }
     {
-        self.tokens
+        self.tokens.as_slice()
     }
 
     /// At its first token, in this text.
-    pub fn cursor<'a>(&self, text: &'a str) -> Cursor<'a, 't>
+    pub fn cursor<'a, 't>(&'t self, text: &'a str) -> Cursor<'a, 't>
         ensures { result ≡ signs text.now self.now.tokens }
     {
-        Cursor::new(text.as_bytes(), self.tokens)
+        Cursor::new(text.as_bytes(), self.tokens.as_slice())
     }
 
     /// This fault on its first line.
@@ -93,7 +94,7 @@ impl<'t> Line<'t> {
         let line = match refusal.kind {
             Kind::TooDeep => self.number(),
             Kind::Memory => 0,
-            _ => line_of(self.tokens, refusal.left),
+            _ => line_of(self.tokens.as_slice(), refusal.left),
         };
         FormulaFault {
             line,
@@ -102,35 +103,46 @@ impl<'t> Line<'t> {
     }
 }
 
-/// How many tokens stand in front that begin no line.
+/// How many tokens stand at the end that begin no line.
 fn within_len(tokens: &[Token]) -> usize
-    ensures value { result ≡ spec.within_len tokens.now }
+    ensures value { result ≡ spec.within_len (reverse tokens.now) }
     ensures bound { result ≤ length tokens.now }
 {
-    tokens.iter().take_while(|t| t.indent.is_none()).count()
+    tokens
+        .iter()
+        .rev()
+        .take_while(|t| t.indent.is_none())
+        .count()
 }
 
-/// The first token, the line that it begins, and what stands behind that.
-fn cut(tokens: &[Token]) -> Option<(Option<u32>, &[Token], &[Token])>
-    ensures value { MatchOption result (tokens.now ≡ []) (λ p. spec.lines tokens.now ≡ spec.line_by p.0 p.1.now (spec.lines p.2.now)) }
-    ensures shorter { IfSome result (λ p. length p.2.now < length tokens.now) }
+/// Takes the last line's tokens off, if there is a line. What they took is given back before it is much, so that few tokens are kept
+/// twice.
+#[tactic(auto, using(crate::proofs::Split::none_cut, crate::proofs::Split::last_cut))]
+fn cut(tokens: &mut Vec<Token>) -> Result<Option<Vec<Token>>, AllocError>
+    ensures value { IfOk result (λ cut. MatchOption cut (spec.lines tokens.old.items ≡ [])
+        (λ line. spec.lines tokens.old.items ≡ spec.lines tokens.new.items ++ spec.line_by (spec.indent_of line.items) line.items [])) }
+    ensures shorter { IfOk result (λ cut. IfSome cut (λ _. length tokens.new.items < length tokens.old.items)) }
 {
-    let [token, rest @ ..] = tokens else {
-        return None;
-    };
-    let (_, behind) = rest.split_at(within_len(rest));
-    let (line, _) = tokens.split_at(tokens.len() - behind.len());
-    Some((token.indent, line, behind))
+    let within = within_len(tokens.as_slice());
+    if within == tokens.len() {
+        return Ok(None);
+    }
+    let line = tokens.split_off(tokens.len() - within - 1)?;
+    // (each time that memory is given back may cost a call of the system)
+    if tokens.capacity() - tokens.len() > tokens.len() / 8 {
+        tokens.shrink_to_fit();
+    }
+    Ok(Some(line))
 }
 
 /// Puts the line of these tokens at the end, if the first begins one.
-fn push<'t>(
-    found: &mut Vec<Line<'t>>,
-    indent: Option<u32>,
-    tokens: &'t [Token],
-) -> Result<(), AllocError>
-    ensures { OnOk result (found.new.items ≡ found.old.items ++ spec.line_by indent tokens.now []) }
+fn push(found: &mut Vec<Line>, tokens: Vec<Token>) -> Result<(), AllocError>
+    ensures { OnOk result (found.new.items ≡ found.old.items ++ spec.line_by (spec.indent_of tokens.items) tokens.items []) }
 {
+    let indent = match tokens.as_slice() {
+        [first, ..] => first.indent,
+        [] => None,
+    };
     if let Some(indent) = indent {
         found.push(Line {
             indent: indent as usize,
@@ -140,16 +152,14 @@ fn push<'t>(
     Ok(())
 }
 
-/// The lines of these tokens.
-#[tactic(auto, using(crate::proofs::Split::one_more))]
-pub(crate) fn lines<'t>(alloc: Global, tokens: &'t [Token]) -> Result<Vec<Line<'t>>, AllocError>
-    ensures { IfOk result (λ v. v.items ≡ spec.lines tokens.now) }
+/// The lines of these tokens, the last one first.
+#[tactic(auto, using(crate::proofs::Split::one_more, crate::proofs::Split::at_the_end))]
+pub(crate) fn lines(alloc: Global, mut tokens: Vec<Token>) -> Result<Vec<Line>, AllocError>
+    ensures { IfOk result (λ v. reverse v.items ≡ spec.lines tokens.items) }
 {
     let mut found = Vec::new(alloc);
-    let mut left = tokens;
-    while let Some((indent, line, behind)) = cut(left) {
-        push(&mut found, indent, line)?;
-        left = behind;
+    while let Some(line) = cut(&mut tokens)? {
+        push(&mut found, line)?;
     }
     Ok(found)
 }

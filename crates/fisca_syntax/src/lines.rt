@@ -1,7 +1,6 @@
 //! The lines that are left.
 
-ghost use Rattle.std.specs.Prelude.{◌≡◌, [], ◌∷◌, length, Ok, Err, Some, None};
-ghost use Rattle.std.specs.Option.{option_copied};
+ghost use Rattle.std.specs.Prelude.{◌≡◌, [], ◌∷◌, length, reverse, Ok, Err, Some, None};
 ghost use Rattle.fisca_syntax.specs.Lines.{fault};
 ghost use Rattle.fisca_syntax.specs.Reading as spec;
 ghost use Rattle.fisca_syntax.specs.Reading.{Takes};
@@ -11,25 +10,26 @@ use crate::shape::{is_text, shape_of};
 use fisca_tokens::{FormulaFault, Kind};
 use std::marker::Model;
 
-/// The lines that are left.
+/// The lines that are left, seen from the first to the last.
 #[derive(Drop)]
-pub(crate) struct Lines<'l, 't> {
-    rest: &'l [Line<'t>],
+pub(crate) struct Lines {
+    /// The last one first.
+    rest: Vec<Line>,
 }
 
-impl<'l, 't> Model for Lines<'l, 't> {
-    ghost use Rattle.std.specs.Prelude.{List};
+impl Model for Lines {
+    ghost use Rattle.std.specs.Prelude.{List, reverse};
     ghost use Rattle.fisca_syntax.specs.Lines.{Line};
 
     ghost Value = { List Line };
 
-    ghost view = { λ l. l.rest.now };
+    ghost view = { λ l. reverse l.rest.items };
 }
 
-impl<'l, 't> Lines<'l, 't> {
-    /// At the first of these lines.
-    pub fn new(lines: &'l [Line<'t>]) -> Lines<'l, 't>
-        ensures { result ≡ lines.now }
+impl Lines {
+    /// At the last of these lines, which is the first of the text.
+    pub fn new(lines: Vec<Line>) -> Lines
+        ensures { result ≡ reverse lines.items }
     {
         Lines { rest: lines }
     }
@@ -45,9 +45,9 @@ impl<'l, 't> Lines<'l, 't> {
     pub fn missing(&self, end: usize) -> FormulaFault
         ensures { result ≡ fault (spec.here end self.now) Kind.Syntax }
     {
-        let line = match self.rest {
-            [line, ..] => line.number(),
-            [] => end,
+        let line = match self.rest.last() {
+            Some(line) => line.number(),
+            None => end,
         };
         FormulaFault {
             line,
@@ -56,10 +56,10 @@ impl<'l, 't> Lines<'l, 't> {
     }
 
     /// The next line of a block at this indentation, if there is one.
-    pub fn next_at(&mut self, indent: usize) -> Result<Option<&'l Line<'t>>, FormulaFault>
-        ensures { Takes option_copied (spec.next_at indent self.old) result self.new }
+    pub fn next_at(&mut self, indent: usize) -> Result<Option<Line>, FormulaFault>
+        ensures { Takes (λ l. l) (spec.next_at indent self.old) result self.new }
     {
-        let [line, rest @ ..] = self.rest else {
+        let Some(line) = self.rest.last() else {
             return Ok(None);
         };
         if line.indent() < indent {
@@ -68,16 +68,15 @@ impl<'l, 't> Lines<'l, 't> {
         if line.indent() > indent {
             return Err(line.refuse(Kind::Indent));
         }
-        self.rest = rest;
-        Ok(Some(line))
+        Ok(self.rest.pop())
     }
 
     /// The indentation of the block below a line at this one, where the text ends on that line.
     pub fn deeper(&mut self, end: usize, indent: usize) -> Result<usize, FormulaFault>
         ensures { Takes (λ i. i) (spec.deeper end indent self.old) result self.new }
     {
-        match self.rest {
-            [line, ..] if line.indent() > indent => Ok(line.indent()),
+        match self.rest.last() {
+            Some(line) if line.indent() > indent => Ok(line.indent()),
             _ => Err(self.missing(end)),
         }
     }
@@ -87,11 +86,11 @@ impl<'l, 't> Lines<'l, 't> {
     pub fn pass_text(&mut self, text: &str)
         ensures { self.new ≡ spec.documented text.now self.old }
     {
-        let [line, rest @ ..] = self.rest else {
+        let Some(line) = self.rest.last() else {
             return;
         };
         if is_text(shape_of(text, line.tokens())) {
-            self.rest = rest;
+            self.rest.pop();
         }
     }
 }

@@ -18,13 +18,13 @@ use std::alloc::Global;
 fn read_tokens<'a>(
     alloc: Global,
     text: &'a str,
-    tokens: &[Token],
+    tokens: Vec<Token>,
 ) -> Result<Module<'a>, FormulaFault>
-    ensures { Tells statements (spec.of_joined text.now tokens.now) result }
+    ensures { Tells statements (spec.of_joined text.now tokens.items) result }
 {
-    let rows = lines(alloc, tokens)?;
-    let mut left = Lines::new(rows.as_slice());
-    let statements = read_statements(alloc, text, last_line(tokens), &mut left)?;
+    let end = last_line(tokens.as_slice());
+    let mut left = Lines::new(lines(alloc, tokens)?);
+    let statements = read_statements(alloc, text, end, &mut left)?;
     Ok(Module { statements })
 }
 
@@ -34,7 +34,7 @@ fn read_text<'a>(alloc: Global, text: &'a str) -> Result<Module<'a>, FormulaFaul
 {
     let mut found = tokens(alloc, text)?;
     join_texts(&mut found);
-    read_tokens(alloc, text, found.as_slice())
+    read_tokens(alloc, text, found)
 }
 
 /// The module that a text is: import lines and texts that stand alone, which declare nothing; `NAME = build_entity(..)`;

@@ -6,7 +6,7 @@
 #[cfg(test)]
 mod commands;
 #[cfg(test)]
-mod grid;
+mod lines;
 #[cfg(test)]
 mod modules;
 #[cfg(test)]

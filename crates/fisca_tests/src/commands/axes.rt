@@ -1,7 +1,7 @@
 //! `fisca axes` over sinks that fail, and under refused growths.
 
 use fisca_commands::{Refusal, axes_words};
-use fisca_grid::{MemorySink, RowSink, RunEnd, RunFault, StreamSink};
+use fisca_lines::{MemorySink, RowSink, RunEnd, RunFault, StreamSink};
 use std::alloc::{AllocError, Global};
 use std::io;
 

@@ -1,7 +1,7 @@
 //! `fisca check` over many files.
 
 use fisca_commands::{Refusal, check_rules};
-use fisca_grid::MemorySink;
+use fisca_lines::MemorySink;
 use fisca_params::SourceFile;
 use std::alloc::{AllocError, Global};
 use std::test::Fail;

@@ -1,7 +1,8 @@
 //! Refusals for want of memory and failed writes: their numbers, statuses and lines.
 
 use fisca_commands::Refusal;
-use fisca_grid::{AxesFault, RunFault};
+use fisca_grid::AxesFault;
+use fisca_lines::RunFault;
 use std::alloc::Global;
 
 const NO_MEMORY: &str = "fisca: out of memory";

@@ -1,7 +1,7 @@
 //! What a failed write answers.
 
 use fisca_commands::{Ending, Refusal, Task, run_task};
-use fisca_grid::MemorySink;
+use fisca_lines::MemorySink;
 use fisca_params::SourceFile;
 use std::alloc::{AllocError, Global};
 use std::test::Fail;

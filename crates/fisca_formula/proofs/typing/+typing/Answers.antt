@@ -31,10 +31,12 @@ given_of-returns-in_ok-if_known-in-Positional t c =
 pub given_of-returns-in_ok-if_known-in-Keyword : goal.given_of-returns-in_ok-if_known-in-Keyword
 given_of-returns-in_ok-if_known-in-Keyword t c =
     let n = names c.args.names.now in
-    let value = c.in-Keyword.value in
+    let value = c.deref-in-Keyword.result.now in
     let told = c.in_ok-if_known-in-Keyword.ensures (thing_of n (tree value)) c.thing_of-in-Keyword.ensures in
-    let seen : argument_view c.args.argument.now ≡ keyword c.in-Keyword.keyword (tree value) = ap argument_view c.in-Keyword.is ∙ search (all_lemmas, rules) in
-    (λ i. given (Some (c.as_bytes.ensures i)) (tree value) (told i)) ∙ ap (given_of n) (sym seen)
+    let seen : argument_view c.args.argument.now ≡ keyword c.in-Keyword.keyword (tree c.in-Keyword.value.value) = ap argument_view c.in-Keyword.is ∙ search (all_lemmas, rules) in
+    let held = ap (λ e. keyword c.in-Keyword.keyword (tree e)) (sym c.deref-in-Keyword.ensures) in
+    let kept = c.deref.ensures ∙ sym c.deref-in-Keyword.ensures in
+    (λ i. given (Some (c.as_bytes.ensures i)) (tree (kept i)) (told i)) ∙ ap (given_of n) (sym (seen ∙ held))
 
 pub thing_of-returns-in-Bracketed : goal.thing_of-returns-in-Bracketed
 thing_of-returns-in-Bracketed t c =

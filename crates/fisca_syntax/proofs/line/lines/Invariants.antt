@@ -1,9 +1,9 @@
-use Rattle.std.proofs.Common.{◌≡◌, ◌++◌, length}
+use Rattle.std.proofs.Common.{◌≡◌, ◌++◌, length, reverse}
 use Rattle.fisca_syntax.specs.Lines.{lines}
 use Rattle.fisca_syntax.proofs.line.lines.Given as goal
 
-abbrev pub invariant-loop-indent : goal.invariant-loop-indent
-invariant-loop-indent l = lines l.tokens ≡ l.found.items ++ lines l.left
+abbrev pub invariant-loop-found : goal.invariant-loop-found
+invariant-loop-found l = lines l.initial.tokens.items ≡ lines l.tokens.items ++ reverse l.found.items
 
-abbrev pub decreases-loop-indent : goal.decreases-loop-indent
-decreases-loop-indent l = length l.left
+abbrev pub decreases-loop-found : goal.decreases-loop-found
+decreases-loop-found l = length l.tokens.items

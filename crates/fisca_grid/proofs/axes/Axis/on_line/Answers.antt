@@ -37,4 +37,4 @@ invariant_of-result c =
     let first_is = rw first at c.divided.ensures in
     let increment_is = rw increment at c.divided-2.ensures in
     let some = some_divisor _ _ c.common_divisor-factor.ensures.1 c.requires.line.positive in
-    rw (one, two) (record { line = line-divided _ _ _ _ _ _ _ c.requires.line some c.common_divisor-factor.ensures.1 first_is increment_is })
+    rw (one, two) (record { some = c.requires.some; line = line-divided _ _ _ _ _ _ _ c.requires.line some c.common_divisor-factor.ensures.1 first_is increment_is })

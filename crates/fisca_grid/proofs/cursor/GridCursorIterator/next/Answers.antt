@@ -1,5 +1,5 @@
 use Rattle.std.proofs.Common.{sym, ◌∙◌, arith}
-use Rattle.fisca_grid.proofs.Walk.{positions_from-step}
+use Rattle.fisca_lines.proofs.Walk.{positions_from-step}
 use Rattle.fisca_grid.proofs.cursor.GridCursorIterator.next.Goals as goal
 
 pub returns-clause-steps : goal.returns-clause-steps

@@ -1,0 +1,3 @@
+pub mod Evaluators
+pub mod Faults
+pub mod Scenes

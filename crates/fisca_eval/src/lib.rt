@@ -1,0 +1,12 @@
+//! The values of keys in a situation under a rule set.
+#![tactic(auto)]
+
+mod chains;
+mod evaluator;
+mod fault;
+mod scene;
+mod values;
+mod work;
+
+pub use evaluator::Evaluator;
+pub use fault::EvalFault;

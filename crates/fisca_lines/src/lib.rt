@@ -1,0 +1,18 @@
+//! The lines of a run over the positions of a grid, whatever stands there, and the sinks that take them.
+#![tactic(auto)]
+
+mod fault;
+mod law;
+mod memory_sink;
+mod rows;
+mod run;
+mod sink;
+mod stream_sink;
+
+pub use fault::{RowFault, RunEnd, RunFault};
+pub use law::{positions_rise, runs_continue};
+pub use memory_sink::MemorySink;
+pub use rows::{Rows, Selection};
+pub use run::write_lines;
+pub use sink::{RowSink, SinkFault, hand_over};
+pub use stream_sink::StreamSink;

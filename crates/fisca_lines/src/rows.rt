@@ -1,0 +1,49 @@
+//! What stands at the positions of a grid.
+
+ghost use Rattle.std.specs.Prelude.{◌≡◌, ℕ, ◌<◌, [], string_bytes};
+
+use super::fault::RowFault;
+
+/// Whether a position has a line.
+#[derive(Clone, Copy, Debug, PartialEq, Eq)]
+pub enum Selection {
+    /// It has one.
+    Kept,
+    /// It has none.
+    Dropped,
+}
+
+/// The rows of a grid: for each position nothing, a line or a fault.
+///
+/// Working out a row may change what the rows remember, but never what a row is.
+pub trait Rows {
+    ghost use Rattle.std.specs.Prelude.{◌≡◌, ℕ, ◌<◌, [], string_bytes};
+    ghost use Rattle.fisca_lines.specs.Row.{Row, IsWorkedOut};
+
+    /// The type of the faults of rows.
+    type Fault;
+
+    // what stands at a position
+    ghost row_at: { Self → ℕ → Row Self.Fault };
+
+    // the number of positions
+    ghost size: { Self → ℕ };
+
+    /// The number of positions.
+    fn size(&self) -> u64
+        ensures { result ≡ size self.now };
+
+    /// Works out the row at a position. `Kept` where it has a line, whose text, with its line feed,
+    /// then is in the buffer; `Dropped` where it has none; `Eval` where it is a fault. `Memory` only
+    /// where memory was refused.
+    fn work_out(
+        &mut self,
+        position: u64,
+        line: &mut String,
+    ) -> Result<Selection, RowFault<Self::Fault>>
+        requires position { position < size self.old }
+        requires line { string_bytes line.old ≡ [] }
+        ensures worked_out { IsWorkedOut (row_at self.old position) result (string_bytes line.new) }
+        ensures same_row { row_at self.new ≡ row_at self.old }
+        ensures same_size { size self.new ≡ size self.old };
+}

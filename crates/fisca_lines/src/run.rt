@@ -1,0 +1,83 @@
+//! Writing the lines of a run.
+
+ghost use Rattle.std.specs.Prelude.{◌≡◌, ◌≢◌, ℕ, ◌-◌, ◌<◌, ◌↔◌, option_map, IsErrOf};
+ghost use Rattle.fisca_lines.specs.Run.{IsRun, IsRowWritten, is_write};
+ghost use Rattle.fisca_lines.specs.Sink.{CountsFailure};
+
+use super::fault::{RowFault, RunEnd, RunFault};
+use super::rows::{Rows, Selection};
+use super::sink::{RowSink, hand_over};
+use std::alloc::Global;
+
+/// Writes the lines of the positions from `from` on into a sink, in order, up to a limit of lines,
+/// and answers how the run ends. Each line is worked out whole before any of it is handed over. The
+/// only memory that it takes of its own is the buffer of one line, and after a failure it offers
+/// nothing more to the sink.
+///
+/// - `BadPosition` exactly where `from` is above the size.
+/// - `Eval` exactly where the first fault from `from` on comes before the limit is reached.
+/// - `Write` only where the sink failed in this call.
+/// - `Memory` only where memory was refused.
+pub fn write_lines<R: Rows, S: RowSink>(
+    alloc: Global,
+    rows: &mut R,
+    from: u64,
+    limit: Option<u64>,
+    sink: &mut S,
+) -> Result<RunEnd, RunFault<R::Fault>>
+    ensures run { IsRun (R.row_at rows.old) (R.size rows.old) from limit (S.taken sink.old) (S.taken sink.new) result }
+    ensures bad_position { IsErrOf result RunFault.BadPosition ↔ (R.size rows.old < from) }
+    ensures failures { CountsFailure (is_write result) (S.failures sink.old) (S.failures sink.new) }
+    ensures same_row { R.row_at rows.new ≡ R.row_at rows.old }
+    ensures same_size { R.size rows.new ≡ R.size rows.old }
+{
+    let size = rows.size();
+    if from > size {
+        return Err(RunFault::BadPosition);
+    }
+    let mut line = String::new(alloc);
+    let mut left = limit;
+    for position in from..size {
+        if left == Some(0) {
+            return Ok(RunEnd::More(position));
+        }
+        match write_row(rows, position, &mut line, sink)? {
+            Selection::Kept => left = one_less(left),
+            Selection::Dropped => {}
+        }
+    }
+    Ok(RunEnd::End)
+}
+
+/// The limit that one line leaves.
+fn one_less(limit: Option<u64>) -> Option<u64>
+    requires { limit ≢ Some 0 }
+    ensures { result ≡ option_map (λ lines. lines - 1) limit }
+{
+    limit.map(|lines| lines - 1)
+}
+
+/// Works out the row at a position, and hands over its line if it has one.
+fn write_row<R: Rows, S: RowSink>(
+    rows: &mut R,
+    position: u64,
+    line: &mut String,
+    sink: &mut S,
+) -> Result<Selection, RunFault<R::Fault>>
+    requires { position < R.size rows.old }
+    ensures written { IsRowWritten (R.row_at rows.old position) position (S.taken sink.old) (S.taken sink.new) result }
+    ensures failures { CountsFailure (is_write result) (S.failures sink.old) (S.failures sink.new) }
+    ensures same_row { R.row_at rows.new ≡ R.row_at rows.old }
+    ensures same_size { R.size rows.new ≡ R.size rows.old }
+{
+    line.clear();
+    match rows.work_out(position, line) {
+        Ok(Selection::Dropped) => Ok(Selection::Dropped),
+        Ok(Selection::Kept) => match hand_over(sink, line.as_bytes()) {
+            Ok(()) => Ok(Selection::Kept),
+            Err(_) => Err(RunFault::Write { position }),
+        },
+        Err(RowFault::Eval(fault)) => Err(RunFault::Eval { position, fault }),
+        Err(RowFault::Memory) => Err(RunFault::Memory { position }),
+    }
+}

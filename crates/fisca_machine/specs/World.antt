@@ -1,0 +1,12 @@
+-- What formulas are worked out over: the tables of a rule set, and how a situation groups its persons.
+use Rattle.fisca_members.specs.Grouped.{grouped}
+use Rattle.fisca_meaning.specs.Questions.{Groups}
+use Rattle.fisca_tables.specs.Known as known
+use Rattle.fisca_typing.specs.Tables.{Tables}
+use Rattle.fisca_machine.specs.declared.world.World.{World}
+
+abbrev pub tables : World → Tables
+tables w = known.tables w.tables.now
+
+abbrev pub groups : World → Groups
+groups w = grouped w.members.now

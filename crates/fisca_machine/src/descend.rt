@@ -1,0 +1,199 @@
+//! Nodes that are begun.
+
+ghost use Rattle.std.specs.Prelude.{◌≡◌, ◌∷◌, ◌<◌, ◌+◌, IfOk, IfErr, OnOk, option_map, length};
+ghost use Rattle.fisca_meaning.specs.Meaning.{chosen};
+ghost use Rattle.fisca_meaning.specs.Questions.{counted as counts};
+ghost use Rattle.fisca_members.specs.Grouped.{grouped};
+ghost use Rattle.fisca_values.specs.Persons.{persons_from};
+ghost use Rattle.fisca_values.specs.Ended.{IsMoving, ended};
+ghost use Rattle.fisca_machine.specs.Running.{before, rest, waiting, resume, Told, saying, says_below, point, applied, top};
+ghost use Rattle.fisca_machine.specs.Weights.{load, stack_weight, weighing, weight_below};
+ghost use Rattle.fisca_machine.specs.World.{tables, groups};
+
+use crate::found::{date_part, local_at};
+use crate::machine::{Control, Machine, Step};
+use crate::pending::{At, Operation, Pending};
+use crate::world::World;
+use fisca_inputs::Value;
+use fisca_members::Members;
+use fisca_nodes::{Node, Pair};
+use fisca_typing::RolePlace;
+use fisca_values::{Fault, count_of, counted, has, role_of};
+
+/// The role that is wanted, where one is.
+fn role_wanted(role: &Option<Box<RolePlace>>) -> Option<RolePlace>
+    ensures { result ≡ option_map (λ b. b.value) role.now }
+{
+    match role {
+        None => None,
+        Some(role) => Some(**role),
+    }
+}
+
+/// The number of the persons of a group who have a role.
+fn count_from(
+    members: &Members,
+    entity: usize,
+    group: u32,
+    role: Option<RolePlace>,
+) -> Result<Value, Fault>
+    ensures { ended result ≡ counts (length (persons_from (grouped members.now) entity group role 0)) }
+{
+    counted(count_of(members, entity, group, role))
+}
+
+impl<'a> Machine<'a> {
+    /// A value or a fault is there at once.
+    pub(crate) fn ends(
+        &mut self,
+        world: &World<'_, '_, '_>,
+        outcome: Result<Value, Fault>,
+    ) -> Result<Control<'a>, Step>
+        ensures same { IfOk result (λ k. resume world.now self.new k ≡ (before (ended outcome) (rest world.now self.old))) }
+        ensures waits { OnOk result (waiting world.now self.new ≡ (waiting world.now self.old)) }
+        ensures lighter { IfOk result (λ k. load world.now self.new k < 1 + stack_weight world.now self.old.locals.now self.old.frame self.old.stack self.old.kept) }
+        ensures stop { IfErr result (λ s. Told s (before (ended outcome) (rest world.now self.old)) (rest world.now self.new) (waiting world.now self.old) (waiting world.now self.new)) }
+    {
+        match outcome {
+            Ok(value) => {
+                self.value = value;
+                Ok(Control::Give)
+            }
+            Err(fault) => Err(Step::Failed(fault)),
+        }
+    }
+
+    /// Begins with the operand of what is pending then.
+    pub(crate) fn one(
+        &mut self,
+        world: &World<'_, '_, '_>,
+        pending: Pending<'a>,
+        operand: &'a Node,
+        at: At,
+    ) -> Result<Control<'a>, Step>
+        ensures same { IfOk result (λ k. resume world.now self.new k ≡ (saying world.now self.old.locals.now self.old.frame operand.now at (top world.now self.old.locals.now self.old.frame (pending.entry ∷ self.old.stack) self.old.kept))) }
+        ensures pending { OnOk result (self.new ≡ record self.old { stack = pending.entry ∷ self.old.stack }) }
+        ensures operand { IfOk result (λ k. k ≡ Control.Eval operand.entry at) }
+        ensures stop { IfErr result (λ s. s ≡ Step.Memory) }
+    {
+        let Ok(()) = self.put(pending) else {
+            return Err(Step::Memory);
+        };
+        Ok(Control::Eval(operand, at))
+    }
+
+    /// Begins with the left one of two operands.
+    pub(crate) fn two(
+        &mut self,
+        world: &World<'_, '_, '_>,
+        operation: Operation,
+        pair: &'a Pair,
+        at: At,
+    ) -> Result<Control<'a>, Step>
+        ensures same { IfOk result (λ k. resume world.now self.new k ≡ (saying world.now self.old.locals.now self.old.frame pair.now.left at (λ v. saying world.now self.old.locals.now self.old.frame pair.now.right at (λ y. before (applied operation v y) (rest world.now self.old))))) }
+        ensures waits { OnOk result (waiting world.now self.new ≡ (waiting world.now self.old)) }
+        ensures lighter { IfOk result (λ k. load world.now self.new k < weighing world.now self.old.locals.now self.old.frame pair.now.left at + (weighing world.now self.old.locals.now self.old.frame pair.now.right at + 3) + stack_weight world.now self.old.locals.now self.old.frame self.old.stack self.old.kept) }
+        ensures stop { IfErr result (λ s. Told s (saying world.now self.old.locals.now self.old.frame pair.now.left at (λ v. saying world.now self.old.locals.now self.old.frame pair.now.right at (λ y. before (applied operation v y) (rest world.now self.old)))) (rest world.now self.new) (waiting world.now self.old) (waiting world.now self.new)) }
+    {
+        let Ok(()) = self.put(Pending::Right(operation, &pair.right, at)) else {
+            return Err(Step::Memory);
+        };
+        Ok(Control::Eval(&pair.left, at))
+    }
+
+    /// Begins with a condition.
+    pub(crate) fn choose(
+        &mut self,
+        world: &World<'_, '_, '_>,
+        condition: &'a Node,
+        pair: &'a Pair,
+        at: At,
+    ) -> Result<Control<'a>, Step>
+        ensures same { IfOk result (λ k. resume world.now self.new k ≡ (saying world.now self.old.locals.now self.old.frame condition.now at (λ v. chosen v (saying world.now self.old.locals.now self.old.frame pair.now.left at (rest world.now self.old)) (saying world.now self.old.locals.now self.old.frame pair.now.right at (rest world.now self.old))))) }
+        ensures waits { OnOk result (waiting world.now self.new ≡ (waiting world.now self.old)) }
+        ensures lighter { IfOk result (λ k. load world.now self.new k < weighing world.now self.old.locals.now self.old.frame condition.now at + (weighing world.now self.old.locals.now self.old.frame pair.now.left at + weighing world.now self.old.locals.now self.old.frame pair.now.right at + 2) + stack_weight world.now self.old.locals.now self.old.frame self.old.stack self.old.kept) }
+        ensures stop { IfErr result (λ s. Told s (saying world.now self.old.locals.now self.old.frame condition.now at (λ v. chosen v (saying world.now self.old.locals.now self.old.frame pair.now.left at (rest world.now self.old)) (saying world.now self.old.locals.now self.old.frame pair.now.right at (rest world.now self.old)))) (rest world.now self.new) (waiting world.now self.old) (waiting world.now self.new)) }
+    {
+        let Ok(()) = self.put(Pending::Choose(&pair.left, &pair.right, at)) else {
+            return Err(Step::Memory);
+        };
+        Ok(Control::Eval(condition, at))
+    }
+
+    /// Begins with a local, which sees those before it.
+    pub(crate) fn local(
+        &mut self,
+        world: &World<'_, '_, '_>,
+        place: usize,
+        at: At,
+    ) -> Result<Control<'a>, Step>
+        requires moving { IsMoving (says_below (tables world.now) (groups world.now) self.old.locals.now at.visible place (point self.old.frame at) (rest world.now self.old)) }
+        ensures same { IfOk result (λ k. resume world.now self.new k ≡ (says_below (tables world.now) (groups world.now) self.old.locals.now at.visible place (point self.old.frame at) (rest world.now self.old))) }
+        ensures waits { OnOk result (waiting world.now self.new ≡ (waiting world.now self.old)) }
+        ensures lighter { IfOk result (λ k. load world.now self.new k < 1 + weight_below (groups world.now) self.old.frame self.old.locals.now at.visible place + stack_weight world.now self.old.locals.now self.old.frame self.old.stack self.old.kept) }
+        ensures stop { IfErr result (λ s. Told s (says_below (tables world.now) (groups world.now) self.old.locals.now at.visible place (point self.old.frame at) (rest world.now self.old)) (rest world.now self.new) (waiting world.now self.old) (waiting world.now self.new)) }
+    {
+        if place >= at.visible {
+            unreachable!()
+        }
+        match local_at(self.locals, place) {
+            None => unreachable!(),
+            Some(local) => Ok(Control::Eval(
+                local,
+                At {
+                    person: at.person,
+                    visible: place,
+                },
+            )),
+        }
+    }
+
+    /// Begins to work a node out.
+    pub(crate) fn descend(
+        &mut self,
+        world: &World<'_, '_, '_>,
+        node: &'a Node,
+        at: At,
+    ) -> Result<Control<'a>, Step>
+        requires moving { IsMoving (saying world.now self.old.locals.now self.old.frame node.now at (rest world.now self.old)) }
+        ensures same { IfOk result (λ k. resume world.now self.new k ≡ (saying world.now self.old.locals.now self.old.frame node.now at (rest world.now self.old))) }
+        ensures waits { OnOk result (waiting world.now self.new ≡ (waiting world.now self.old)) }
+        ensures lighter { IfOk result (λ k. load world.now self.new k < load world.now self.old (Control.Eval node.entry at)) }
+        ensures stop { IfErr result (λ s. Told s (saying world.now self.old.locals.now self.old.frame node.now at (rest world.now self.old)) (rest world.now self.new) (waiting world.now self.old) (waiting world.now self.new)) }
+    {
+        match node {
+            Node::Literal(number) => self.ends(world, Ok(Value::Number(*number))),
+            Node::Truth(truth) => self.ends(world, Ok(Value::Bool(*truth))),
+            Node::Member(_, place) => self.ends(world, Ok(Value::Member(*place))),
+            Node::Local(place) => self.local(world, *place, at),
+            Node::DatePart(part, moves) => {
+                let outcome = date_part(*part, moves.as_slice(), self.frame.period);
+                self.ends(world, outcome)
+            }
+            Node::Ask(ask) => self.ask(world, ask, at),
+            Node::HasRole(entity, role) => {
+                let held = has(**role, role_of(world.members, *entity, self.frame.member));
+                self.ends(world, Ok(Value::Bool(held)))
+            }
+            Node::Count(role) => {
+                let role = role_wanted(role);
+                let outcome = count_from(world.members, self.frame.entity, self.frame.member, role);
+                self.ends(world, outcome)
+            }
+            Node::Total(total, x) => self.total(world, *total, x, at),
+            Node::Negative(operand) => self.one(world, Pending::Negative, operand, at),
+            Node::Opposite(operand) => self.one(world, Pending::Opposite, operand, at),
+            Node::Arithmetic(kind, pair) => {
+                self.two(world, Operation::Arithmetic(*kind), pair, at)
+            }
+            Node::Logic(kind, pair) => self.two(world, Operation::Logic(*kind), pair, at),
+            Node::Comparison(kind, pair) => {
+                self.two(world, Operation::Comparison(*kind), pair, at)
+            }
+            Node::Same(pair) => self.two(world, Operation::Same, pair, at),
+            Node::Choose(condition, pair) => self.choose(world, condition, pair, at),
+            Node::Parameter(x) => self.parameter(world, x, at),
+            Node::ScaleSum(x) => self.scale(world, x, at),
+        }
+    }
+}

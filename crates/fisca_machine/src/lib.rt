@@ -1,0 +1,17 @@
+//! The machine that works a formula out: step by step, until it has its value, fails, or needs the value of a key.
+#![tactic(auto)]
+
+mod ascend;
+mod asks;
+mod descend;
+mod found;
+mod machine;
+mod parameters;
+mod pending;
+mod stack;
+mod totals;
+mod world;
+
+pub use machine::{Control, Machine, Step};
+pub use pending::{At, Frame};
+pub use world::World;

@@ -1,0 +1,156 @@
+//! The machine.
+
+ghost use Rattle.std.specs.Prelude.{◌≡◌, ◌∷◌, ◌<◌, ◌+◌, [], IfOk, IfErr, OnOk, map};
+ghost use Rattle.fisca_inputs.specs.Seen.{value_seen};
+ghost use Rattle.fisca_meaning.specs.Meaning.{formula_means};
+ghost use Rattle.fisca_nodes.specs.Views.{node};
+ghost use Rattle.fisca_values.specs.Casts.{cast};
+ghost use Rattle.fisca_values.specs.Ended.{IsMoving};
+ghost use Rattle.fisca_machine.specs.Running.{before, rest, waiting, resume, Told};
+ghost use Rattle.fisca_machine.specs.Weights.{load};
+ghost use Rattle.fisca_machine.specs.World.{tables, groups};
+
+use crate::pending::{At, Frame, Kept, Pending};
+use crate::stack::Stack;
+use crate::world::World;
+use fisca_inputs::{Key, Value};
+use fisca_nodes::Node;
+use fisca_tables::DeclaredType;
+use fisca_time::Period;
+use fisca_values::Fault;
+use std::alloc::{AllocError, Global};
+
+/// What is done next: a node is worked out, or the machine's value is given to what is pending.
+#[derive(Clone, Copy)]
+pub enum Control<'a> {
+    /// This node is worked out.
+    Eval(&'a Node, At),
+    /// The value is given on.
+    Give,
+}
+
+/// Where a machine stops.
+#[derive(Clone, Copy, Debug, PartialEq, Eq)]
+pub enum Step {
+    /// The formula on top is done, and off: its value.
+    Done(Value),
+    /// The formula on top has no value.
+    Failed(Fault),
+    /// The value of this key is needed.
+    Needs(Key),
+    /// No memory was given.
+    Memory,
+}
+
+/// The formulas that are being worked out, the last one on top.
+#[derive(Drop)]
+pub struct Machine<'a> {
+    /// The locals of the formula on top.
+    pub(crate) locals: &'a [Node],
+    /// For whom it is worked out.
+    pub(crate) frame: Frame,
+    /// The value that is given on.
+    pub(crate) value: Value,
+    /// What is pending.
+    pub(crate) stack: Stack<Pending<'a>>,
+    /// What is kept for it.
+    pub(crate) kept: Stack<Kept>,
+}
+
+/// For nobody yet.
+fn nobody() -> Frame {
+    Frame {
+        entity: 0,
+        member: 0,
+        period: Period::ETERNITY,
+    }
+}
+
+impl<'a> Machine<'a> {
+    /// A machine with no formula.
+    pub fn new(alloc: Global) -> Machine<'a>
+        ensures { (w : World) → waiting w result ≡ [] }
+    {
+        Machine {
+            locals: &[],
+            frame: nobody(),
+            value: Value::Bool(false),
+            stack: Stack::new(alloc),
+            kept: Stack::new(alloc),
+        }
+    }
+
+    /// Takes all formulas off. What memory the machine has, it keeps.
+    pub fn clear(&mut self)
+        ensures { (w : World) → waiting w self.new ≡ [] }
+    {
+        self.stack.clear();
+        self.kept.clear();
+    }
+
+    /// The value is given on next.
+    pub fn give(&mut self, value: Value) -> Control<'a>
+        ensures control { result ≡ Control.Give }
+        ensures machine { self.new ≡ record self.old { value = value } }
+    {
+        self.value = value;
+        Control::Give
+    }
+
+    /// What is pending is put on top.
+    pub(crate) fn put(&mut self, pending: Pending<'a>) -> Result<(), AllocError>
+        ensures { OnOk result (self.new ≡ record self.old { stack = pending.entry ∷ self.old.stack }) }
+    {
+        self.stack.push(pending)
+    }
+
+    /// What is kept is put on top.
+    pub(crate) fn keep(&mut self, kept: Kept) -> Result<(), AllocError>
+        ensures { OnOk result (self.new ≡ record self.old { kept = kept ∷ self.old.kept }) }
+    {
+        self.kept.push(kept)
+    }
+
+    /// Puts a formula of a variable of this type on top: its locals with values, its result, and for whom it is worked out. `Err` where no memory was given.
+    pub fn begin(
+        &mut self,
+        world: &World<'_, '_, '_>,
+        locals: &'a [Node],
+        returned: &'a Node,
+        declared: DeclaredType,
+        frame: Frame,
+    ) -> Result<Control<'a>, AllocError>
+        ensures begun { IfOk result (λ k. resume world.now self.new k ≡ before (formula_means (tables world.now) (groups world.now) (record { values = map node locals.now; result = node returned.now }) (record { entity = frame.entity; member = frame.member; person = None; period = frame.period })) (cast declared)) }
+        ensures waits { OnOk result (waiting world.now self.new ≡ rest world.now self.old ∷ waiting world.now self.old) }
+    {
+        self.stack.push(Pending::Return(self.locals, declared))?;
+        self.kept.push(Kept::Frame(self.frame))?;
+        self.locals = locals;
+        self.frame = frame;
+        Ok(Control::Eval(
+            returned,
+            At {
+                person: None,
+                visible: locals.len(),
+            },
+        ))
+    }
+
+    /// Goes on until the machine stops.
+    pub fn run(&mut self, world: &World<'_, '_, '_>, control: Control<'a>) -> Step
+        requires moving { IsMoving (resume world.now self.old control) }
+        ensures told { Told result (resume world.now self.old control.entry) (rest world.now self.new) (waiting world.now self.old) (waiting world.now self.new) }
+    {
+        let mut now = control;
+        loop {
+            let next = match now {
+                Control::Eval(node, at) => self.descend(world, node, at),
+                Control::Give => self.ascend(world),
+            };
+            match next {
+                Ok(control) => now = control,
+                Err(step) => return step,
+            }
+        }
+    }
+}

@@ -1,0 +1,4 @@
+pub mod InForce
+pub mod Simulations
+pub mod Sound
+pub mod Views

@@ -1,0 +1,247 @@
+//! The lines of a run.
+
+ghost use Rattle.std.specs.Prelude.{◌≡◌, ℕ, ◌+◌, ◌*◌, ◌-◌, ◌<◌, ◌≤◌, ◌^◌, ◌==◌, nat_lt, cond, List, [], ◌∷◌, ◌++◌, Some};
+ghost use Rattle.std.specs.Fmt.{decimal};
+ghost use Rattle.fisca_lines.specs.Row.{Nothing, Line, Fault};
+
+use fisca_lines::{
+    MemorySink, RowFault, RowSink, Rows, RunEnd, RunFault, Selection, SinkFault, StreamSink,
+    write_lines,
+};
+use std::alloc::Global;
+
+/// The value at a position is 500 times the position. The positions from `first` on are kept, and at
+/// `broken` stands a fault.
+#[derive(Drop)]
+struct Salaries {
+    count: u32,
+    first: u64,
+    broken: u64,
+}
+
+impl Rows for Salaries {
+    type Fault = u64;
+
+    ghost row_at = { λ s position. cond (nat_lt position s.first) Nothing (cond (position == s.broken) (Fault position) (Line (decimal position ++ 9 ∷ (decimal (500 * position) ++ 10 ∷ [])))) };
+
+    ghost size = { λ s. s.count };
+
+    fn size(&self) -> u64 {
+        u64::from(self.count)
+    }
+
+    fn work_out(
+        &mut self,
+        position: u64,
+        line: &mut String,
+    ) -> Result<Selection, RowFault<Self::Fault>> {
+        if position < self.first {
+            return Ok(Selection::Dropped);
+        }
+        if position == self.broken {
+            return Err(RowFault::Eval(position));
+        }
+        let value = 500 * position;
+        match write!(line, "{position}\t{value}\n") {
+            Ok(()) => Ok(Selection::Kept),
+            Err(_) => Err(RowFault::Memory),
+        }
+    }
+}
+
+/// Takes a few bytes a call while it has room, and then fails: by an error, or by taking nothing.
+#[derive(Drop)]
+struct Narrow {
+    held: Vec<u8>,
+    per_call: usize,
+    room: usize,
+    answers_zero: bool,
+    failed: u64,
+}
+
+impl RowSink for Narrow {
+    ghost taken = { λ s. Some s.held.items };
+
+    ghost failures = { λ s. s.failed };
+
+    fn take(&mut self, bytes: &[u8]) -> Result<usize, SinkFault> {
+        let count = self.per_call.min(self.room).min(bytes.len());
+        if count == 0 && !bytes.is_empty() {
+            self.failed = self.failed.saturating_add(1);
+            return if self.answers_zero {
+                Ok(0)
+            } else {
+                Err(SinkFault::Write)
+            };
+        }
+        match self.held.extend_from_slice(&bytes[..count]) {
+            Ok(()) => {
+                self.room -= count;
+                Ok(count)
+            }
+            Err(_) => {
+                self.failed = self.failed.saturating_add(1);
+                Err(SinkFault::Memory)
+            }
+        }
+    }
+}
+
+/// The text of all five lines.
+const ALL: &[u8] = b"0\t0\n1\t500\n2\t1000\n3\t1500\n4\t2000\n";
+
+/// How many of its lines are whole in so many of its first bytes, below all of them.
+fn count_whole(bytes: usize) -> u64 {
+    match bytes {
+        0..=3 => 0,
+        4..=9 => 1,
+        10..=16 => 2,
+        17..=23 => 3,
+        _ => 4,
+    }
+}
+
+/// The salaries 0, 500, 1000, 1500 and 2000.
+fn make_salaries(first: u64, broken: u64) -> Salaries {
+    Salaries {
+        count: 5,
+        first,
+        broken,
+    }
+}
+
+/// Whether a run over a sink in memory gives this answer and writes this.
+fn writes(
+    alloc: Global,
+    mut salaries: Salaries,
+    from: u64,
+    limit: Option<u64>,
+    wanted: Result<RunEnd, RunFault<u64>>,
+    written: &[u8],
+) -> bool {
+    let mut sink = MemorySink::new(alloc);
+    let answer = write_lines(alloc, &mut salaries, from, limit, &mut sink);
+    answer == wanted && sink.bytes() == written && sink.failures() == 0
+}
+
+#[test]
+fn lines_from_a_start_up_to_a_limit(rt: HostRuntime) {
+    let last_two = b"3\t1500\n4\t2000\n".as_slice();
+    let first_four = b"0\t0\n1\t500\n2\t1000\n3\t1500\n".as_slice();
+    let from_one = b"1\t500\n2\t1000\n3\t1500\n4\t2000\n".as_slice();
+    let two = b"1\t500\n2\t1000\n".as_slice();
+    let none = b"".as_slice();
+    // the first position kept, the start, the limit, the answer, and what is written
+    let table = [
+        (1, 0, Some(2), Ok(RunEnd::More(3)), two),
+        (1, 3, None, Ok(RunEnd::End), last_two),
+        (0, 0, Some(0), Ok(RunEnd::More(0)), none),
+        (0, 0, Some(4), Ok(RunEnd::More(4)), first_four),
+        (0, 0, Some(5), Ok(RunEnd::End), ALL),
+        (1, 0, Some(5), Ok(RunEnd::End), from_one),
+        (0, 5, None, Ok(RunEnd::End), none),
+        (0, 5, Some(0), Ok(RunEnd::End), none),
+        (0, 6, None, Err(RunFault::BadPosition), none),
+    ];
+    for (first, from, limit, wanted, written) in table {
+        let salaries = make_salaries(first, 9);
+        assert!(rt;
+            writes(rt.alloc(), salaries, from, limit, wanted, written),
+            "from {from}"
+        );
+    }
+}
+
+#[test]
+fn a_fault_ends_the_lines_where_the_limit_does_not_come_first(rt: HostRuntime) {
+    let fault = Err(RunFault::Eval {
+        position: 3,
+        fault: 3,
+    });
+    let before = b"0\t0\n1\t500\n2\t1000\n".as_slice();
+    let none = b"".as_slice();
+    let last = b"4\t2000\n".as_slice();
+    let table = [
+        (0, None, fault, before),
+        (0, Some(4), fault, before),
+        (0, Some(3), Ok(RunEnd::More(3)), before),
+        (3, None, fault, none),
+        (4, None, Ok(RunEnd::End), last),
+    ];
+    for (from, limit, wanted, written) in table {
+        let salaries = make_salaries(0, 3);
+        assert!(rt;
+            writes(rt.alloc(), salaries, from, limit, wanted, written),
+            "from {from}"
+        );
+    }
+}
+
+#[test]
+fn a_sink_that_takes_three_bytes_breaks_the_first_line(rt: HostRuntime) {
+    let mut sink = Narrow {
+        held: Vec::new(rt.alloc()),
+        per_call: 3,
+        room: 3,
+        answers_zero: false,
+        failed: 0,
+    };
+    let answer = write_lines(rt.alloc(), &mut make_salaries(1, 9), 0, Some(2), &mut sink);
+    assert_eq!(rt; answer, Err(RunFault::Write { position: 1 }));
+    assert_eq!(rt; sink.held.as_slice(), b"1\t5".as_slice());
+    assert_eq!(rt; sink.failed, 1);
+}
+
+/// Whether a run over this sink fails where its room ends, with the text up to there.
+fn is_broken(alloc: Global, mut sink: Narrow) -> bool {
+    let room = sink.room;
+    let answer = write_lines(alloc, &mut make_salaries(0, 9), 0, None, &mut sink);
+    let position = count_whole(room);
+    let is_told = answer == Err(RunFault::Write { position });
+    is_told && ALL.get(..room) == Some(sink.held.as_slice()) && sink.failed == 1
+}
+
+#[test]
+fn a_sink_that_fails_at_any_call_has_the_text_up_to_it(rt: HostRuntime) {
+    for answers_zero in [false, true] {
+        for room in 0..ALL.len() {
+            let sink = Narrow {
+                held: Vec::new(rt.alloc()),
+                per_call: 1,
+                room,
+                answers_zero,
+                failed: 0,
+            };
+            assert!(rt; is_broken(rt.alloc(), sink), "after {room} bytes");
+        }
+    }
+}
+
+/// Whether the sink has just what an answer says, and a run that stopped for want of memory can be resumed.
+fn is_right(alloc: Global, answer: Result<RunEnd, RunFault<u64>>, sink: &mut MemorySink) -> bool {
+    match answer {
+        Err(RunFault::Memory { position }) => {
+            let rest = write_lines(alloc, &mut make_salaries(0, 9), position, None, sink);
+            rest == Ok(RunEnd::End) && sink.bytes() == ALL
+        }
+        Err(RunFault::Write { position }) => {
+            position < 5 && ALL.starts_with(sink.bytes()) && sink.failures() == 1
+        }
+        other => other == Ok(RunEnd::End) && sink.bytes() == ALL,
+    }
+}
+
+#[test]
+fn a_refused_growth_leaves_a_run_that_can_be_resumed(rt: HostRuntime) {
+    let mut sink = MemorySink::new(rt.alloc());
+    let answer = write_lines(rt.alloc(), &mut make_salaries(0, 9), 0, None, &mut sink);
+    assert!(rt; is_right(rt.alloc(), answer, &mut sink));
+}
+
+#[test]
+fn lines_pass_through_a_stream(rt: HostRuntime) {
+    let mut sink = StreamSink::new(Vec::new(rt.alloc()));
+    let answer = write_lines(rt.alloc(), &mut make_salaries(0, 9), 0, Some(2), &mut sink);
+    assert_eq!(rt; answer, Ok(RunEnd::More(2)));
+    assert_eq!(rt; sink.writer().as_slice(), b"0\t0\n1\t500\n".as_slice());
+}

@@ -8,7 +8,7 @@ use fisca_situations::Situation;
 ///
 /// To answer may change what is remembered, but never what a key's answer is.
 pub trait Answers {
-    ghost use Rattle.std.specs.Prelude.{◌≡◌, List, Bool, Result, IsTrue};
+    ghost use Rattle.std.specs.Prelude.{◌≡◌, List, Result};
     ghost use Rattle.fisca_calc.specs.Lines.{IsAnswer};
     ghost use Rattle.fisca_inputs.specs.declared.given.Value.{Value};
     ghost use Rattle.fisca_inputs.specs.declared.key.Key.{Key};
@@ -18,20 +18,20 @@ pub trait Answers {
     /// The type of the faults of keys.
     type Fault;
 
-    // the keys that can be asked for
-    ghost knows: { Self → Key → Bool };
-
     // the value of a key, or why it has none
     ghost answer: { Self → Key → Result Value Self.Fault };
 
     // the members of each entity
     ghost members: { Self → List EntityMembers };
 
+    // what has to hold before a key is asked for
+    ghost ready: { Self → Type 0 };
+
     /// The value of a key. `Eval` where it has none, and `Memory` only where memory was refused.
     fn value(&mut self, key: Key) -> Result<Value, RowFault<Self::Fault>>
-        requires known { IsTrue (knows self.old key) }
+        requires ready { ready self.old }
         ensures answered { IsAnswer (answer self.old key) result }
-        ensures same_keys { knows self.new ≡ knows self.old }
+        ensures ready { ready self.new }
         ensures same_answers { answer self.new ≡ answer self.old }
         ensures same_members { members self.new ≡ members self.old };
 

@@ -1,7 +1,6 @@
 //! The lines of columns.
 
-ghost use Rattle.std.specs.Prelude.{◌≡◌, ◌++◌, IsTrue, None, length, OnOk, string_bytes};
-ghost use Rattle.std.specs.List.{list_all};
+ghost use Rattle.std.specs.Prelude.{◌≡◌, ◌++◌, None, length, OnOk, string_bytes};
 ghost use Rattle.fisca_calc.specs.Lines.{column_row, line_of};
 ghost use Rattle.fisca_lines.specs.Run.{IsRun, is_write};
 ghost use Rattle.fisca_lines.specs.Sink.{CountsFailure};
@@ -39,7 +38,6 @@ struct ColumnRows<'a, A: Answers + Drop, N: Names> {
     columns: &'a [Key],
     answers: A,
     of: PhantomData<N>,
-    ghost known: { IsTrue (list_all (A.knows answers) columns.now) },
     ghost same_members: { A.members answers ≡ N.members },
 }
 
@@ -70,6 +68,8 @@ impl<'a, A: Answers + Drop, N: Names> Rows for ColumnRows<'a, A, N> {
     ghost row_at = { λ r. column_row (known r.tables.now) (A.members r.answers) (A.answer r.answers) r.columns.now };
 
     ghost size = { λ r. length r.columns.now };
+
+    ghost ready = { λ r. A.ready r.answers };
 
     fn size(&self) -> u64 {
         self.columns.len() as u64
@@ -102,10 +102,11 @@ fn write_rows<'a, A: Answers + Drop, N: Names, S: RowSink>(
     answers: A,
     sink: &mut S,
 ) -> (A, Result<RunEnd, RunFault<A::Fault>>)
-    requires known { IsTrue (list_all (A.knows answers) columns.now) }
+    requires ready { A.ready answers }
     requires same_members { A.members answers ≡ N.members }
     ensures run { IsRun (column_row (known tables.now) (A.members answers) (A.answer answers) columns.now) (length columns.now) 0 None (S.taken sink.old) (S.taken sink.new) result.1 }
     ensures failures { CountsFailure (is_write result.1) (S.failures sink.old) (S.failures sink.new) }
+    ensures ready { A.ready result.0 }
     ensures members { A.members result.0 ≡ N.members }
 {
     let mut rows = ColumnRows::<'a, A, N> {
@@ -120,7 +121,7 @@ fn write_rows<'a, A: Answers + Drop, N: Names, S: RowSink>(
 }
 
 /// Writes the lines of columns into a sink, one for each in order: `VARIABLE<TAB>MEMBER<TAB>PERIOD<TAB>VALUE`. Each line is worked out whole before any of
-/// it is handed over. What answers the values is given back, with the members that it had.
+/// it is handed over. What answers the values is given back, with the members that it had, and is ready for more.
 ///
 /// - `Eval` exactly where a column has no value: the first such column, behind the lines of those before it.
 /// - `Write` only where the sink failed in this call: it has the lines before the column that is named, and a proper beginning of the line there.
@@ -134,9 +135,10 @@ pub fn write_columns<'a, A: Answers + Drop, S: RowSink>(
     answers: A,
     sink: &mut S,
 ) -> (A, Result<RunEnd, RunFault<A::Fault>>)
-    requires { IsTrue (list_all (A.knows answers) columns.now) }
+    requires { A.ready answers }
     ensures run { IsRun (column_row (known tables.now) (A.members answers) (A.answer answers) columns.now) (length columns.now) 0 None (S.taken sink.old) (S.taken sink.new) result.1 }
     ensures failures { CountsFailure (is_write result.1) (S.failures sink.old) (S.failures sink.new) }
+    ensures ready { A.ready result.0 }
     ensures members { A.members result.0 ≡ A.members answers }
 {
     write_rows::<A, Brand, S>(alloc, tables, columns, answers, sink)

@@ -22,6 +22,7 @@ pub struct AxisRows {
 }
 
 impl Rows for AxisRows {
+    ghost use Rattle.std.specs.Prelude.{⊤};
     ghost use Rattle.fisca_grid.specs.Grid.{size_of};
     ghost use Rattle.fisca_grid.specs.AxesRow.{axes_row};
 
@@ -30,6 +31,9 @@ impl Rows for AxisRows {
     ghost row_at = { λ r. axes_row r.axes r.keep };
 
     ghost size = { λ r. size_of r.axes };
+
+    // nothing has to be made ready
+    ghost ready = { λ _. ⊤ };
 
     fn size(&self) -> u64 {
         self.axes.size()

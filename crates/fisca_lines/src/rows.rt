@@ -29,6 +29,9 @@ pub trait Rows {
     // the number of positions
     ghost size: { Self → ℕ };
 
+    // what has to hold of them before a row is worked out
+    ghost ready: { Self → Type 0 };
+
     /// The number of positions.
     fn size(&self) -> u64
         ensures { result ≡ size self.now };
@@ -41,9 +44,11 @@ pub trait Rows {
         position: u64,
         line: &mut String,
     ) -> Result<Selection, RowFault<Self::Fault>>
+        requires ready { ready self.old }
         requires position { position < size self.old }
         requires line { string_bytes line.old ≡ [] }
         ensures worked_out { IsWorkedOut (row_at self.old position) result (string_bytes line.new) }
+        ensures ready { ready self.new }
         ensures same_row { row_at self.new ≡ row_at self.old }
         ensures same_size { size self.new ≡ size self.old };
 }

@@ -25,9 +25,11 @@ pub fn write_lines<R: Rows, S: RowSink>(
     limit: Option<u64>,
     sink: &mut S,
 ) -> Result<RunEnd, RunFault<R::Fault>>
+    requires { R.ready rows.old }
     ensures run { IsRun (R.row_at rows.old) (R.size rows.old) from limit (S.taken sink.old) (S.taken sink.new) result }
     ensures bad_position { IsErrOf result RunFault.BadPosition ↔ (R.size rows.old < from) }
     ensures failures { CountsFailure (is_write result) (S.failures sink.old) (S.failures sink.new) }
+    ensures ready { R.ready rows.new }
     ensures same_row { R.row_at rows.new ≡ R.row_at rows.old }
     ensures same_size { R.size rows.new ≡ R.size rows.old }
 {
@@ -64,9 +66,11 @@ fn write_row<R: Rows, S: RowSink>(
     line: &mut String,
     sink: &mut S,
 ) -> Result<Selection, RunFault<R::Fault>>
-    requires { position < R.size rows.old }
+    requires ready { R.ready rows.old }
+    requires position { position < R.size rows.old }
     ensures written { IsRowWritten (R.row_at rows.old position) position (S.taken sink.old) (S.taken sink.new) result }
     ensures failures { CountsFailure (is_write result) (S.failures sink.old) (S.failures sink.new) }
+    ensures ready { R.ready rows.new }
     ensures same_row { R.row_at rows.new ≡ R.row_at rows.old }
     ensures same_size { R.size rows.new ≡ R.size rows.old }
 {

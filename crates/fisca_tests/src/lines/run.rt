@@ -1,6 +1,6 @@
 //! The lines of a run.
 
-ghost use Rattle.std.specs.Prelude.{◌≡◌, ℕ, ◌+◌, ◌*◌, ◌-◌, ◌<◌, ◌≤◌, ◌^◌, ◌==◌, nat_lt, cond, List, [], ◌∷◌, ◌++◌, Some};
+ghost use Rattle.std.specs.Prelude.{◌≡◌, ⊤, ℕ, ◌+◌, ◌*◌, ◌-◌, ◌<◌, ◌≤◌, ◌^◌, ◌==◌, nat_lt, cond, List, [], ◌∷◌, ◌++◌, Some};
 ghost use Rattle.std.specs.Fmt.{decimal};
 ghost use Rattle.fisca_lines.specs.Row.{Nothing, Line, Fault};
 
@@ -25,6 +25,8 @@ impl Rows for Salaries {
     ghost row_at = { λ s position. cond (nat_lt position s.first) Nothing (cond (position == s.broken) (Fault position) (Line (decimal position ++ 9 ∷ (decimal (500 * position) ++ 10 ∷ [])))) };
 
     ghost size = { λ s. s.count };
+
+    ghost ready = { λ _. ⊤ };
 
     fn size(&self) -> u64 {
         u64::from(self.count)

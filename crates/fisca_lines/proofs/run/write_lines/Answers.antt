@@ -7,7 +7,7 @@ use Rattle.fisca_lines.proofs.run.write_lines.Goals as goal
 use Rattle.fisca_lines.proofs.run.write_lines.Goals.{in-Kept, in-Dropped}
 
 pub loop-position-init : goal.loop-position-init
-loop-position-init g c = record { written = started _ _ _ _ _; same_row = refl; same_size = refl; unfailed = refl }
+loop-position-init g c = record { written = started _ _ _ _ _; ready = c.requires; same_row = refl; same_size = refl; unfailed = refl }
 
 pub returns-in_err-write_row-clause-run : goal.returns-in_err-write_row-clause-run
 returns-in_err-write_row-clause-run g c =
@@ -32,6 +32,7 @@ loop-position-preserved g c =
     record {
       written = subst (λ (left : Option ℕ). IsWritten (g.R.Rows.row_at c.args.rows.now) (g.R.Rows.size c.args.rows.now) c.args.from c.args.limit (g.S.RowSink.taken c.args.sink.now) (g.S.RowSink.taken c.write_row.new.sink) (position + 1) left) left
           (past_row _ _ _ _ _ _ _ _ _ _ c.loop-position.invariant.written within some written);
+      ready = c.write_row.ensures.ready;
       same_row = c.write_row.ensures.same_row ∙ c.loop-position.invariant.same_row;
       same_size = c.write_row.ensures.same_size ∙ c.loop-position.invariant.same_size;
       unfailed = unfailed ∙ c.loop-position.invariant.unfailed;

@@ -1,0 +1,12 @@
+use Rattle.std.proofs.Common.{◌∙◌, ap, codes, unwrap_or, []}
+use Rattle.clap.proofs.WalkLemmas.{first_value-rows}
+use Rattle.clap.specs.Matches.{found_of}
+use Rattle.fisca.proofs.Matches.{text_or}
+use Rattle.fisca.proofs.task.calc_task.Goals as goal
+
+pub returns : goal.returns
+returns c =
+    let found = found_of c.args.matches.now in (
+      ap (λ text. text.now) c.unwrap_or.ensures ∙ (text_or c.get_str.result _ ∙ ap (λ text. unwrap_or text []) (c.get_str.ensures ∙ first_value-rows found (codes "RULES"))),
+      ap (λ text. text.now) c.unwrap_or-2.ensures ∙ (text_or c.get_str-2.result _ ∙ ap (λ text. unwrap_or text []) (c.get_str-2.ensures ∙ first_value-rows found (codes "FILE"))),
+    )

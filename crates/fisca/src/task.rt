@@ -7,7 +7,7 @@ ghost use Rattle.clap.specs.Walk.{rows_of, rule_of};
 ghost use Rattle.clap.specs.Simple.{app_of, new_app, subcommand_of};
 ghost use Rattle.clap.specs.Faults.{fault_of};
 ghost use Rattle.clap.specs.Kinds.{FailsBy};
-ghost use Rattle.fisca.specs.CommandLine.{axis_rule, option_rule, number_rule, required_rule, axes_app, calc_app, check_app, fisca_app, IsAxesTask, IsCalcTask, IsCheckTask, IsTaskOf};
+ghost use Rattle.fisca.specs.CommandLine.{axis_rule, option_rule, number_rule, required_rule, axes_app, calc_app, check_app, fisca_app, top_app, IsAxesTask, IsCalcTask, IsCheckTask, IsTaskOf};
 
 use clap::{Arg, ArgAction, ArgMatches, Command, Error, value_parser};
 use fisca_commands::Task;
@@ -231,10 +231,10 @@ fn calc_command<'a>(alloc: Global) -> Result<Command<'a>, AllocError>
     calc_page(alloc).arg(rules)?.arg(file)
 }
 
-/// The whole command line.
-fn command<'a>(alloc: Global) -> Result<Command<'a>, AllocError>
-    ensures app { IfOk result (λ command. app_of command ≡ fisca_app) }
-    ensures local { IfOk result (λ command. (out-Command command).has_globals ≡ false) }
+/// The program with its help, and no commands yet.
+fn program_page<'a>(alloc: Global) -> Command<'a>
+    ensures app { app_of result ≡ top_app }
+    ensures local { (out-Command result).has_globals ≡ false }
 {
     Command::new(alloc, "fisca")
         .about(ABOUT)
@@ -242,9 +242,20 @@ fn command<'a>(alloc: Global) -> Result<Command<'a>, AllocError>
         .after_help(STATUSES)
         .subcommand_required(true)
         .arg_required_else_help(true)
-        .subcommand(check_command(alloc)?)?
-        .subcommand(calc_command(alloc)?)?
-        .subcommand(axes_command(alloc)?)
+}
+
+/// The whole command line.
+fn command<'a>(alloc: Global) -> Result<Command<'a>, AllocError>
+    ensures app { IfOk result (λ command. app_of command ≡ fisca_app) }
+    ensures local { IfOk result (λ command. (out-Command command).has_globals ≡ false) }
+{
+    let check = check_command(alloc)?;
+    let calc = calc_command(alloc)?;
+    let axes = axes_command(alloc)?;
+    program_page(alloc)
+        .subcommand(check)?
+        .subcommand(calc)?
+        .subcommand(axes)
 }
 
 /// Copies of texts.

@@ -1,14 +1,10 @@
 -- What is known of a file of `calc` once it is read, and what the run over its columns answers.
-use Rattle.std.proofs.Common.{◌≡◌, ◌<◌, ℕ, inl, inr, List, [], length, Option, Some, None, Result, Ok, Err, refl, sym, ap, subst, arith, codes}
+use Rattle.std.proofs.Common.{◌≡◌, ◌<◌, ℕ, inl, inr, List, [], length, Option, Some, None, Result, Ok, Err, refl, sym, ap, subst, arith}
 use Rattle.std.proofs.lemmas.List.{append-nil}
-use Rattle.std.specs.Option.{option_map_or, unwrap_or}
-use Rattle.fisca_calc.specs.Calc.{Calc, calc_by, calc_of, columns_in, default_in, file_checked, situation_in}
-use Rattle.fisca_calc.specs.Faults.{told}
-use Rattle.fisca_calc.specs.declared.fault.RunFileFault.{RunFileFault}
+use Rattle.std.specs.Option.{option_map_or}
+use Rattle.fisca_calc.specs.Calc.{Calc, calc_of}
 use Rattle.fisca_eval.specs.Told.{IsReady}
 use Rattle.fisca_eval.specs.declared.fault.EvalFault.{EvalFault}
-use Rattle.fisca_inputs.specs.declared.fault.SituationFault.{SituationFault}
-use Rattle.fisca_inputs.specs.declared.key.Key.{Key}
 use Rattle.fisca_lines.specs.Continued.{lines_before, limit_after}
 use Rattle.fisca_lines.specs.Lines.{AtEnd, FaultAt, first_fault, lines}
 use Rattle.fisca_lines.specs.Run.{told_end}
@@ -23,13 +19,9 @@ use Rattle.fisca_params.specs.Tree.{TreeNode}
 use Rattle.fisca_rules.specs.Rules.{Rules, rules_of}
 use Rattle.fisca_rules.specs.Views.{rule_set}
 use Rattle.fisca_rules.specs.declared.rule_set.RuleSet.{RuleSet}
-use Rattle.fisca_situations.specs.Situations.{Situation, situation_of}
 use Rattle.fisca_sources.specs.Sound.{InputsFit, IsSafeRules}
 use Rattle.fisca_syntax.specs.Modules.{Statement}
-use Rattle.fisca_tables.specs.declared.tables.Tables.{Tables}
-use Rattle.fisca_time.specs.Period.{Span}
-use Rattle.fisca_yaml.specs.Find.{get, line_at}
-use Rattle.fisca_yaml.specs.Node.{Node, null}
+use Rattle.fisca_yaml.specs.Node.{Node}
 use Rattle.fisca_commands.specs.Calc.{Calculation, IsAsked, IsColumnsRun, IsKeyTold, IsStopped, WritesFirst, lines_of, row_of, simulation_of}
 use Rattle.fisca_commands.specs.Modules.{FileFault, declared_by, modules_in, told_by}
 use Rattle.fisca_commands.specs.RuleFiles.{IsAccepted}
@@ -50,39 +42,15 @@ declared_built tree fs (Err fault) rules e = absurd (cc)
 built : (files : List Source) (rules : Rules) → IsAccepted files rules → (tree : List TreeNode) × ((ms : List (List Statement)) × (rules_of tree ms ≡ Ok rules))
 built files rules is = let fs = modules_in (in_path_order files) in (is.0, declared_built is.0 fs (declared_by fs) rules is.2)
 
--- The situation
-
-with_columns : (s : Situation) (asked : Calc) (o : Result (List Key) RunFileFault) → and_then o (λ ks. Ok (record { situation = s; columns = ks })) ≡ Ok asked → s ≡ asked.situation
-with_columns s asked (Ok ks) e = let same : record { situation = s; columns = ks } ≡ asked = cc in ap (λ (c : Calc). c.situation) same
-with_columns s asked (Err fault) e = absurd (cc)
-
-with_situation : (c : Tables) (n : Node) (asked : Calc) (o : Result Situation SituationFault) → and_then (told o) (calc_by c n) ≡ Ok asked → o ≡ Ok asked.situation
-unfolding calc_by
-with_situation c n asked (Ok s) e = ap Ok (with_columns s asked (columns_in c s.members n) e)
-with_situation c n asked (Err fault) e = absurd (cc)
-
-with_keys : (c : Tables) (n : Node) (asked : Calc) (o : Result (List Key) RunFileFault) → and_then o (λ _. and_then (situation_in c n) (calc_by c n)) ≡ Ok asked
-    → situation_of c (default_in n) (line_at (codes "input") 1 n) (unwrap_or (get (codes "input") n) null) ≡ Ok asked.situation
-with_keys c n asked (Ok ks) e = with_situation c n asked (situation_of c (default_in n) (line_at (codes "input") 1 n) (unwrap_or (get (codes "input") n) null)) e
-with_keys c n asked (Err fault) e = absurd (cc)
-
--- the situation of a file is read from its input
-situation_read : (c : Tables) (n : Node) (asked : Calc) → calc_of c n ≡ Ok asked → situation_of c (default_in n) (line_at (codes "input") 1 n) (unwrap_or (get (codes "input") n) null) ≡ Ok asked.situation
-unfolding calc_of
-situation_read c n asked e = with_keys c n asked (file_checked n) e
-
 -- what an evaluator needs is known of what a text asks for
 pub ready : (files : List Source) (text : List ℕ) (c : Calculation)
     → ((nodes : List TreeNode) (ms : List (List Statement)) (r : Rules) → rules_of nodes ms ≡ Ok r → IsSafeRules r)
-    → ((rules : RuleSet) → IsSafeRules (rule_set rules) → (default : Option Span) (line : ℕ) (n : Node) (s : Situation) → situation_of rules.tables default line n ≡ Ok s → InputsFit (rule_set rules) s)
+    → ((rules : RuleSet) → IsSafeRules (rule_set rules) → (n : Node) (asked : Calc) → calc_of rules.tables n ≡ Ok asked → InputsFit (rule_set rules) asked.situation)
     → IsAccepted files (rule_set c.rules) → IsAsked c.rules text c.asked → IsReady (simulation_of c)
 ready files text c safe fit accepted asked =
     let made = built files (rule_set c.rules) accepted in
     let is_safe = safe made.0 made.1.0 (rule_set c.rules) made.1.1 in
-    record {
-      safe = is_safe;
-      fit = fit c.rules is_safe (default_in asked.0) (line_at (codes "input") 1 asked.0) (unwrap_or (get (codes "input") asked.0) null) c.asked.situation (situation_read c.rules.tables asked.0 c.asked asked.2);
-    }
+    record { safe = is_safe; fit = fit c.rules is_safe asked.0 c.asked asked.2 }
 
 -- The run
 

@@ -14,7 +14,7 @@ use super::refusal::Refusal;
 use super::rule_files::rules_of;
 use fisca_calc::{CalcFile, RunFileKind, write_columns};
 use fisca_columns::key_text;
-use fisca_eval::{EvalFault, Evaluator, inputs_fit, rule_sets_are_safe};
+use fisca_eval::{EvalFault, Evaluator, calc_inputs_fit, rule_sets_are_safe};
 use fisca_lines::{RowSink, RunFault};
 use fisca_params::SourceFile;
 use fisca_rules::RuleSet;
@@ -117,6 +117,6 @@ pub fn calc_rules<S: RowSink>(
     let rules = rules_of(alloc, files)?;
     let file = read_file(alloc, &rules, text)?;
     rule_sets_are_safe();
-    inputs_fit();
+    calc_inputs_fit();
     write_values(alloc, &rules, file, sink)
 }

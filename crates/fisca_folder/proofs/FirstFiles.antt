@@ -1,6 +1,5 @@
 -- The first of the files of a folder.
-use Rattle.std.proofs.Common.{◌≡◌, ◌+◌, ◌<◌, ◌≤◌, ◌^◌, ℕ, List, [], ◌∷◌, ◌++◌, String, length, take, map, min, string_bytes, All, sym, ◌∙◌, ap, append_assoc, arith, take_all, get_or, get_or-take, IsSorted, string_cmp, Result, Ok, Err, IfOk, Option, Some, None, option_map, subst, MatchResult}
-use Rattle.std.specs.Str.{IsUtf8}
+use Rattle.std.proofs.Common.{◌≡◌, ◌+◌, ◌<◌, ◌≤◌, ◌^◌, ℕ, List, [], ◌∷◌, ◌++◌, String, length, take, map, min, string_bytes, All, sym, ◌∙◌, ap, append_assoc, arith, take_all, get_or, get_or-take, IsSorted, string_cmp, Result, Ok, Err, IfOk, Option, Some, None, option_map, subst}
 use Rattle.std.proofs.lemmas.List.{map-append, length-append, length-map, length-take, take-append-le, map_push, get_or-map}
 use Rattle.std.proofs.lemmas.List.Elements.{All-append, All-cons, All-nil}
 use Rattle.std.specs.Cmp.Lexicographic.{slice_cmp}
@@ -9,8 +8,7 @@ use Rattle.std.specs.declared.alloc.Global.{Global}
 use Rattle.fisca_params.specs.Source.{Source}
 use Rattle.fisca_folder.specs.declared.folder.FolderFault.{FolderFault}
 use Rattle.fisca_folder.specs.declared.folder.FolderFault.TheVariants.{CannotList, CannotRead, TooLong, TooManyFiles, Memory}
-use Rattle.fisca_folder.specs.FolderSteps.{IsOverlong, IsUnread}
-use Rattle.fisca_folder.specs.Folder.{AreRuleFiles, Folder, IsFileFault, IsFirstFault, IsReadable, IsTextOf, IsTooLong, IsUnreadable, path_of}
+use Rattle.fisca_folder.specs.Folder.{AreRuleFiles, Folder, IsFileFault, IsFirstFault, IsReadable, IsTextOf, path_of}
 
 short : (n : ℕ) (xs : List (List ℕ)) (y : List ℕ) → length (take n xs) < n → take n (xs ++ y ∷ []) ≡ take n xs ++ y ∷ []
 short n xs y h =
@@ -128,25 +126,3 @@ told_of_first path (Some bytes) (Err (TooLong told)) is =
     (omega (arith, cut, is.0), is.1)
 told_of_first path (Some bytes) (Err TooManyFiles) is = absurd is
 told_of_first path (Some bytes) (Err Memory) is = tt
-
--- what is told of a file that cannot be read
-pub unread : (path : List ℕ) (bytes : Option (List ℕ)) (fault : FolderFault) → IsUnreadable bytes → IsUnread path fault → IsFileFault path bytes fault
-unread path bytes CannotList h is = is
-unread path bytes (CannotRead told) h is = (h, is)
-unread path bytes (TooLong told) h is = absurd is
-unread path bytes TooManyFiles h is = is
-unread path bytes Memory h is = tt
-
--- what is told of a file that is too long
-pub overlong : (path : List ℕ) (bytes : Option (List ℕ)) (fault : FolderFault) → IsTooLong bytes → IsOverlong path fault → IsFileFault path bytes fault
-overlong path bytes CannotList h is = is
-overlong path bytes (CannotRead told) h is = absurd is
-overlong path bytes (TooLong told) h is = (h, is)
-overlong path bytes TooManyFiles h is = is
-overlong path bytes Memory h is = tt
-
--- what is told of bytes that are or are no text
-pub told_of_bytes : (path bytes : List ℕ) (r : Result (String Global) FolderFault) → length bytes ≤ 1048576
-    → MatchResult r (λ text. (string_bytes text ≡ bytes) × IsUtf8 bytes) (λ fault. ¬ (IsUtf8 bytes) × IsUnread path fault) → IsTextOf path (Some bytes) r
-told_of_bytes path bytes (Ok text) few told = (ap Some (sym told.0), few, told.1)
-told_of_bytes path bytes (Err fault) few told = unread path (Some bytes) fault (few, told.0) told.1

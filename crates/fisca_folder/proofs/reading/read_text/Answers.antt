@@ -1,4 +1,4 @@
-use Rattle.std.proofs.Common.{option_map, subst}
+use Rattle.std.proofs.Common.{subst}
 use Rattle.fisca_folder.specs.Folder.{IsTextOf}
 use Rattle.fisca_folder.proofs.FirstFiles.{told_of_first}
 use Rattle.fisca_folder.proofs.reading.read_text.Goals as goal

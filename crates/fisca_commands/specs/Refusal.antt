@@ -106,18 +106,22 @@ key_of TooManyFiles = []
 abbrev pub line_of : List ℕ → Refusal → List ℕ
 line_of path refusal = codes "fisca: " ++ (place_of path refusal ++ (reason_of refusal ++ key_of refusal))
 
--- the answer is that the sink failed
+-- the refusal is that the sink failed
+abbrev pub is_failed_write : Refusal → Bool
+is_failed_write (Params path line fault) = false
+is_failed_write (Formula path line kind) = false
+is_failed_write (Yaml fault) = false
+is_failed_write (RunFile fault) = false
+is_failed_write (Axes fault) = false
+is_failed_write BadWord = false
+is_failed_write BadCondition = false
+is_failed_write (Run fault) = run_is_write {X = RunEnd} (Err fault)
+is_failed_write (Eval fault key) = false
+is_failed_write Write = true
+is_failed_write Memory = false
+is_failed_write TooManyFiles = false
+
+-- the same of an answer
 abbrev pub is_write : {X : Type 0} → Result X Refusal → Bool
 is_write (Ok x) = false
-is_write (Err (Params path line fault)) = false
-is_write (Err (Formula path line kind)) = false
-is_write (Err (Yaml fault)) = false
-is_write (Err (RunFile fault)) = false
-is_write (Err (Axes fault)) = false
-is_write (Err BadWord) = false
-is_write (Err BadCondition) = false
-is_write (Err (Run fault)) = run_is_write {X = RunEnd} (Err fault)
-is_write (Err (Eval fault key)) = false
-is_write (Err Write) = true
-is_write (Err Memory) = false
-is_write (Err TooManyFiles) = false
+is_write (Err refusal) = is_failed_write refusal

@@ -1,5 +1,5 @@
 mod Parts
 mod FirstModule
 mod Endings
-mod Written
+mod Calculated
 mod Named

@@ -1,6 +1,5 @@
 -- The first of the files of a folder.
-use Rattle.std.proofs.Common.{◌≡◌, ◌+◌, ◌<◌, ◌≤◌, ◌^◌, ℕ, List, [], ◌∷◌, ◌++◌, String, length, take, map, min, string_bytes, All, sym, ◌∙◌, ap, append_assoc, arith, take_all, get_or, get_or-take, IsSorted, string_cmp, Result, Ok, Err, IfOk, Option, Some, None, option_map, subst, MatchResult}
-use Rattle.std.specs.Str.{IsUtf8}
+use Rattle.std.proofs.Common.{◌≡◌, ◌+◌, ◌<◌, ◌≤◌, ◌^◌, ℕ, List, [], ◌∷◌, ◌++◌, String, length, take, map, min, string_bytes, All, sym, ◌∙◌, ap, append_assoc, arith, take_all, get_or, get_or-take, IsSorted, string_cmp, Result, Ok, Err, IfOk, Option, Some, None, option_map, subst}
 use Rattle.std.proofs.lemmas.List.{map-append, length-append, length-map, length-take, take-append-le, map_push, get_or-map}
 use Rattle.std.proofs.lemmas.List.Elements.{All-append, All-cons, All-nil}
 use Rattle.std.specs.Cmp.Lexicographic.{slice_cmp}
@@ -9,8 +8,7 @@ use Rattle.std.specs.declared.alloc.Global.{Global}
 use Rattle.fisca_params.specs.Source.{Source}
 use Rattle.fisca_folder.specs.declared.folder.FolderFault.{FolderFault}
 use Rattle.fisca_folder.specs.declared.folder.FolderFault.TheVariants.{CannotList, CannotRead, TooLong, TooManyFiles, Memory}
-use Rattle.fisca_folder.specs.FolderSteps.{IsUnread}
-use Rattle.fisca_folder.specs.Folder.{AreRuleFiles, Folder, IsFileFault, IsFirstFault, IsReadable, IsTooLong, IsUnreadable, path_of}
+use Rattle.fisca_folder.specs.Folder.{AreRuleFiles, Folder, IsFileFault, IsFirstFault, IsReadable, IsTextOf, path_of}
 
 short : (n : ℕ) (xs : List (List ℕ)) (y : List ℕ) → length (take n xs) < n → take n (xs ++ y ∷ []) ≡ take n xs ++ y ∷ []
 short n xs y h =
@@ -111,38 +109,20 @@ first_fault folder all gone old new path one fault e step is readable faulty = (
   faulty,
 )
 
--- the first bytes of a file, and one more
-pub short_enough : (bytes : List ℕ) (all : Option (List ℕ)) → Some bytes ≡ option_map (take 1048577) all → length bytes ≤ 1048576 → all ≡ Some bytes
-short_enough bytes None is few = cc
-short_enough bytes (Some all) is few =
-    let e : bytes ≡ take 1048577 all = cc in
-    let cut : length (take 1048577 all) ≡ min 1048577 (length all) = length-take 1048577 all in
-    let same : length bytes ≡ length (take 1048577 all) = ap length e in
-    ap Some (sym (e ∙ take_all 1048577 all (omega (arith, cut, same, few))))
+-- the first bytes of a file, and one more, are all of a file that is not too long
+whole : (bytes : List ℕ) → length (take 1048577 bytes) ≤ 1048576 → take 1048577 bytes ≡ bytes
+whole bytes few =
+    let cut : length (take 1048577 bytes) ≡ min 1048577 (length bytes) = length-take 1048577 bytes in
+    take_all 1048577 bytes (omega (arith, cut, few))
 
-pub too_long : (bytes : List ℕ) (all : Option (List ℕ)) → Some bytes ≡ option_map (take 1048577) all → 1048576 < length bytes → IsTooLong all
-too_long bytes None is many = cc
-too_long bytes (Some all) is many =
-    let e : bytes ≡ take 1048577 all = cc in
-    let cut : length (take 1048577 all) ≡ min 1048577 (length all) = length-take 1048577 all in
-    let same : length bytes ≡ length (take 1048577 all) = ap length e in
-    omega (arith, cut, same, many)
-
-pub no_bytes : (all : Option (List ℕ)) → None ≡ option_map (take 1048577) all → IsUnreadable all
-no_bytes None is = tt
-no_bytes (Some all) is = cc
-
--- what is told of a file that cannot be read
-pub unread : (path : List ℕ) (bytes : Option (List ℕ)) (fault : FolderFault) → IsUnreadable bytes → IsUnread path fault → IsFileFault path bytes fault
-unread path bytes CannotList h is = is
-unread path bytes (CannotRead told) h is = (h, is)
-unread path bytes (TooLong told) h is = absurd is
-unread path bytes TooManyFiles h is = is
-unread path bytes Memory h is = tt
-
--- what is told of bytes that are or are no text
-pub told_of_bytes : (path bytes : List ℕ) (all : Option (List ℕ)) (r : Result (String Global) FolderFault) → all ≡ Some bytes → length bytes ≤ 1048576
-    → MatchResult r (λ text. (string_bytes text ≡ bytes) × IsUtf8 bytes) (λ fault. ¬ (IsUtf8 bytes) × IsUnread path fault)
-    → MatchResult r (λ text. (all ≡ Some (string_bytes text)) × IsReadable all) (IsFileFault path all)
-told_of_bytes path bytes all (Ok text) is few told = (is ∙ ap Some (sym told.0), subst IsReadable (sym is) (few, told.1))
-told_of_bytes path bytes all (Err fault) is few told = unread path all fault (subst IsUnreadable (sym is) (few, told.0)) told.1
+-- so they say what all say
+pub told_of_first : (path : List ℕ) (bytes : Option (List ℕ)) (r : Result (String Global) FolderFault) → IsTextOf path (option_map (take 1048577) bytes) r → IsTextOf path bytes r
+told_of_first path None r is = is
+told_of_first path (Some bytes) (Ok text) is = subst (λ some. IsTextOf path (Some some) (Ok text)) (whole bytes is.1.0) is
+told_of_first path (Some bytes) (Err CannotList) is = absurd is
+told_of_first path (Some bytes) (Err (CannotRead told)) is = subst (λ some. IsFileFault path (Some some) (CannotRead told)) (whole bytes is.0.0) is
+told_of_first path (Some bytes) (Err (TooLong told)) is =
+    let cut : length (take 1048577 bytes) ≡ min 1048577 (length bytes) = length-take 1048577 bytes in
+    (omega (arith, cut, is.0), is.1)
+told_of_first path (Some bytes) (Err TooManyFiles) is = absurd is
+told_of_first path (Some bytes) (Err Memory) is = tt

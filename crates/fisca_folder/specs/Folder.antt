@@ -1,5 +1,6 @@
 -- Which files of a folder are the rule set's, in which order, how deep and how many, and what is refused.
-use Rattle.std.specs.Prelude.{◌≡◌, ℕ, zero, suc, ◌+◌, ◌<◌, ◌≤◌, ◌^◌, ◌++◌, ◌∷◌, [], List, length, map, take, All, IsSorted, IsPermutation, Bool, true, false, not, ◌||◌, if◌then◌else◌, codes, Option, Some, None, is_some, unwrap_or, ⊤, string_bytes}
+use Rattle.std.specs.Prelude.{◌≡◌, ℕ, zero, suc, ◌+◌, ◌<◌, ◌≤◌, ◌^◌, ◌++◌, ◌∷◌, [], List, length, map, take, All, IsSorted, IsPermutation, Bool, true, false, not, ◌||◌, if◌then◌else◌, codes, Option, Some, None, is_some, unwrap_or, Result, Ok, Err, ⊤, String, string_bytes}
+use Rattle.std.specs.declared.alloc.Global.{Global}
 use Rattle.std.specs.List.{filter, fold, list_any}
 use Rattle.std.specs.Str.{IsUtf8, bytes_eq}
 use Rattle.std.specs.Cmp.Lexicographic.{slice_cmp}
@@ -121,6 +122,11 @@ IsFileFault path bytes (CannotRead told) = IsUnreadable bytes × (string_bytes t
 IsFileFault path bytes (TooLong told) = IsTooLong bytes × (string_bytes told ≡ path)
 IsFileFault path bytes TooManyFiles = ⊥
 IsFileFault path bytes Memory = ⊤
+
+-- what is answered of a file with these bytes at this path: its text, or why it is refused
+abbrev pub IsTextOf : List ℕ → Option (List ℕ) → Result (String Global) FolderFault → Type 0
+IsTextOf path bytes (Ok text) = (bytes ≡ Some (string_bytes text)) × IsReadable bytes
+IsTextOf path bytes (Err fault) = IsFileFault path bytes fault
 
 abbrev pub path_of : Source → List ℕ
 path_of file = file.path

@@ -23,3 +23,11 @@ IsUnread path (CannotRead told) = string_bytes told ≡ path
 IsUnread path (TooLong told) = ⊥
 IsUnread path TooManyFiles = ⊥
 IsUnread path Memory = ⊤
+
+-- told is that the file at this path is too long, or that memory was refused
+abbrev pub IsOverlong : List ℕ → FolderFault → Type 0
+IsOverlong path CannotList = ⊥
+IsOverlong path (CannotRead told) = ⊥
+IsOverlong path (TooLong told) = string_bytes told ≡ path
+IsOverlong path TooManyFiles = ⊥
+IsOverlong path Memory = ⊤

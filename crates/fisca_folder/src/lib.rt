@@ -8,6 +8,6 @@ mod rule_paths;
 mod shown;
 
 pub use folder::{FolderEntry, FolderFault, RuleFolder};
-pub use reading::read_rules;
+pub use reading::{LONGEST, read_rules, text_of_file};
 pub use rule_paths::{is_module, is_rule_path};
 pub use shown::write_shown;

@@ -1,9 +1,9 @@
 //! The rule files of a folder, read.
 
-ghost use Rattle.std.specs.Prelude.{◌≡◌, ◌≤◌, ◌^◌, Some, length, take, map, string_bytes, All, IfOk, MatchResult};
+ghost use Rattle.std.specs.Prelude.{◌≡◌, ◌≤◌, ◌^◌, length, take, map, option_map, string_bytes, All, IfOk, MatchResult};
 ghost use Rattle.std.specs.Str.{IsUtf8};
-ghost use Rattle.fisca_folder.specs.Folder.{Folder, AreFilesOf, AreRead, AreRuleFiles, IsFileFault, IsFirstFault, IsReadable, IsRefused, path_of};
-ghost use Rattle.fisca_folder.specs.FolderSteps.{IsUnread};
+ghost use Rattle.fisca_folder.specs.Folder.{Folder, AreFilesOf, AreRead, AreRuleFiles, IsFileFault, IsFirstFault, IsRefused, IsTextOf, path_of};
+ghost use Rattle.fisca_folder.specs.FolderSteps.{IsOverlong, IsUnread};
 
 use super::folder::{FolderFault, RuleFolder};
 use super::listing::list_rules;
@@ -11,7 +11,7 @@ use fisca_params::SourceFile;
 use std::alloc::Global;
 
 /// A file may have so many bytes.
-const LONGEST: u64 = 1 << 20;
+pub const LONGEST: u64 = 1 << 20;
 
 /// Of so many files the texts are kept. A rule set with more is refused whatever their texts are.
 const KEPT: usize = 1_001;
@@ -54,20 +54,36 @@ fn read_files<F: RuleFolder>(
     Ok(files)
 }
 
-/// The text of a file of at most 1 MiB. Its length is judged before its encoding.
+/// The text of a file of at most 1 MiB.
 fn read_text<F: RuleFolder>(alloc: Global, folder: &F, path: &str) -> Result<String, FolderFault>
-    ensures answer { (known : Folder) → F.says folder.now known → MatchResult result (λ text. (known.bytes path.now ≡ Some (string_bytes text)) × IsReadable (known.bytes path.now)) (IsFileFault path.now (known.bytes path.now)) }
+    ensures answer { (known : Folder) → F.says folder.now known → IsTextOf path.now (known.bytes path.now) result }
     ensures short { IfOk result (λ text. length (string_bytes text) ≤ LONGEST) }
 {
-    let bytes = match folder.bytes(path, LONGEST + 1)? {
-        Some(bytes) => bytes,
-        None => return Err(cannot_read(alloc, path)),
-    };
-    if bytes.len() as u64 > LONGEST {
-        let path = String::from_str(alloc, path)?;
-        return Err(FolderFault::TooLong { path });
+    let bytes = folder.bytes(path, LONGEST + 1)?;
+    text_of_file(alloc, path, bytes)
+}
+
+/// The text of a file at a path, of whose bytes all were read, or [`LONGEST`] and some more; `None` where it cannot be read. Its length is
+/// judged before its encoding:
+///
+/// - `CannotRead` where it cannot be read or is not UTF-8.
+/// - `TooLong` where it has more than 1 MiB.
+/// - `Memory` only where memory was refused.
+///
+/// This project's own rule.
+pub fn text_of_file(
+    alloc: Global,
+    path: &str,
+    bytes: Option<Vec<u8>>,
+) -> Result<String, FolderFault>
+    ensures answer { IsTextOf path.now (option_map (λ found. found.items) bytes) result }
+    ensures short { IfOk result (λ text. length (string_bytes text) ≤ LONGEST) }
+{
+    match bytes {
+        None => Err(cannot_read(alloc, path)),
+        Some(bytes) if bytes.len() as u64 > LONGEST => Err(too_long(alloc, path)),
+        Some(bytes) => text_of(alloc, path, bytes),
     }
-    text_of(alloc, path, bytes)
 }
 
 /// The text of these bytes of the file at a path.
@@ -86,6 +102,16 @@ fn cannot_read(alloc: Global, path: &str) -> FolderFault
 {
     match String::from_str(alloc, path) {
         Ok(path) => FolderFault::CannotRead { path },
+        Err(_) => FolderFault::Memory,
+    }
+}
+
+/// That a file is too long.
+fn too_long(alloc: Global, path: &str) -> FolderFault
+    ensures { IsOverlong path.now result }
+{
+    match String::from_str(alloc, path) {
+        Ok(path) => FolderFault::TooLong { path },
         Err(_) => FolderFault::Memory,
     }
 }

@@ -51,8 +51,8 @@ fn situation_at(
     }
 }
 
-/// The period of the file.
-fn default_in(tree: &Tree<'_>) -> Option<Period>
+/// The period of the file, which values, columns and axes without one have.
+pub fn default_in(tree: &Tree<'_>) -> Option<Period>
     ensures { result ≡ spec.default_in (node tree.now) }
 {
     let found = tree.get("period")?;
@@ -74,8 +74,9 @@ fn situation_in(
     }
 }
 
-/// The columns of the file.
-fn columns_in(
+/// The keys that the columns of the file name; none where it has no columns. `BadColumn` of the first column that `read_column` refuses, at its
+/// line. `Memory`, at line 0, comes only where a growth was refused. This project's own rule.
+pub fn columns_in(
     alloc: Global,
     tables: &Tables<'_>,
     situation: &Situation,

@@ -3,6 +3,7 @@
 ghost use Rattle.std.specs.Prelude.{◌≡◌};
 ghost use Rattle.fisca_calc.specs.Faults.{name_of, number_of};
 
+use fisca_grid::AxesFault;
 use fisca_inputs::SituationKind;
 use std::alloc::{AllocError, AllocFailed};
 use thiserror::Error;
@@ -15,34 +16,46 @@ pub enum RunFileKind {
     BadKey,
     /// 2: the input is no situation.
     Situation(SituationKind),
+    /// 3: the axes make no grid, or do not fit the situation.
+    Axes(AxesFault),
     /// 4: a column can't be read, or names nothing that can be asked for.
     BadColumn,
+    /// 5: a condition can't be read, speaks of nothing that can be asked for, or has a constant of another type.
+    BadCondition,
     /// 6: a growth was refused.
     Memory,
+    /// 7: what is to be neutralised is no variable that has values.
+    BadNeutral,
 }
 
 impl RunFileKind {
-    /// The number of the kind: 1, 2, 4 or 6.
+    /// The number of the kind, from 1 to 7.
     pub fn number(self) -> u8
         ensures { result ≡ number_of self }
     {
         match self {
             RunFileKind::BadKey => 1,
             RunFileKind::Situation(_) => 2,
+            RunFileKind::Axes(_) => 3,
             RunFileKind::BadColumn => 4,
+            RunFileKind::BadCondition => 5,
             RunFileKind::Memory => 6,
+            RunFileKind::BadNeutral => 7,
         }
     }
 
-    /// The plain name of the kind, as `BadKey`: of a situation that of its own fault, as `UnknownPerson`.
+    /// The plain name of the kind, as `BadKey`: of a situation or of axes that of their own fault, as `UnknownPerson`.
     pub fn name(self) -> &'static str
         ensures { result.now ≡ name_of self }
     {
         match self {
             RunFileKind::BadKey => "BadKey",
             RunFileKind::Situation(kind) => kind.name(),
+            RunFileKind::Axes(fault) => fault.name(),
             RunFileKind::BadColumn => "BadColumn",
+            RunFileKind::BadCondition => "BadCondition",
             RunFileKind::Memory => "Memory",
+            RunFileKind::BadNeutral => "BadNeutral",
         }
     }
 }

@@ -9,8 +9,8 @@ use crate::fault::{RunFileFault, RunFileKind};
 use fisca_time::Period;
 use fisca_yaml::{Entry, Item, Tree};
 
-/// The period that a scalar is read as.
-pub(crate) fn period_in(tree: &Tree<'_>) -> Option<Period>
+/// The period that a scalar is read as, if it is one.
+pub fn period_in(tree: &Tree<'_>) -> Option<Period>
     ensures { result ≡ spec.period_in (node tree.now) }
 {
     let text = tree.as_text()?;
@@ -29,8 +29,8 @@ fn are_scalars(items: &[Item<'_>]) -> bool
     true
 }
 
-/// Whether this is one scalar, or a list of them.
-fn are_columns(tree: &Tree<'_>) -> bool
+/// Whether this is one scalar, or a list of scalars.
+pub fn are_columns(tree: &Tree<'_>) -> bool
     ensures { result ≡ spec.are_columns (node tree.now) }
 {
     match tree {

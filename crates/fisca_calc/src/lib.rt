@@ -9,7 +9,8 @@ mod keys;
 mod lines;
 
 pub use answers::Answers;
-pub use calc_file::CalcFile;
+pub use calc_file::{CalcFile, columns_in, default_in};
 pub use columns::Columns;
 pub use fault::{RunFileFault, RunFileKind};
+pub use keys::{are_columns, period_in};
 pub use lines::write_columns;

@@ -57,7 +57,10 @@ unwritten_fault axes.NoAxes = refl
 unwritten_fault axes.CountsDiffer = refl
 unwritten_fault axes.BadCount = refl
 unwritten_fault axes.TooLarge = refl
+unwritten_fault axes.UnknownVariable = refl
+unwritten_fault axes.BadIndex = refl
 unwritten_fault axes.AxisOverlap = refl
+unwritten_fault axes.PeriodMismatch = refl
 unwritten_fault axes.BadBound = refl
 unwritten_fault axes.Memory = refl
 

@@ -34,8 +34,14 @@ pub enum AxesFault {
     BadCount = 3,
     /// 4: there are more than 16 axes, or more than 2^32 positions.
     TooLarge = 4,
-    /// 7: two axes move the same value.
+    /// 5: an axis names no variable, or one that has no numbers.
+    UnknownVariable = 5,
+    /// 6: an axis names no member.
+    BadIndex = 6,
+    /// 7: an axis moves what another axis or an input says.
     AxisOverlap = 7,
+    /// 8: an axis has no period, or one that its variable is given no values for.
+    PeriodMismatch = 8,
     /// 9: a bound's size is above 10^9, or it has more than three decimals.
     BadBound = 9,
     /// 10: memory was refused.
@@ -54,13 +60,16 @@ impl AxesFault {
             AxesFault::CountsDiffer => "CountsDiffer",
             AxesFault::BadCount => "BadCount",
             AxesFault::TooLarge => "TooLarge",
+            AxesFault::UnknownVariable => "UnknownVariable",
+            AxesFault::BadIndex => "BadIndex",
             AxesFault::AxisOverlap => "AxisOverlap",
+            AxesFault::PeriodMismatch => "PeriodMismatch",
             AxesFault::BadBound => "BadBound",
             AxesFault::Memory => "Memory",
         }
     }
 
-    /// The number of the fault: 1 to 4, 7, 9 or 10.
+    /// The number of the fault, from 1 to 10.
     pub fn number(self) -> u8
         ensures { result ≡ number_of_fault self }
     {

@@ -47,7 +47,7 @@ fn after<'a>(beginning: &str, text: &'a str) -> Option<&'a str>
 }
 
 /// The text without its leading spaces.
-fn past_spaces(text: &str) -> &str
+pub fn past_spaces(text: &str) -> &str
     ensures { result.now ≡ past_spaces text.now }
 {
     let mut rest = text;

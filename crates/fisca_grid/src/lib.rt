@@ -13,9 +13,9 @@ mod words;
 
 pub use axes::{AxesFault, AxisSpec, each_step_is_a_number};
 pub use axis_rows::AxisRows;
-pub use condition::{Comparison, Condition, Filter, read_condition};
+pub use condition::{Comparison, Condition, Filter, past_spaces, read_condition};
 pub use cursor::GridCursor;
 pub use grid::Axes;
 pub use law::positions_are_tuples;
 pub use named_axes::{has_twins, own_groups, read_axes, read_filter};
-pub use words::read_axis;
+pub use words::{around_first, read_axis};

@@ -27,8 +27,8 @@ fn are_word_bytes(bytes: &[u8]) -> bool
         .all(|b| b.is_ascii_alphanumeric() || *b == b'_')
 }
 
-/// What stands before and behind the first place of the mark.
-fn around_first<'a>(text: &'a str, mark: &str) -> Option<(&'a str, &'a str)>
+/// What stands before and behind the first place of the mark, where it stands in the text.
+pub fn around_first<'a>(text: &'a str, mark: &str) -> Option<(&'a str, &'a str)>
     requires { 0 < length mark.now }
     ensures { MatchOption result (around_first mark.now text.now ≡ None) (λ parts. around_first mark.now text.now ≡ Some (parts.0.now, parts.1.now)) }
 {

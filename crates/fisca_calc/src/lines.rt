@@ -32,9 +32,9 @@ impl Names for Brand {
 
 /// Columns as rows: each has a line.
 #[derive(Drop)]
-struct ColumnRows<'a, A: Answers + Drop, N: Names> {
+struct ColumnRows<'a, 't, A: Answers + Drop, N: Names> {
     alloc: Global,
-    tables: &'a Tables<'a>,
+    tables: &'a Tables<'t>,
     columns: &'a [Key],
     answers: A,
     of: PhantomData<N>,
@@ -58,7 +58,7 @@ fn write_line(
     line.push('\n')
 }
 
-impl<'a, A: Answers + Drop, N: Names> Rows for ColumnRows<'a, A, N> {
+impl<'a, 't, A: Answers + Drop, N: Names> Rows for ColumnRows<'a, 't, A, N> {
     ghost use Rattle.std.specs.Prelude.{length};
     ghost use Rattle.fisca_calc.specs.Lines.{column_row};
     ghost use Rattle.fisca_tables.specs.Known.{tables as known};
@@ -95,9 +95,9 @@ impl<'a, A: Answers + Drop, N: Names> Rows for ColumnRows<'a, A, N> {
 }
 
 /// Writes the lines of columns, where the members are these.
-fn write_rows<'a, A: Answers + Drop, N: Names, S: RowSink>(
+fn write_rows<'a, 't, A: Answers + Drop, N: Names, S: RowSink>(
     alloc: Global,
-    tables: &'a Tables<'a>,
+    tables: &'a Tables<'t>,
     columns: &'a [Key],
     answers: A,
     sink: &mut S,
@@ -109,7 +109,7 @@ fn write_rows<'a, A: Answers + Drop, N: Names, S: RowSink>(
     ensures ready { A.ready result.0 }
     ensures members { A.members result.0 ≡ N.members }
 {
-    let mut rows = ColumnRows::<'a, A, N> {
+    let mut rows = ColumnRows::<'a, 't, A, N> {
         alloc,
         tables,
         columns,
@@ -128,9 +128,9 @@ fn write_rows<'a, A: Answers + Drop, N: Names, S: RowSink>(
 /// - `Memory` only where memory was refused, at the column that is named: the sink has the lines before it.
 ///
 /// This project's own rule.
-pub fn write_columns<'a, A: Answers + Drop, S: RowSink>(
+pub fn write_columns<'a, 't, A: Answers + Drop, S: RowSink>(
     alloc: Global,
-    tables: &'a Tables<'a>,
+    tables: &'a Tables<'t>,
     columns: &'a [Key],
     answers: A,
     sink: &mut S,

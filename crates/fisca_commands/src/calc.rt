@@ -60,9 +60,16 @@ fn tell(
         return Refusal::Memory;
     };
     match key_text(alloc, &rules.tables, situation, &key) {
-        Ok(key) => Refusal::Eval { fault, key },
+        Ok(text) => without_value(fault, text),
         Err(_) => Refusal::Memory,
     }
+}
+
+/// The refusal of a column that has no value, for this fault of the key with this text.
+fn without_value(fault: EvalFault, key: String) -> Refusal
+    ensures { result ≡ Refusal.Eval fault key }
+{
+    Refusal::Eval { fault, key }
 }
 
 /// Writes the lines of the columns that a file asks for under a rule set.

@@ -4,5 +4,7 @@ pub mod Gathering
 pub mod Heights
 pub mod Kept
 pub mod Reading
+pub mod Settled
+pub mod Steps
 pub mod Turned
 pub mod WorkDone

@@ -3,6 +3,7 @@ pub mod Growing
 pub mod Gathering
 pub mod Heights
 pub mod Kept
+pub mod Laws
 pub mod Reading
 pub mod Settled
 pub mod Steps

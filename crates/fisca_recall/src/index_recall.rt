@@ -35,7 +35,19 @@ fn put(entries: &mut IndexMap<Key, Known>, key: Key, known: Known) -> Result<(),
     ensures ok { OnOk result ((k : declared.Key) → lookup (same_key k) entries.new.entries ≡ (if same_key k key then Some known else lookup (same_key k) entries.old.entries)) }
     ensures err { OnErr result (entries.new.entries ≡ entries.old.entries) }
 {
-    entries.insert(key, known)?;
+    let Known {
+        value,
+        height,
+        reads,
+    } = known;
+    entries.insert(
+        key,
+        Known {
+            value,
+            height,
+            reads,
+        },
+    )?;
     Ok(())
 }
 

@@ -1,11 +1,11 @@
 //! A memory in a list.
 
-ghost use Rattle.std.specs.Prelude.{◌≡◌, Some, None, OnOk, OnErr, if◌then◌else◌, position};
+ghost use Rattle.std.specs.Prelude.{◌≡◌, Some, None, OnOk, OnErr, if◌then◌else◌};
 ghost use Rattle.std.specs.Map.{lookup};
 ghost use Rattle.fisca_inputs.specs.Entries.{same_key};
 ghost use Rattle.fisca_inputs.specs.declared.key.Key as declared;
 ghost use Rattle.fisca_meaning.specs.Dialogues as meaning;
-ghost use Rattle.fisca_recall.specs.Found.{found};
+ghost use Rattle.fisca_recall.specs.Found.{found, place_from};
 
 use crate::known::Known;
 use crate::recall::Recall;
@@ -43,7 +43,7 @@ fn look_up(pairs: &[(Key, Known)], key: &Key) -> Option<Known>
 
 /// The place of the first pair of the key.
 fn place_of(pairs: &[(Key, Known)], key: &Key) -> Option<usize>
-    ensures { result ≡ position (λ pair. same_key key.now pair.0) pairs.now }
+    ensures { result ≡ place_from 0 key.now pairs.now }
 {
     for (place, pair) in pairs.iter().enumerate() {
         if *key == pair.0 {
@@ -60,7 +60,7 @@ fn put(pairs: &mut Vec<(Key, Known)>, key: Key, known: Known) -> Result<(), Allo
 {
     match place_of(pairs.as_slice(), &key) {
         Some(place) => {
-            pairs[place].1 = known;
+            pairs[place] = (key, known);
             Ok(())
         }
         None => {

@@ -1,5 +1,5 @@
 -- The height of a key is one more than that of the tallest key that it asks for.
-use Rattle.std.proofs.Common.{◌≡◌, ◌⊎◌, inl, inr, ℕ, zero, suc, ◌<◌, ◌≤◌, Result, Ok, Err, sym, ap, subst, ◌∙◌, arith, ⊎_elim}
+use Rattle.std.proofs.Common.{◌≡◌, ◌⊎◌, inl, inr, ℕ, zero, suc, ◌<◌, ◌≤◌, Result, Ok, Err, sym, arith, ⊎_elim}
 use Rattle.std.proofs.lemmas.Bool.{cases_lt}
 use Rattle.fisca_meaning.specs.Dialogues.{Value, Key}
 use Rattle.fisca_answers.specs.Answers.{Halt, fault, out, Sources, known, refused, outcome, value_within}
@@ -51,13 +51,16 @@ module _ (src : Sources) where
   height_of zero key def = (zero, record { enough = def; least = λ m h. omega arith })
   height_of (suc n) key def = ⊎_elim
       (λ (less : IsDefinite (value_within src n key)). height_of n key less)
-      (λ (undecided : IsDefinite (value_within src n key) → ⊥). (suc n, record {
-        enough = def;
-        least = λ m h. ⊎_elim
-            (λ (lt : n < m). omega (arith, lt))
-            (λ (le : m ≤ n). absurd (undecided (definite_stays src m n le key h)))
-            (cases_lt n m);
-      }))
+      (λ (undecided : IsDefinite (value_within src n key) → ⊥). (
+        suc n,
+        record {
+          enough = def;
+          least = λ m h. ⊎_elim
+              (λ (lt : n < m). omega (arith, lt))
+              (λ (le : m ≤ n). absurd (undecided (definite_stays src m n le key h)))
+              (cases_lt n m);
+        },
+      ))
       (definite_or_not (value_within src n key))
 
   -- What a key asks for is less high.

@@ -1,10 +1,9 @@
 -- Laws of heights, works and reads.
-use Rattle.std.proofs.Common.{◌≡◌, inl, inr, ℕ, zero, suc, ◌<◌, ◌≤◌, List, Ok, Err, refl, sym, ap, subst, ◌∙◌, arith, ⊎_elim}
+use Rattle.std.proofs.Common.{◌≡◌, ℕ, zero, suc, ◌<◌, ◌≤◌, List, Ok, sym, ap, ◌∙◌, arith, ⊎_elim}
 use Rattle.std.specs.Prelude.{◌↔◌}
 use Rattle.fisca_meaning.specs.Dialogues.{Value, Key}
-use Rattle.fisca_answers.specs.Answers.{out, Sources, formula, at_once, value_within}
+use Rattle.fisca_answers.specs.Answers.{Sources, formula, at_once, value_within}
 use Rattle.fisca_answers.specs.Chains.{IsDefinite, IsHeight, AsksFor, PathFrom, asked}
-use Rattle.fisca_answers.specs.Inquiry.{Inquiry}
 use Rattle.fisca_answers.specs.Keys.{In}
 use Rattle.fisca_answers.proofs.Fuel.{within_zero, stays, falls}
 use Rattle.fisca_answers.proofs.Paths.{never_loops}
@@ -12,7 +11,6 @@ use Rattle.fisca_heights.specs.Memory.{HasFormula}
 use Rattle.fisca_heights.specs.Reads.{ReadsAt}
 use Rattle.fisca_heights.specs.Work.{IsWork}
 use Rattle.fisca_heights.proofs.Growing.{value_work}
-use Rattle.fisca_heights.proofs.Heights.{height_falls}
 use Rattle.fisca_heights.proofs.Turned.{reads_same}
 
 module _ (src : Sources) where

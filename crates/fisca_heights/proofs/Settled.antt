@@ -1,9 +1,9 @@
 -- What is answered for a key below others where something is remembered of it, where it stands among them, and where no fuel is left.
-use Rattle.std.proofs.Common.{◌≡◌, ℕ, suc, ◌-◌, ◌<◌, ◌≤◌, List, [], ◌∷◌, ◌++◌, length, Result, Ok, Err, Some, None, true, false, cond, refl, sym, ap, ◌∙◌, arith}
+use Rattle.std.proofs.Common.{◌≡◌, ℕ, suc, ◌-◌, ◌<◌, ◌≤◌, List, [], ◌∷◌, ◌++◌, length, Result, Ok, Err, Some, None, true, false, cond, refl, ap, ◌∙◌, arith}
 use Rattle.fisca_meaning.specs.Dialogues.{Value, Key}
 use Rattle.fisca_answers.specs.Answers.{Halt, fault, out, Sources, known, value_within, first_again, verdict_by}
 use Rattle.fisca_answers.specs.Chains.{IsDefinite, IsHeight}
-use Rattle.fisca_answers.specs.Inquiry.{Fault, fault_at, cycle, too_deep}
+use Rattle.fisca_answers.specs.Inquiry.{fault_at, cycle, too_deep}
 use Rattle.fisca_answers.specs.Keys.{has}
 use Rattle.fisca_answers.specs.Stacks.{first_of, settled_below, left_below, answer_below, IsAskable}
 use Rattle.fisca_answers.proofs.Below.{below_full}

@@ -1,5 +1,5 @@
 -- The formula of the last key of a stack: of its inquiry q, now is left.
-use Rattle.std.proofs.Common.{◌≡◌, ◌⊎◌, inl, inr, ℕ, suc, ◌+◌, ◌-◌, ◌<◌, ◌≤◌, max, List, [], ◌∷◌, ◌++◌, length, append_assoc, Result, Ok, Err, refl, sym, ap, subst, ◌∙◌, arith, ⊎_elim}
+use Rattle.std.proofs.Common.{◌≡◌, ◌⊎◌, inl, inr, ℕ, suc, ◌+◌, ◌<◌, max, List, [], ◌∷◌, ◌++◌, length, append_assoc, Result, Ok, Err, refl, sym, ap, subst, ◌∙◌, arith, ⊎_elim}
 use Rattle.std.proofs.lemmas.List.{append-nil}
 use Rattle.fisca_meaning.specs.Dialogues.{Value, Key}
 use Rattle.fisca_answers.specs.Answers.{Halt, fault, out, Sources, formula, outcome, through, value_within, verdict}

@@ -1,5 +1,5 @@
 -- Counts of formulas that gave values.
-use Rattle.std.specs.Prelude.{◌≡◌, ℕ, ◌+◌, ◌-◌, ◌^◌, ◌==◌, min, if◌then◌else◌}
+use Rattle.std.specs.Prelude.{ℕ, ◌+◌, ◌-◌, ◌^◌, ◌==◌, min, if◌then◌else◌}
 use Rattle.fisca_recall.specs.declared.counts.Counts.{Counts}
 
 -- a count stops at `u64::MAX`

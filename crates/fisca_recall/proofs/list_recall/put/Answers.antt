@@ -1,4 +1,4 @@
-use Rattle.std.proofs.Common.{◌∙◌, sym, ap, ◌++◌, ◌∷◌, [], arith}
+use Rattle.std.proofs.Common.{◌∙◌, sym, ap, arith}
 use Rattle.std.specs.Map.{lookup}
 use Rattle.fisca_inputs.specs.Entries.{same_key}
 use Rattle.fisca_recall.specs.Found.{place_from}

@@ -1,0 +1,11 @@
+pub mod Adding
+pub mod Growing
+pub mod Gathering
+pub mod Heights
+pub mod Kept
+pub mod Laws
+pub mod Reading
+pub mod Settled
+pub mod Steps
+pub mod Turned
+pub mod WorkDone

@@ -1,0 +1,14 @@
+//! What is remembered of a key.
+
+use fisca_inputs::Value;
+
+/// A value of a key, as it is remembered.
+#[derive(Clone, Copy, Debug, PartialEq, Eq)]
+pub struct Known {
+    /// The value.
+    pub value: Value,
+    /// How many keys are asked for below one another at least where it is worked out, its own key among them.
+    pub height: u32,
+    /// The wheels that its work reads, as bits.
+    pub reads: u16,
+}

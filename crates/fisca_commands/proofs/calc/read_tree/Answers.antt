@@ -4,5 +4,5 @@ use Rattle.fisca_commands.proofs.calc.read_tree.Goals as goal
 
 pub returns-in-Err-2-clause-err : goal.returns-in-Err-2-clause-err
 returns-in-Err-2-clause-err c =
-    let known : c.in-Err-2.fault.kind ≢ yaml.Memory = search rules in
-    inr (c.in-Err-2.fault, refl, known, c.in-Err-2.ensures.none known)
+    let known : c.in-Err.fault.kind ≢ yaml.Memory = search rules in
+    inr (c.in-Err.fault, refl, known, c.in-Err.ensures.none known)

@@ -52,15 +52,15 @@ fn tell(
     alloc: Global,
     rules: &RuleSet<'_>,
     situation: &Situation,
-    fault: EvalFault,
+    fault: &EvalFault,
 ) -> Refusal
-    ensures { IsKeyTold rules.now (situation_view situation.now).members fault result }
+    ensures { IsKeyTold rules.now (situation_view situation.now).members fault.now result }
 {
-    let Some(key) = fault.key() else {
+    let Some(key) = (*fault).key() else {
         return Refusal::Memory;
     };
     match key_text(alloc, &rules.tables, situation, &key) {
-        Ok(text) => without_value(fault, text),
+        Ok(text) => without_value(*fault, text),
         Err(_) => Refusal::Memory,
     }
 }
@@ -90,7 +90,7 @@ fn write_values<S: RowSink>(
     match end {
         Ok(_) => Ok(()),
         Err(RunFault::Eval { fault, .. }) => {
-            Err(tell(alloc, rules, evaluator.situation(), fault))
+            Err(tell(alloc, rules, evaluator.situation(), &fault))
         }
         Err(RunFault::Write { .. }) => Err(Refusal::Write),
         Err(RunFault::Memory { .. }) => Err(Refusal::Memory),

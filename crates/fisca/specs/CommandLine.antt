@@ -9,7 +9,7 @@ use Rattle.clap.specs.Simple.{App, new_app, new_rule, on_top, with_rule, with_su
 use Rattle.clap.specs.declared.builder.action.ArgAction.TheVariants.{Append}
 use Rattle.clap.specs.declared.builder.value_parser.ValueParser.TheVariants.{Unsigned}
 use Rattle.fisca_commands.specs.declared.task.Task.{Task}
-use Rattle.fisca_commands.specs.declared.task.Task.TheVariants.{Check, Calc, Axes}
+use Rattle.fisca_commands.specs.declared.task.Task.TheVariants.{Check, Axes}
 
 -- an argument that has to be given
 abbrev pub required_rule : Text → Rule
@@ -35,17 +35,9 @@ axes_app = with_rule (with_rule (with_rule (with_rule (new_app (codes "axes")) a
 abbrev pub check_app : App
 check_app = with_rule (new_app (codes "check")) (required_rule (codes "RULES"))
 
--- RULES FILE
-abbrev pub calc_app : App
-calc_app = with_rule (with_rule (new_app (codes "calc")) (required_rule (codes "RULES"))) (required_rule (codes "FILE"))
-
--- the program without its commands
-abbrev pub top_app : App
-top_app = on_top (λ s. record s { has_version = true; subcommand_required = true; arg_required_else_help = true }) (new_app (codes "fisca"))
-
--- the program: `check`, `calc` or `axes`
+-- the program: `check` or `axes`
 abbrev pub fisca_app : App
-fisca_app = with_subcommand (with_subcommand (with_subcommand top_app check_app.top) calc_app.top) axes_app.top
+fisca_app = with_subcommand (with_subcommand (on_top (λ s. record s { has_version = true; subcommand_required = true; arg_required_else_help = true }) (new_app (codes "fisca"))) check_app.top) axes_app.top
 
 -- what an option with a number gives: nothing where it has no text, else the number that its text says
 abbrev pub IsOptionalNumber : Option Text → Option ℕ → Type 0
@@ -60,23 +52,13 @@ IsAxesTask rows (Axes words keep from limit) =
     × ((number : Option ℕ) × IsOptionalNumber (one_of (codes "from") rows) number × (from ≡ unwrap_or number 0))
     × IsOptionalNumber (one_of (codes "rows") rows) limit
 IsAxesTask rows (Check rules) = ⊥
-IsAxesTask rows (Calc rules file) = ⊥
 
 -- the task that the matches of `check` say
 abbrev pub IsCheckTask : List Row → Task → Type 0
 IsCheckTask rows (Check rules) = rules.now ≡ unwrap_or (first_of (codes "RULES") rows) []
-IsCheckTask rows (Calc rules file) = ⊥
 IsCheckTask rows (Axes words keep from limit) = ⊥
-
--- the task that the matches of `calc` say
-abbrev pub IsCalcTask : List Row → Task → Type 0
-IsCalcTask rows (Check rules) = ⊥
-IsCalcTask rows (Calc rules file) = (rules.now ≡ unwrap_or (first_of (codes "RULES") rows) []) × (file.now ≡ unwrap_or (first_of (codes "FILE") rows) [])
-IsCalcTask rows (Axes words keep from limit) = ⊥
 
 -- the task of the command with this name and these matches
 abbrev pub IsTaskOf : Option (Text × List Row) → Task → Type 0
 IsTaskOf None task = ⊥
-IsTaskOf (Some command) task =
-    ((command.0 ≡ codes "check") × IsCheckTask command.1 task)
-    ⊎ (((command.0 ≡ codes "calc") × IsCalcTask command.1 task) ⊎ ((command.0 ≡ codes "axes") × IsAxesTask command.1 task))
+IsTaskOf (Some command) task = ((command.0 ≡ codes "check") × IsCheckTask command.1 task) ⊎ ((command.0 ≡ codes "axes") × IsAxesTask command.1 task)

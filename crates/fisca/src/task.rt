@@ -7,7 +7,7 @@ ghost use Rattle.clap.specs.Walk.{rows_of, rule_of};
 ghost use Rattle.clap.specs.Simple.{app_of, new_app, subcommand_of};
 ghost use Rattle.clap.specs.Faults.{fault_of};
 ghost use Rattle.clap.specs.Kinds.{FailsBy};
-ghost use Rattle.fisca.specs.CommandLine.{axis_rule, option_rule, number_rule, required_rule, axes_app, calc_app, check_app, fisca_app, top_app, IsAxesTask, IsCalcTask, IsCheckTask, IsTaskOf};
+ghost use Rattle.fisca.specs.CommandLine.{axis_rule, option_rule, number_rule, required_rule, axes_app, check_app, fisca_app, IsAxesTask, IsCheckTask, IsTaskOf};
 
 use clap::{Arg, ArgAction, ArgMatches, Command, Error, value_parser};
 use fisca_commands::Task;
@@ -18,8 +18,7 @@ const ABOUT: &str = "Run OpenFisca rules with exact fractions";
 const STATUSES: &str = "Exit status:
   0  done
   2  the command line is wrong
-  3  a rule file, the file of the command, an axis, the condition or the position is refused
-  4  a value cannot be worked out
+  3  a rule file, an axis, the condition or the position is refused
   5  a file could not be read, or the output could not be written
   6  out of memory
 
@@ -36,27 +35,6 @@ refused is told by one line on standard error: fisca: PATH:LINE: FAULT.";
 
 const CHECK_EXAMPLE: &str = "Example:
   fisca check examples/household";
-
-const CALC_ABOUT: &str = "Work out values";
-
-const CALC_LONG: &str = "Work out values, one line each: the variable, the member, the period and the value, with tabs between them.
-
-It reads the rule files of the folder as 'fisca check' does, and then the file, a map of these keys,
-of which each may be absent:
-
-period   the period that values and columns without one have
-input    what is known of the persons and their groups
-columns  what is worked out: NAME, NAME#INDEX, NAME@PERIOD or NAME#INDEX@PERIOD, one or a list
-
-Values are exact: a number is printed as a decimal where it has one, such as 0.5, and else as a
-fraction, such as 1/3. What is refused is told by one line on standard error, such as
-fisca: PATH:LINE: FAULT, and of a value that cannot be worked out fisca: FAULT KEY, behind the lines
-of those before it.";
-
-const CALC_EXAMPLE: &str = "Example:
-  fisca calc examples/household examples/household.yaml";
-
-const FILE_HELP: &str = "The file that says what is worked out";
 
 const RULES_HELP: &str = "The folder of the rule set: entities.py, variables and parameters";
 
@@ -210,31 +188,10 @@ fn check_command<'a>(alloc: Global) -> Result<Command<'a>, AllocError>
         .arg(rules)
 }
 
-/// The command `calc` with its help, and no arguments yet.
-fn calc_page<'a>(alloc: Global) -> Command<'a>
-    ensures app { app_of result ≡ new_app (codes "calc") }
-    ensures local { (out-Command result).has_globals ≡ false }
-{
-    Command::new(alloc, "calc")
-        .about(CALC_ABOUT)
-        .long_about(CALC_LONG)
-        .after_help(CALC_EXAMPLE)
-}
-
-/// The command `calc`.
-fn calc_command<'a>(alloc: Global) -> Result<Command<'a>, AllocError>
-    ensures app { IfOk result (λ command. app_of command ≡ calc_app) }
+/// The whole command line.
+fn command<'a>(alloc: Global) -> Result<Command<'a>, AllocError>
+    ensures app { IfOk result (λ command. app_of command ≡ fisca_app) }
     ensures local { IfOk result (λ command. (out-Command command).has_globals ≡ false) }
-{
-    let rules = required(alloc, "RULES", RULES_HELP);
-    let file = required(alloc, "FILE", FILE_HELP);
-    calc_page(alloc).arg(rules)?.arg(file)
-}
-
-/// The program with its help, and no commands yet.
-fn program_page<'a>(alloc: Global) -> Command<'a>
-    ensures app { app_of result ≡ top_app }
-    ensures local { (out-Command result).has_globals ≡ false }
 {
     Command::new(alloc, "fisca")
         .about(ABOUT)
@@ -242,20 +199,8 @@ fn program_page<'a>(alloc: Global) -> Command<'a>
         .after_help(STATUSES)
         .subcommand_required(true)
         .arg_required_else_help(true)
-}
-
-/// The whole command line.
-fn command<'a>(alloc: Global) -> Result<Command<'a>, AllocError>
-    ensures app { IfOk result (λ command. app_of command ≡ fisca_app) }
-    ensures local { IfOk result (λ command. (out-Command command).has_globals ≡ false) }
-{
-    let check = check_command(alloc)?;
-    let calc = calc_command(alloc)?;
-    let axes = axes_command(alloc)?;
-    program_page(alloc)
-        .subcommand(check)?
-        .subcommand(calc)?
-        .subcommand(axes)
+        .subcommand(check_command(alloc)?)?
+        .subcommand(axes_command(alloc)?)
 }
 
 /// Copies of texts.
@@ -290,16 +235,6 @@ fn check_task<'a>(matches: &ArgMatches<'a>) -> Task<'a>
     }
 }
 
-/// The task of `calc`.
-fn calc_task<'a>(matches: &ArgMatches<'a>) -> Task<'a>
-    ensures { IsCalcTask (rows_of (found_of matches.now)) result }
-{
-    Task::Calc {
-        rules: matches.get_str("RULES").unwrap_or(""),
-        file: matches.get_str("FILE").unwrap_or(""),
-    }
-}
-
 /// The task that the words ask for, of which the first is the program's own name: what `clap` finds in them by its own
 /// definition of matches, for the options above. An error has the kind of that definition's fault, or memory was refused;
 /// a request for help or for the version is one whose exit code is 0. Which options give which part of the task is this
@@ -311,7 +246,6 @@ pub fn read_task<'a>(alloc: Global, words: &'a [String]) -> Result<Task<'a>, Err
     let matches = command(alloc)?.try_get_matches_from(words)?;
     match matches.subcommand() {
         Some(("check", inner)) => Ok(check_task(inner)),
-        Some(("calc", inner)) => Ok(calc_task(inner)),
         Some(("axes", inner)) => Ok(axes_task(alloc, inner)?),
         Some(_) => unreachable!(),
         None => unreachable!(),

@@ -3,8 +3,7 @@
 use crate::fault::{Fault, push_refusal};
 use crate::words::number;
 use crate::written::Written;
-use crate::words::one;
-use fisca_commands::{Refusal, Task, axes_words, calc_rules, check_rules, run_task};
+use fisca_commands::{Task, axes_words, check_rules, run_task};
 use fisca_lines::{MemorySink, RunEnd};
 use fisca_params::SourceFile;
 use std::alloc::{AllocError, Global};
@@ -18,19 +17,9 @@ pub fn answer(
 ) -> Result<String, Fault> {
     match operation {
         "axes" => axes(alloc, &Asked::new(words)?),
-        "axes_task" => run(alloc, &Asked::new(words)?.task(alloc)?, &[], ""),
-        "calc" => calc(alloc, files, one(words)?),
-        "calc_task" => run(
-            alloc,
-            &Task::Calc {
-                rules: "rules",
-                file: "file.yaml",
-            },
-            files,
-            one(words)?,
-        ),
+        "axes_task" => run(alloc, &Asked::new(words)?.task(alloc)?, &[]),
         "check" => check(alloc, files),
-        "check_task" => run(alloc, &Task::Check { rules: "rules" }, files, ""),
+        "check_task" => run(alloc, &Task::Check { rules: "rules" }, files),
         _ => Err(Fault::Malformed),
     }
 }
@@ -110,41 +99,19 @@ fn axes(alloc: Global, asked: &Asked<'_>) -> Result<String, Fault> {
 fn check(alloc: Global, files: &[SourceFile]) -> Result<String, Fault> {
     let mut sink = MemorySink::new(alloc);
     let answer = check_rules(alloc, files, &mut sink);
-    shown(alloc, &sink, answer, "checked")
-}
-
-/// What is written, and that the columns are worked out or the refusal.
-fn calc(alloc: Global, files: &[SourceFile], text: &str) -> Result<String, Fault> {
-    let mut sink = MemorySink::new(alloc);
-    let answer = calc_rules(alloc, files, text, &mut sink);
-    shown(alloc, &sink, answer, "worked out")
-}
-
-/// What is written, and this word or the refusal.
-fn shown(
-    alloc: Global,
-    sink: &MemorySink,
-    answer: Result<(), Refusal>,
-    done: &str,
-) -> Result<String, Fault> {
     let mut shown = Written::new(alloc);
-    push_sink(&mut shown, sink);
+    push_sink(&mut shown, &sink);
     match answer {
-        Ok(()) => shown.push(done),
+        Ok(()) => shown.push("checked"),
         Err(refusal) => push_refusal(alloc, &mut shown, &refusal),
     }
     Ok(shown.finish()?)
 }
 
 /// What a task prints, its status and the line for standard error.
-fn run(
-    alloc: Global,
-    task: &Task<'_>,
-    files: &[SourceFile],
-    text: &str,
-) -> Result<String, Fault> {
+fn run(alloc: Global, task: &Task<'_>, files: &[SourceFile]) -> Result<String, Fault> {
     let mut sink = MemorySink::new(alloc);
-    let ending = run_task(alloc, task, files, text, &mut sink);
+    let ending = run_task(alloc, task, files, &mut sink);
     let mut shown = Written::new(alloc);
     push_sink(&mut shown, &sink);
     shown.push("status ");

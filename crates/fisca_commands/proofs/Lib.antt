@@ -1,5 +1,5 @@
 mod Parts
 mod FirstModule
 mod Endings
-mod Calculated
+mod Written
 mod Named

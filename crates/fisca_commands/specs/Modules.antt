@@ -1,6 +1,5 @@
 -- The rule set that files make: what their modules declare beside parameters, or the first fault.
-use Rattle.std.specs.Prelude.{◌≡◌, ◌⊎◌, ℕ, String, List, [], ◌∷◌, slice_get, codes, string_bytes, Option, Some, None, Result, Ok, Err, if◌then◌else◌}
-use Rattle.std.specs.declared.alloc.Global.{Global}
+use Rattle.std.specs.Prelude.{◌≡◌, ℕ, List, [], ◌∷◌, slice_get, codes, string_bytes, Option, Some, None, Result, Ok, Err, if◌then◌else◌, ⊤}
 use Rattle.fisca_folder.specs.RulePaths.{is_module}
 use Rattle.fisca_names.specs.declared.fault.BuildFault.{BuildFault}
 use Rattle.fisca_params.specs.Files.{Placed, in_path_order}
@@ -12,7 +11,7 @@ use Rattle.fisca_syntax.specs.Modules.{Statement}
 use Rattle.fisca_syntax.specs.Reading.{module_of}
 use Rattle.fisca_tokens.specs.declared.fault.FormulaFault.{FormulaFault}
 use Rattle.fisca_commands.specs.declared.refusal.Refusal.{Refusal}
-use Rattle.fisca_commands.specs.declared.refusal.Refusal.TheVariants.{Formula, Memory}
+use Rattle.fisca_commands.specs.declared.refusal.Refusal.TheVariants.{Params, Formula, Axes, BadWord, BadCondition, Run, Write, Memory, TooManyFiles}
 
 -- a fault of a file, which is told with its path
 abbrev pub FileFault : Type 0
@@ -54,7 +53,15 @@ rules_by tree files = rules_in tree (modules_in (in_path_order files))
 
 -- a refusal tells this fault, or that memory was refused
 abbrev pub IsFaultOf : FileFault → Refusal → Type 0
-IsFaultOf fault refusal = (refusal ≡ Memory) ⊎ ((path : String Global) × (refusal ≡ Formula path fault.1.line fault.1.kind) × (string_bytes path ≡ fault.0))
+IsFaultOf fault (Formula path line kind) = (string_bytes path ≡ fault.0) × (line ≡ fault.1.line) × (kind ≡ fault.1.kind)
+IsFaultOf fault Memory = ⊤
+IsFaultOf fault (Params path line told) = ⊥
+IsFaultOf fault TooManyFiles = ⊥
+IsFaultOf fault Write = ⊥
+IsFaultOf fault (Axes other) = ⊥
+IsFaultOf fault BadWord = ⊥
+IsFaultOf fault BadCondition = ⊥
+IsFaultOf fault (Run other) = ⊥
 
 -- this fault is told; where there is none, only want of memory
 abbrev pub IsRefusalOf : {X : Type 0} → Result X FileFault → Refusal → Type 0

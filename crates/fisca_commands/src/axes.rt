@@ -4,8 +4,7 @@ ghost use Rattle.std.specs.Prelude.{◌≡◌, ◌≢◌, ℕ, map, option_map, 
 ghost use Rattle.fisca_grid.specs.Grid.{axes_fault, groups_of};
 ghost use Rattle.fisca_grid.specs.NamedAxes.{name_of, specs_of, own_groups};
 ghost use Rattle.fisca_lines.specs.Sink.{CountsFailure};
-ghost use Rattle.fisca_commands.specs.AxesRun.{axes_of_words, axes_within_limits, named_fault, optional_filter, IsAxesAnswer};
-ghost use Rattle.fisca_commands.specs.Refusal.{is_write};
+ghost use Rattle.fisca_commands.specs.AxesRun.{axes_of_words, axes_within_limits, named_fault, optional_filter, IsAxesAnswer, is_write};
 
 use super::refusal::Refusal;
 use fisca_grid::{

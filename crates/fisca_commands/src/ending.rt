@@ -38,14 +38,14 @@ impl Ending {
     }
 
     /// The ending of a command that was refused: the refusal's status and line, or those for want of memory where the line
-    /// finds none. A failed write is told without memory. `path` names the command's own file, if it has one.
-    pub fn refused(alloc: Global, refusal: &Refusal, path: &str) -> Self
-        ensures { IsTold path.now refusal.now result }
+    /// finds none. A failed write is told without memory.
+    pub fn refused(alloc: Global, refusal: &Refusal) -> Self
+        ensures { IsTold refusal.now result }
     {
         if let Refusal::Write | Refusal::Run(RunFault::Write { .. }) = refusal {
             return Ending::told(5, "fisca: write failed");
         }
-        match refusal.line(alloc, path) {
+        match refusal.line(alloc, "") {
             Ok(line) => Ending {
                 status: refusal.status(),
                 told: Some(CowStr::Owned(line)),

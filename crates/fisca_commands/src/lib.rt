@@ -2,17 +2,14 @@
 #![tactic(auto)]
 
 mod axes;
-mod calc;
 mod check;
 mod ending;
 mod last_line;
 mod modules;
 mod refusal;
-mod rule_files;
 mod task;
 
 pub use axes::axes_words;
-pub use calc::calc_rules;
 pub use check::check_rules;
 pub use ending::Ending;
 pub use last_line::write_end;

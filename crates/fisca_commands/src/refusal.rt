@@ -1,16 +1,15 @@
 //! Why a command was refused.
 
-ghost use Rattle.std.specs.Prelude.{◌≡◌, ◌++◌, IfOk, OnOk, string_bytes};
-ghost use Rattle.fisca_commands.specs.Refusal.{number_of, status_of, reason_of, place_in, place_of, key_of, line_of};
+ghost use Rattle.std.specs.Prelude.{◌≡◌, ◌∷◌, ◌++◌, codes, IfOk, OnOk, string_bytes};
+ghost use Rattle.std.specs.Fmt.{decimal};
+ghost use Rattle.fisca_folder.specs.Shown.{shown};
+ghost use Rattle.fisca_commands.specs.Refusal.{number_of, status_of, reason_of, place_of, line_of};
 
-use fisca_calc::RunFileFault;
-use fisca_eval::EvalFault;
 use fisca_folder::write_shown;
 use fisca_grid::AxesFault;
 use fisca_lines::RunFault;
 use fisca_params::ParamFault;
 use fisca_tokens::Kind;
-use fisca_yaml::YamlFault;
 use std::alloc::{AllocError, AllocFailed, Global};
 use std::convert::Infallible;
 use std::fmt::Write;
@@ -32,10 +31,6 @@ pub enum Refusal {
         line: usize,
         kind: Kind,
     },
-    /// 3: the command's own file is not of the YAML that is read: the fault, with its line.
-    Yaml(YamlFault),
-    /// 4: the command's own file is refused: the fault, with its line.
-    RunFile(RunFileFault),
     /// 6: the axes make no grid.
     Axes(AxesFault),
     /// 7: a word describes no axis.
@@ -44,11 +39,6 @@ pub enum Refusal {
     BadCondition,
     /// 9: the run stopped. The rows of axes are never faults.
     Run(RunFault<Infallible>),
-    /// 10: a column has no value: why, and the text of the key that the fault is told of.
-    Eval {
-        fault: EvalFault,
-        key: String,
-    },
     /// 11: the output could not be written, outside a run.
     Write,
     /// 12: memory was refused outside the run.
@@ -79,7 +69,7 @@ impl<T: Drop> From<AllocFailed<T>> for Refusal {
 
 /// Appends a path and a line of its file.
 fn write_path(path: &str, number: usize, line: &mut String) -> Result<(), AllocError>
-    ensures { OnOk result (string_bytes line.new ≡ string_bytes line.old ++ place_in path.now number) }
+    ensures { OnOk result (string_bytes line.new ≡ string_bytes line.old ++ (shown path.now ++ (58 ∷ (decimal number ++ codes ": ")))) }
 {
     write_shown(path, line)?;
     match write!(line, ":{number}: ") {
@@ -96,48 +86,41 @@ impl Refusal {
         match self {
             Refusal::Params { .. } => 1,
             Refusal::Formula { .. } => 2,
-            Refusal::Yaml(_) => 3,
-            Refusal::RunFile(_) => 4,
             Refusal::Axes(_) => 6,
             Refusal::BadWord => 7,
             Refusal::BadCondition => 8,
             Refusal::Run(_) => 9,
-            Refusal::Eval { .. } => 10,
             Refusal::Write => 11,
             Refusal::Memory => 12,
             Refusal::TooManyFiles => 13,
         }
     }
 
-    /// The exit status of the program: 3 where a rule file, the command's own file, a word, the axes, the condition or the position is
-    /// refused, 4 after an evaluation fault, 5 after a failed write, 6 for want of memory.
+    /// The exit status of the program: 3 where a rule file, a word, the axes, the condition or the position is refused, 4 after an
+    /// evaluation fault, 5 after a failed write, 6 for want of memory.
     pub fn status(&self) -> u8
         ensures { result ≡ status_of self.now }
     {
         match self {
             Refusal::Params { .. } | Refusal::Formula { .. } | Refusal::TooManyFiles => 3,
-            Refusal::Yaml(_) | Refusal::RunFile(_) => 3,
             Refusal::Axes(AxesFault::Memory) => 6,
             Refusal::Axes(_) | Refusal::BadWord | Refusal::BadCondition => 3,
             Refusal::Run(RunFault::BadPosition) => 3,
             Refusal::Run(RunFault::Eval { .. }) => 4,
             Refusal::Run(RunFault::Write { .. }) => 5,
             Refusal::Run(RunFault::Memory { .. }) => 6,
-            Refusal::Eval { .. } => 4,
             Refusal::Write => 5,
             Refusal::Memory => 6,
         }
     }
 
-    /// What the line on standard error gives as the reason: the plain name of the innermost fault, but of output and memory.
+    /// What the line on standard error says last: the plain name of the innermost fault, but of output and memory.
     pub fn reason(&self) -> &'static str
         ensures { result.now ≡ reason_of self.now }
     {
         match self {
             Refusal::Params { fault, .. } => fault.name(),
             Refusal::Formula { kind, .. } => kind.name(),
-            Refusal::Yaml(fault) => fault.kind.name(),
-            Refusal::RunFile(fault) => fault.kind.name(),
             Refusal::Axes(AxesFault::Memory) => "out of memory",
             Refusal::Axes(fault) => fault.name(),
             Refusal::BadWord => "BadWord",
@@ -146,68 +129,40 @@ impl Refusal {
             Refusal::Run(RunFault::Eval { fault, .. }) => match *fault {},
             Refusal::Run(RunFault::Write { .. }) => "write failed",
             Refusal::Run(RunFault::Memory { .. }) => "out of memory",
-            Refusal::Eval { fault, .. } => fault.name(),
             Refusal::Write => "write failed",
             Refusal::Memory => "out of memory",
             Refusal::TooManyFiles => "TooManyFiles",
         }
     }
 
-    /// The line on standard error, without its line feed. `path` names the command's own file, of which `Yaml` and `RunFile` tell; other
-    /// refusals do not speak of it. Memory is its only error.
-    pub fn line(&self, alloc: Global, path: &str) -> Result<String, AllocError>
-        ensures { IfOk result (λ line. string_bytes line ≡ line_of path.now self.now) }
+    /// The line on standard error, without its line feed. `path` names the run or test file; no refusal of `axes`
+    /// speaks of one. Memory is its only error.
+    pub fn line(&self, alloc: Global, _path: &str) -> Result<String, AllocError>
+        ensures { IfOk result (λ line. string_bytes line ≡ line_of self.now) }
     {
         let mut line = String::new(alloc);
         line.push_str("fisca: ")?;
-        self.write_place(path, &mut line)?;
+        self.write_place(&mut line)?;
         line.push_str(self.reason())?;
-        self.write_key(&mut line)?;
         Ok(line)
     }
 
-    /// Appends where the fault of a file stands, and nothing for other refusals.
-    fn write_place(&self, path: &str, line: &mut String) -> Result<(), AllocError>
-        ensures { OnOk result (string_bytes line.new ≡ string_bytes line.old ++ place_of path.now self.now) }
+    /// Appends where the fault of a rule file stands, and nothing for other refusals.
+    fn write_place(&self, line: &mut String) -> Result<(), AllocError>
+        ensures { OnOk result (string_bytes line.new ≡ string_bytes line.old ++ place_of self.now) }
     {
         match self {
             Refusal::Params {
-                path: rule_path,
+                path,
                 line: number,
                 ..
             }
             | Refusal::Formula {
-                path: rule_path,
+                path,
                 line: number,
                 ..
-            } => write_path(rule_path.as_str(), *number, line),
-            Refusal::Yaml(fault) => write_path(path, fault.line, line),
-            Refusal::RunFile(fault) => write_path(path, fault.line, line),
+            } => write_path(path.as_str(), *number, line),
             Refusal::Axes(_)
-            | Refusal::BadWord
-            | Refusal::BadCondition
-            | Refusal::Run(_)
-            | Refusal::Eval { .. }
-            | Refusal::Write
-            | Refusal::Memory
-            | Refusal::TooManyFiles => Ok(()),
-        }
-    }
-
-    /// Appends a space and the key that a fault is told of, and nothing for other refusals.
-    fn write_key(&self, line: &mut String) -> Result<(), AllocError>
-        ensures { OnOk result (string_bytes line.new ≡ string_bytes line.old ++ key_of self.now) }
-    {
-        match self {
-            Refusal::Eval { key, .. } => {
-                line.push(' ')?;
-                line.push_str(key.as_str())
-            }
-            Refusal::Params { .. }
-            | Refusal::Formula { .. }
-            | Refusal::Yaml(_)
-            | Refusal::RunFile(_)
-            | Refusal::Axes(_)
             | Refusal::BadWord
             | Refusal::BadCondition
             | Refusal::Run(_)

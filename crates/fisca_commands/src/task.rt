@@ -2,10 +2,9 @@
 
 ghost use Rattle.std.specs.Prelude.{◌≡◌, ◌==◌, ◌&&◌, is_ok, map, option_map, string_bytes};
 ghost use Rattle.fisca_lines.specs.Sink.{CountsFailure};
-ghost use Rattle.fisca_commands.specs.Ending.{IsAnswered, IsAxesEnding, IsCalcEnding, IsCheckEnding, IsRunEnding, IsTaskEnding};
+ghost use Rattle.fisca_commands.specs.Ending.{IsTaskEnding, IsAxesEnding, IsCheckEnding, IsRunEnding};
 
 use super::axes::axes_words;
-use super::calc::calc_rules;
 use super::check::check_rules;
 use super::ending::Ending;
 use super::last_line::write_end;
@@ -21,11 +20,6 @@ pub enum Task<'a> {
     Check {
         rules: &'a str,
     },
-    /// `calc`: work out the columns of a file under the rule files of a folder.
-    Calc {
-        rules: &'a str,
-        file: &'a str,
-    },
     /// `axes`: list the values of axes.
     Axes {
         words: Vec<String>,
@@ -36,11 +30,10 @@ pub enum Task<'a> {
 }
 
 /// Runs a task, and answers how it ended: the exit status, and the line for standard error where the task was refused or
-/// failed. `files` are those of the task's folder, in any order, and none where it names no folder; `text` is that of the file that the task
-/// names, and no one's where it names none. What the task prints goes to the sink.
+/// failed. `files` are those of the task's folder, in any order, and none where it names no folder. What the task prints
+/// goes to the sink.
 ///
 /// - `check`: what [`check_rules`] writes of the files.
-/// - `calc`: what [`calc_rules`] writes of the files and the text. A refusal of the text is told with the path of its file.
 /// - `axes`: the lines of [`axes_words`], and after a run that nothing stopped its last line, as by [`write_end`].
 ///
 /// A refusal ends with its own status and line, and one whose line finds no memory with those for want of memory, but a
@@ -49,15 +42,13 @@ pub fn run_task<S: RowSink>(
     alloc: Global,
     task: &Task<'_>,
     files: &[SourceFile],
-    text: &str,
     sink: &mut S,
 ) -> Ending
-    ensures ending { IsTaskEnding task.now files.now text.now (S.taken sink.old) (S.taken sink.new) result }
+    ensures ending { IsTaskEnding task.now files.now (S.taken sink.old) (S.taken sink.new) result }
     ensures failures { CountsFailure (result.status == 5) (S.failures sink.old) (S.failures sink.new) }
 {
     match task {
         Task::Check { rules: _ } => run_check(alloc, files, sink),
-        Task::Calc { rules: _, file } => run_calc(alloc, files, file, text, sink),
         Task::Axes {
             words,
             keep,
@@ -72,32 +63,9 @@ fn run_check<S: RowSink>(alloc: Global, files: &[SourceFile], sink: &mut S) -> E
     ensures ending { IsCheckEnding files.now (S.taken sink.old) (S.taken sink.new) result }
     ensures failures { CountsFailure (result.status == 5) (S.failures sink.old) (S.failures sink.new) }
 {
-    let answer = check_rules(alloc, files, sink);
-    ending_of(alloc, answer, "")
-}
-
-/// Works out the columns of a file of this path and this text, and answers how that ended.
-fn run_calc<S: RowSink>(
-    alloc: Global,
-    files: &[SourceFile],
-    path: &str,
-    text: &str,
-    sink: &mut S,
-) -> Ending
-    ensures ending { IsCalcEnding files.now path.now text.now (S.taken sink.old) (S.taken sink.new) result }
-    ensures failures { CountsFailure (result.status == 5) (S.failures sink.old) (S.failures sink.new) }
-{
-    let answer = calc_rules(alloc, files, text, sink);
-    ending_of(alloc, answer, path)
-}
-
-/// How a command ends that writes no last line.
-fn ending_of(alloc: Global, answer: Result<(), Refusal>, path: &str) -> Ending
-    ensures { IsAnswered path.now answer result }
-{
-    match answer {
+    match check_rules(alloc, files, sink) {
         Ok(()) => Ending::done(),
-        Err(refusal) => Ending::refused(alloc, &refusal, path),
+        Err(refusal) => Ending::refused(alloc, &refusal),
     }
 }
 
@@ -125,8 +93,8 @@ fn end_run<S: RowSink>(alloc: Global, answer: Result<RunEnd, Refusal>, sink: &mu
     match answer {
         Ok(end) => match write_end(end, sink) {
             Ok(()) => Ending::done(),
-            Err(_) => Ending::refused(alloc, &Refusal::Write, ""),
+            Err(_) => Ending::refused(alloc, &Refusal::Write),
         },
-        Err(refusal) => Ending::refused(alloc, &refusal, ""),
+        Err(refusal) => Ending::refused(alloc, &refusal),
     }
 }

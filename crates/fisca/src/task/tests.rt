@@ -12,8 +12,6 @@ fn a_command_line_without_a_task_has_its_kind(rt: HostRuntime) -> Result<(), All
         ("fisca", missing_command),
         ("fisca chart", ErrorKind::InvalidSubcommand),
         ("fisca axes", ErrorKind::MissingRequiredArgument),
-        ("fisca calc rules", ErrorKind::MissingRequiredArgument),
-        ("fisca calc rules a b", ErrorKind::UnknownArgument),
         ("fisca axes x=0..1/2 --rows", ErrorKind::InvalidValue),
         (
             "fisca axes x=0..1/2 --rows 18446744073709551616",
@@ -59,21 +57,7 @@ fn words_and_options_of_axes_are_read(rt: HostRuntime) -> Result<(), AllocError>
             assert_eq!(rt; from, 5);
             assert_eq!(rt; rows, Some(7));
         }
-        Ok(Task::Check { .. } | Task::Calc { .. }) => assert!(rt; false, "axes are asked for"),
-        Err(error) => assert!(rt; false, "{error}"),
-    }
-    Ok(())
-}
-
-#[test]
-fn the_folder_and_the_file_of_calc_are_read(rt: HostRuntime) -> Result<(), AllocError> {
-    let line = words_of(rt.alloc(), "fisca calc rules file.yaml")?;
-    match read_task(rt.alloc(), line.as_slice()) {
-        Ok(Task::Calc { rules, file }) => {
-            assert_eq!(rt; rules, "rules");
-            assert_eq!(rt; file, "file.yaml");
-        }
-        Ok(Task::Check { .. } | Task::Axes { .. }) => assert!(rt; false, "calc is asked for"),
+        Ok(Task::Check { .. }) => assert!(rt; false, "axes are asked for"),
         Err(error) => assert!(rt; false, "{error}"),
     }
     Ok(())
@@ -101,11 +85,6 @@ fn help_says_what_the_commands_take_and_answer(rt: HostRuntime) -> Result<(), Al
         ("fisca check --help", RULES_HELP),
         ("fisca check --help", CHECK_EXAMPLE),
         ("fisca help check", CHECK_LONG),
-        ("fisca --help", CALC_ABOUT),
-        ("fisca calc --help", "Usage: fisca calc <RULES> <FILE>"),
-        ("fisca calc --help", CALC_LONG),
-        ("fisca calc --help", FILE_HELP),
-        ("fisca calc --help", CALC_EXAMPLE),
         ("fisca axes --help", "Usage: fisca axes [OPTIONS] <AXIS>..."),
         ("fisca axes --help", AXES_LONG),
         ("fisca axes --help", AXES_EXAMPLES),

@@ -22,6 +22,17 @@ pub struct AxisSpec {
     pub max: Fraction,
 }
 
+impl AxisSpec {
+    ghost use Rattle.fisca_grid.specs.Axes.{axis_fault};
+
+    /// What is wrong with the axis: `BadCount`, or else `BadBound`, if anything is.
+    pub fn fault(self) -> Option<AxesFault>
+        ensures { result ≡ axis_fault self }
+    {
+        Axis::new(self).err()
+    }
+}
+
 /// Why axes make no grid. This project's own limits.
 #[derive(Clone, Copy, Debug, PartialEq, Eq, Error)]
 #[error("{}", self.name())]

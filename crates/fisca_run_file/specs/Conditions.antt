@@ -1,8 +1,6 @@
 -- The conditions of a filter: a column, one of `>=`, `<=`, `==`, `!=`, `>`, `<`, and a constant.
-use Rattle.std.specs.Prelude.{ℕ, List, [], ◌∷◌, ◌++◌, Bool, true, false, ◌==◌, ◌&&◌, not, if◌then◌else◌, Option, Some, None, option_map, option_and_then, Result, Ok, codes}
-use Rattle.std.specs.List.{list_all}
+use Rattle.std.specs.Prelude.{ℕ, List, [], ◌∷◌, ◌++◌, Bool, true, false, reverse, if◌then◌else◌, Option, Some, None, option_map, option_and_then, Result, Ok, codes}
 use Rattle.std.specs.Option.{option_or, unwrap_or}
-use Rattle.std.specs.Result.{result_ok}
 use Rattle.std.specs.Str.{bytes_eq}
 use Rattle.fisca_calc.specs.Calc.{default_in}
 use Rattle.fisca_calc.specs.Faults.{fault_at}
@@ -31,13 +29,9 @@ use Rattle.fisca_run_file.specs.declared.condition.Condition.{Condition}
 
 -- Parts of a text
 
-abbrev pub is_space : ℕ → Bool
-is_space b = b == 32
-
--- the text without its last spaces
+-- the text without its last spaces, which lead it when it is read backwards
 abbrev pub before_spaces : List ℕ → List ℕ
-before_spaces [] = []
-before_spaces (b ∷ bs) = if list_all is_space (b ∷ bs) then [] else b ∷ before_spaces bs
+before_spaces text = reverse (past_spaces (reverse text))
 
 -- the first of these signs that stands in a text, and what stands before and behind it
 abbrev pub around_sign : List (Comparison × List ℕ) → List ℕ → Option (Comparison × (List ℕ × List ℕ))

@@ -69,7 +69,7 @@ moved_by c ms default a = moved_of ms default a (variable_moved c a.name)
 -- the inputs so far and those of more axes
 abbrev pub with_moved : Tables → List EntityMembers → Option Span → List Given → List SaidAxis → Result (List Given) RunFileFault
 with_moved c ms default gs [] = Ok gs
-with_moved c ms default gs (a ∷ as) = and_then (moved_by c ms default a) (λ g. with_moved c ms default (gs ++ g ∷ []) as)
+with_moved c ms default gs (a ∷ rest) = and_then (moved_by c ms default a) (λ g. with_moved c ms default (gs ++ g ∷ []) rest)
 
 -- Overlaps
 

@@ -1,16 +1,17 @@
 -- Periods that share a day, and inputs whose periods do.
-use Rattle.std.specs.Prelude.{ℕ, max, min, List, Bool, ◌==◌, ◌&&◌, ◌||◌, not, nat_lt, if◌then◌else◌}
+use Rattle.std.specs.Prelude.{ℕ, List, Bool, ◌==◌, ◌&&◌, ◌||◌, not, nat_lt}
 use Rattle.std.specs.List.{list_any}
 use Rattle.std.specs.Ordering.{eq_by_cmp}
 use Rattle.fisca_inputs.specs.declared.given.Given.{Given}
 use Rattle.fisca_time.specs.Period.{Span, is_eternal, start_day, stop_day, span_cmp}
 
--- the later of the first days comes before the earlier of the ends; each day lies in eternity
+-- the one starts before the other ends; eternity has no start and no end
+abbrev pub starts_before : Span → Span → Bool
+starts_before p q = is_eternal p || (is_eternal q || nat_lt (start_day p) (stop_day q))
+
+-- each of the two starts before it ends itself, and before the other does
 abbrev pub shares_day : Span → Span → Bool
-shares_day p q =
-    if is_eternal p then is_eternal q || nat_lt (start_day q) (stop_day q)
-    else (if is_eternal q then nat_lt (start_day p) (stop_day p)
-    else nat_lt (max (start_day p) (start_day q)) (min (stop_day p) (stop_day q)))
+shares_day p q = (starts_before p p && starts_before q q) && (starts_before p q && starts_before q p)
 
 -- a value is given for this variable and member, and for a period that shares a day with this one
 abbrev pub is_across : ℕ → ℕ → Span → Given → Bool

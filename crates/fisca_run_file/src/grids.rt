@@ -63,15 +63,15 @@ fn first_differing(axes: &[SaidAxis<'_>], lengths: &[u32]) -> Option<usize>
     ensures { result ≡ spec.first_differing (groups_of (said_list axes.now) lengths.now) }
 {
     let mut rest = axes;
+    let mut found = None;
     for length in lengths {
         let (group, others) = rest.split_at(*length as usize);
-        let line = differing_line(group);
-        if line.is_some() {
-            return line;
+        if found.is_none() {
+            found = differing_line(group);
         }
         rest = others;
     }
-    None
+    found
 }
 
 /// The line of a fault of the axes.

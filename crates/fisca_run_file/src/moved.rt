@@ -7,7 +7,7 @@ ghost use Rattle.fisca_run_file.specs.Views.{said_axis as said_axis_view, said_l
 ghost use Rattle.fisca_situations.specs.Reading as naming;
 ghost use Rattle.fisca_situations.specs.Views.{situation as situation_view};
 
-use crate::overlaps::{meets, overlaps};
+use crate::across::{meets, overlaps};
 use crate::said_axis::SaidAxis;
 use fisca_calc::{RunFileFault, RunFileKind};
 use fisca_grid::AxesFault;

@@ -66,8 +66,9 @@ fn with_names(
 fn no_marks(alloc: Global, tables: &Tables<'_>) -> Result<Vec<bool>, AllocError>
     ensures { IfOk result (λ v. v.items ≡ spec.no_marks tables.now) }
 {
-    let mut marks = Vec::new(alloc);
-    for _variable in tables.variables.as_slice() {
+    let variables = tables.variables.as_slice();
+    let mut marks = Vec::with_capacity(alloc, variables.len())?;
+    for _variable in variables {
         marks.push(false)?;
     }
     Ok(marks)

@@ -8,11 +8,11 @@ ghost use Rattle.fisca_run_file.specs.Views.{movement as movement_view, run_file
 ghost use Rattle.fisca_situations.specs.Views.{situation as situation_view};
 ghost use Rattle.fisca_yaml.specs.Views.{node};
 
+use crate::across::overlaps;
 use crate::conditions::{Conditions, conditions_in};
 use crate::keys::check_file;
 use crate::moved::MovedInputs;
 use crate::movement::{Movement, movement_in};
-use crate::overlaps::overlaps;
 use crate::setting::{Setting, setting_in};
 use fisca_calc::{Columns, RunFileFault, columns_in};
 use fisca_grid::Axes;

@@ -1,0 +1,341 @@
+-- The definition of run files, worked out on small ones.
+use Rattle.std.proofs.Common.{◌≡◌, ℕ, ◌*◌, List, [], ◌∷◌, codes, pos, refl}
+use Rattle.std.specs.Prelude.{Bool, true, false, map, Option, Some, None, Result, Ok, Err}
+use Rattle.fisca_calc.specs.declared.fault.RunFileFault.{RunFileFault}
+use Rattle.fisca_calc.specs.declared.fault.RunFileKind.{RunFileKind}
+use Rattle.fisca_calc.specs.declared.fault.RunFileKind.TheVariants as kind
+use Rattle.fisca_grid.specs.declared.axes.AxesFault.TheVariants as axes
+use Rattle.fisca_grid.specs.declared.condition.Comparison.TheVariants as comparison
+use Rattle.fisca_inputs.specs.Entries.{key}
+use Rattle.fisca_inputs.specs.Inputs.{key_given}
+use Rattle.fisca_inputs.specs.declared.fault.SituationKind.TheVariants as situation
+use Rattle.fisca_inputs.specs.declared.given.Value.TheVariants as v
+use Rattle.fisca_inputs.specs.declared.key.Key.{Key}
+use Rattle.fisca_members.specs.Members.{members_in}
+use Rattle.fisca_members.specs.Persons.{with_person}
+use Rattle.fisca_num.specs.Number.{zero_number, whole_number}
+use Rattle.fisca_situations.specs.Reading.{dated_given, entry_given, inputs_given, member_below, named_given, section_by, section_given, value_given, variable_given}
+use Rattle.fisca_situations.specs.Situations.{reading_in, reading_of}
+use Rattle.fisca_tables.specs.declared.choices.Choices.{Choices}
+use Rattle.fisca_tables.specs.declared.entity.Entity.{Entity}
+use Rattle.fisca_tables.specs.declared.role.Role.{Role}
+use Rattle.fisca_tables.specs.declared.tables.Tables.{Tables}
+use Rattle.fisca_tables.specs.declared.variable.DeclaredType.{DeclaredType}
+use Rattle.fisca_tables.specs.declared.variable.DeclaredType.TheVariants as type
+use Rattle.fisca_tables.specs.declared.variable.DefaultValue.TheVariants as default
+use Rattle.fisca_tables.specs.declared.variable.SetInput.{SetInput}
+use Rattle.fisca_tables.specs.declared.variable.SetInput.TheVariants as sharing
+use Rattle.fisca_tables.specs.declared.variable.Variable.{Variable}
+use Rattle.fisca_time.specs.Period.{Span, eternity, months}
+use Rattle.fisca_time.specs.declared.unit.Unit.{Unit}
+use Rattle.fisca_time.specs.declared.unit.Unit.TheVariants as unit
+use Rattle.fisca_yaml.specs.Flow.{flow_value, series}
+use Rattle.fisca_yaml.specs.Grouping.{document, block}
+use Rattle.fisca_yaml.specs.Node.{Node}
+use Rattle.fisca_run_file.specs.RunFiles.{RunFile, asked_of, moved_in as moved_of_axes, movement_at, movement_of, run_file_by, run_file_of, setting_in, setting_of}
+use Rattle.fisca_run_file.specs.SaidAxes.{axis_of, axis_said, spec_said, with_list}
+
+-- Persons in households, and some variables
+
+abbrev child : Role
+child = record { key = codes "child"; plural = Some (codes "children"); label = None; doc = None; max = None; subroles = [] }
+
+abbrev household : Entity
+household = record {
+  constant = codes "Household";
+  key = codes "household";
+  plural = codes "households";
+  label = None;
+  doc = None;
+  is_person = false;
+  roles = child ∷ [];
+}
+
+abbrev person : Entity
+person = record { constant = codes "Person"; key = codes "person"; plural = codes "persons"; label = None; doc = None; is_person = true; roles = [] }
+
+abbrev variable : List ℕ → ℕ → DeclaredType → Unit → Option SetInput → Variable
+variable name entity t u s = record {
+  «module» = 0;
+  line = 1;
+  name = name;
+  entity = entity;
+  value_type = t;
+  definition_period = u;
+  default_value = default.Number zero_number;
+  end = None;
+  set_input = s;
+  label = None;
+  documentation = None;
+  unit = None;
+  reference = [];
+  formulas = [];
+}
+
+abbrev country : Tables
+country = record {
+  entities = household ∷ person ∷ [];
+  enums = [];
+  variables =
+      variable (codes "salary") 1 type.Float unit.Month (Some sharing.DivideByPeriod)
+      ∷ variable (codes "rent") 0 type.Float unit.Month None
+      ∷ variable (codes "age") 1 type.Int unit.Month None
+      ∷ variable (codes "height") 1 type.Float unit.Eternity None
+      ∷ variable (codes "owns") 1 type.Bool unit.Month None
+      ∷ variable (codes "born") 1 type.Date unit.Eternity None
+      ∷ [];
+  parameters = [];
+}
+
+-- what is looked at of a run file: how many values the axes of each group have, what they move, and what columns and conditions speak of
+record Said : Type 0 where
+  counts : List (List ℕ)
+  moved : List Key
+  columns : List Key
+  conditions : List Key
+  neutral : List Bool
+
+abbrev said : RunFile → Said
+said f = record {
+  counts = map (map (λ x. x.count)) f.groups;
+  moved = map key_given f.moved;
+  columns = f.columns;
+  conditions = map (λ x. x.key) f.conditions;
+  neutral = f.neutral;
+}
+
+abbrev said_of : Result RunFile RunFileFault → Result Said RunFileFault
+said_of (Ok f) = Ok (said f)
+said_of (Err f) = Err f
+
+abbrev of_node : Option Node → Option (Result Said RunFileFault)
+of_node None = None
+of_node (Some n) = Some (said_of (run_file_of country n))
+
+-- what a run file says, or its first fault
+abbrev read : List ℕ → Option (Result Said RunFileFault)
+read text = of_node (document text)
+
+abbrev january : Span
+january = months unit.Month (12 * 2017) 1
+
+abbrev year : Span
+year = months unit.Year (12 * 2017) 1
+
+abbrev fault : ℕ → RunFileKind → Option (Result Said RunFileFault)
+fault line k = Some (Err (record { line = line; kind = k }))
+
+abbrev none : List Bool
+none = false ∷ false ∷ false ∷ false ∷ false ∷ false ∷ []
+
+-- Axes in groups
+
+one_axis : read (codes "period: 2017-01\naxes: [[{name: salary, count: 3, min: 0, max: 100}]]") ≡ Some (Ok (record { counts = (3 ∷ []) ∷ []; moved = key 0 0 january ∷ []; columns = []; conditions = []; neutral = none }))
+unfolding document block flow_value series with_person value_given dated_given variable_given named_given entry_given member_below section_by section_given members_in inputs_given reading_in reading_of asked_of moved_of_axes movement_at movement_of run_file_by run_file_of setting_in setting_of axis_of axis_said spec_said with_list
+one_axis = refl
+
+groups : read (codes "period: 2017-01\naxes: [[{name: salary, count: 3, min: 0, max: 100}, {name: rent, count: 3, min: 10, max: 30}], [{name: age, count: 2, min: 20, max: 40}]]") ≡ Some (Ok (record { counts = (3 ∷ 3 ∷ []) ∷ (2 ∷ []) ∷ []; moved = key 0 0 january ∷ key 1 0 january ∷ key 2 0 january ∷ []; columns = []; conditions = []; neutral = none }))
+unfolding document block flow_value series with_person value_given dated_given variable_given named_given entry_given member_below section_by section_given members_in inputs_given reading_in reading_of asked_of moved_of_axes movement_at movement_of run_file_by run_file_of setting_in setting_of axis_of axis_said spec_said with_list
+groups = refl
+
+axis_over_a_year : read (codes "axes: [[{name: salary, count: 3.0, min: -5, max: 0.125, period: 2017, index: 0}]]") ≡ Some (Ok (record { counts = (3 ∷ []) ∷ []; moved = key 0 0 year ∷ []; columns = []; conditions = []; neutral = none }))
+unfolding document block flow_value series with_person value_given dated_given variable_given named_given entry_given member_below section_by section_given members_in inputs_given reading_in reading_of asked_of moved_of_axes movement_at movement_of run_file_by run_file_of setting_in setting_of axis_of axis_said spec_said with_list
+axis_over_a_year = refl
+
+axis_for_ever : read (codes "axes: [[{name: height, count: 1, min: 0, max: 0}]]") ≡ Some (Ok (record { counts = (1 ∷ []) ∷ []; moved = key 3 0 eternity ∷ []; columns = []; conditions = []; neutral = none }))
+unfolding document block flow_value series with_person value_given dated_given variable_given named_given entry_given member_below section_by section_given members_in inputs_given reading_in reading_of asked_of moved_of_axes movement_at movement_of run_file_by run_file_of setting_in setting_of axis_of axis_said spec_said with_list
+axis_for_ever = refl
+
+axis_of_the_second_person : read (codes "period: 2017-01\ninput: {persons: {Ann: {}, Bob: {}}}\naxes: [[{name: salary, index: 1, count: 2, min: 0, max: 1}]]") ≡ Some (Ok (record { counts = (2 ∷ []) ∷ []; moved = key 0 1 january ∷ []; columns = []; conditions = []; neutral = none }))
+unfolding document block flow_value series with_person value_given dated_given variable_given named_given entry_given member_below section_by section_given members_in inputs_given reading_in reading_of asked_of moved_of_axes movement_at movement_of run_file_by run_file_of setting_in setting_of axis_of axis_said spec_said with_list
+axis_of_the_second_person = refl
+
+columns_and_a_filter : read (codes "period: 2017-01\naxes: [[{name: salary, count: 3, min: 0, max: 100}]]\ncolumns: [rent, salary]\nfilter: [salary >= 5, owns==true]") ≡ Some (Ok (record { counts = (3 ∷ []) ∷ []; moved = key 0 0 january ∷ []; columns = key 1 0 january ∷ key 0 0 january ∷ []; conditions = key 0 0 january ∷ key 4 0 january ∷ []; neutral = none }))
+unfolding document block flow_value series with_person value_given dated_given variable_given named_given entry_given member_below section_by section_given members_in inputs_given reading_in reading_of asked_of moved_of_axes movement_at movement_of run_file_by run_file_of setting_in setting_of axis_of axis_said spec_said with_list
+columns_and_a_filter = refl
+
+neutralised_twice : read (codes "period: 2017-01\naxes: [[{name: salary, count: 3, min: 0, max: 100}]]\nneutralize: [rent, rent]") ≡ Some (Ok (record { counts = (3 ∷ []) ∷ []; moved = key 0 0 january ∷ []; columns = []; conditions = []; neutral = false ∷ true ∷ false ∷ false ∷ false ∷ false ∷ [] }))
+unfolding document block flow_value series with_person value_given dated_given variable_given named_given entry_given member_below section_by section_given members_in inputs_given reading_in reading_of asked_of moved_of_axes movement_at movement_of run_file_by run_file_of setting_in setting_of axis_of axis_said spec_said with_list
+neutralised_twice = refl
+
+-- Keys, from top to bottom, and a missing one last
+
+nothing : read (codes "") ≡ fault 1 kind.BadKey
+unfolding document block flow_value series with_person value_given dated_given variable_given named_given entry_given member_below section_by section_given members_in inputs_given reading_in reading_of asked_of moved_of_axes movement_at movement_of run_file_by run_file_of setting_in setting_of axis_of axis_said spec_said with_list
+nothing = refl
+
+missing_axes : read (codes "period: 2017-01") ≡ fault 1 kind.BadKey
+unfolding document block flow_value series with_person value_given dated_given variable_given named_given entry_given member_below section_by section_given members_in inputs_given reading_in reading_of asked_of moved_of_axes movement_at movement_of run_file_by run_file_of setting_in setting_of axis_of axis_said spec_said with_list
+missing_axes = refl
+
+unknown_before_missing : read (codes "period: 2017-01\nother: 1") ≡ fault 2 kind.BadKey
+unfolding document block flow_value series with_person value_given dated_given variable_given named_given entry_given member_below section_by section_given members_in inputs_given reading_in reading_of asked_of moved_of_axes movement_at movement_of run_file_by run_file_of setting_in setting_of axis_of axis_said spec_said with_list
+unknown_before_missing = refl
+
+null_axes : read (codes "period: 2017-01\naxes:") ≡ fault 2 kind.BadKey
+unfolding document block flow_value series with_person value_given dated_given variable_given named_given entry_given member_below section_by section_given members_in inputs_given reading_in reading_of asked_of moved_of_axes movement_at movement_of run_file_by run_file_of setting_in setting_of axis_of axis_said spec_said with_list
+null_axes = refl
+
+axes_without_groups : read (codes "period: 2017-01\naxes: [{name: salary, count: 3, min: 0, max: 100}]") ≡ fault 2 kind.BadKey
+unfolding document block flow_value series with_person value_given dated_given variable_given named_given entry_given member_below section_by section_given members_in inputs_given reading_in reading_of asked_of moved_of_axes movement_at movement_of run_file_by run_file_of setting_in setting_of axis_of axis_said spec_said with_list
+axes_without_groups = refl
+
+group_of_scalars : read (codes "period: 2017-01\naxes:\n- - salary") ≡ fault 2 kind.BadKey
+unfolding document block flow_value series with_person value_given dated_given variable_given named_given entry_given member_below section_by section_given members_in inputs_given reading_in reading_of asked_of moved_of_axes movement_at movement_of run_file_by run_file_of setting_in setting_of axis_of axis_said spec_said with_list
+group_of_scalars = refl
+
+unknown_key_of_an_axis : read (codes "axes:\n- - name: salary\n    step: 3") ≡ fault 3 kind.BadKey
+unfolding document block flow_value series with_person value_given dated_given variable_given named_given entry_given member_below section_by section_given members_in inputs_given reading_in reading_of asked_of moved_of_axes movement_at movement_of run_file_by run_file_of setting_in setting_of axis_of axis_said spec_said with_list
+unknown_key_of_an_axis = refl
+
+count_below_zero : read (codes "axes:\n- - name: salary\n    count: -1") ≡ fault 3 kind.BadKey
+unfolding document block flow_value series with_person value_given dated_given variable_given named_given entry_given member_below section_by section_given members_in inputs_given reading_in reading_of asked_of moved_of_axes movement_at movement_of run_file_by run_file_of setting_in setting_of axis_of axis_said spec_said with_list
+count_below_zero = refl
+
+half_an_index : read (codes "axes:\n- - name: salary\n    index: 0.5") ≡ fault 3 kind.BadKey
+unfolding document block flow_value series with_person value_given dated_given variable_given named_given entry_given member_below section_by section_given members_in inputs_given reading_in reading_of asked_of moved_of_axes movement_at movement_of run_file_by run_file_of setting_in setting_of axis_of axis_said spec_said with_list
+half_an_index = refl
+
+bound_in_quotes : read (codes "axes:\n- - name: salary\n    min: '0'") ≡ fault 3 kind.BadKey
+unfolding document block flow_value series with_person value_given dated_given variable_given named_given entry_given member_below section_by section_given members_in inputs_given reading_in reading_of asked_of moved_of_axes movement_at movement_of run_file_by run_file_of setting_in setting_of axis_of axis_said spec_said with_list
+bound_in_quotes = refl
+
+unreadable_period_of_an_axis : read (codes "axes:\n- - name: salary\n    period: soon") ≡ fault 3 kind.BadKey
+unfolding document block flow_value series with_person value_given dated_given variable_given named_given entry_given member_below section_by section_given members_in inputs_given reading_in reading_of asked_of moved_of_axes movement_at movement_of run_file_by run_file_of setting_in setting_of axis_of axis_said spec_said with_list
+unreadable_period_of_an_axis = refl
+
+missing_count : read (codes "period: 2017-01\naxes:\n- - name: salary\n    min: 0\n    max: 1") ≡ fault 1 kind.BadKey
+unfolding document block flow_value series with_person value_given dated_given variable_given named_given entry_given member_below section_by section_given members_in inputs_given reading_in reading_of asked_of moved_of_axes movement_at movement_of run_file_by run_file_of setting_in setting_of axis_of axis_said spec_said with_list
+missing_count = refl
+
+first_of_two_keys : read (codes "axes:\n- - name: [a]\nother: 1") ≡ fault 2 kind.BadKey
+unfolding document block flow_value series with_person value_given dated_given variable_given named_given entry_given member_below section_by section_given members_in inputs_given reading_in reading_of asked_of moved_of_axes movement_at movement_of run_file_by run_file_of setting_in setting_of axis_of axis_said spec_said with_list
+first_of_two_keys = refl
+
+null_filter : read (codes "axes: [[{name: salary, count: 3, min: 0, max: 100}]]\nfilter:") ≡ fault 2 kind.BadKey
+unfolding document block flow_value series with_person value_given dated_given variable_given named_given entry_given member_below section_by section_given members_in inputs_given reading_in reading_of asked_of moved_of_axes movement_at movement_of run_file_by run_file_of setting_in setting_of axis_of axis_said spec_said with_list
+null_filter = refl
+
+map_to_neutralise : read (codes "axes: [[{name: salary, count: 3, min: 0, max: 100}]]\nneutralize: {a: 1}") ≡ fault 2 kind.BadKey
+unfolding document block flow_value series with_person value_given dated_given variable_given named_given entry_given member_below section_by section_given members_in inputs_given reading_in reading_of asked_of moved_of_axes movement_at movement_of run_file_by run_file_of setting_in setting_of axis_of axis_said spec_said with_list
+map_to_neutralise = refl
+
+-- What is neutralised comes before the input, and the input before the axes
+
+unknown_to_neutralise : read (codes "axes: [[{name: salary, count: 3, min: 0, max: 100}]]\ninput: none\nneutralize:\n- rent\n- nope") ≡ fault 5 kind.BadNeutral
+unfolding document block flow_value series with_person value_given dated_given variable_given named_given entry_given member_below section_by section_given members_in inputs_given reading_in reading_of asked_of moved_of_axes movement_at movement_of run_file_by run_file_of setting_in setting_of axis_of axis_said spec_said with_list
+unknown_to_neutralise = refl
+
+day_to_neutralise : read (codes "axes: [[{name: salary, count: 3, min: 0, max: 100}]]\nneutralize: born") ≡ fault 2 kind.BadNeutral
+unfolding document block flow_value series with_person value_given dated_given variable_given named_given entry_given member_below section_by section_given members_in inputs_given reading_in reading_of asked_of moved_of_axes movement_at movement_of run_file_by run_file_of setting_in setting_of axis_of axis_said spec_said with_list
+day_to_neutralise = refl
+
+key_before_neutralised : read (codes "axes: []\nneutralize: nope\nother: 1") ≡ fault 3 kind.BadKey
+unfolding document block flow_value series with_person value_given dated_given variable_given named_given entry_given member_below section_by section_given members_in inputs_given reading_in reading_of asked_of moved_of_axes movement_at movement_of run_file_by run_file_of setting_in setting_of axis_of axis_said spec_said with_list
+key_before_neutralised = refl
+
+input_before_axes : read (codes "axes: []\ninput:\n  foo: 1") ≡ fault 3 (kind.Situation situation.UnknownVariable)
+unfolding document block flow_value series with_person value_given dated_given variable_given named_given entry_given member_below section_by section_given members_in inputs_given reading_in reading_of asked_of moved_of_axes movement_at movement_of run_file_by run_file_of setting_in setting_of axis_of axis_said spec_said with_list
+input_before_axes = refl
+
+-- Axes, by the line of the item, or of all
+
+no_group : read (codes "period: 2017-01\naxes: []") ≡ fault 2 (kind.Axes axes.NoAxes)
+unfolding document block flow_value series with_person value_given dated_given variable_given named_given entry_given member_below section_by section_given members_in inputs_given reading_in reading_of asked_of moved_of_axes movement_at movement_of run_file_by run_file_of setting_in setting_of axis_of axis_said spec_said with_list
+no_group = refl
+
+empty_group : read (codes "period: 2017-01\naxes:\n- [{name: salary, count: 3, min: 0, max: 100}]\n- []") ≡ fault 2 (kind.Axes axes.NoAxes)
+unfolding document block flow_value series with_person value_given dated_given variable_given named_given entry_given member_below section_by section_given members_in inputs_given reading_in reading_of asked_of moved_of_axes movement_at movement_of run_file_by run_file_of setting_in setting_of axis_of axis_said spec_said with_list
+empty_group = refl
+
+no_values : read (codes "axes:\n- [{name: salary, count: 1, min: 0, max: 1}]\n- [{name: nope, count: 0, min: 0, max: 1}]") ≡ fault 3 (kind.Axes axes.BadCount)
+unfolding document block flow_value series with_person value_given dated_given variable_given named_given entry_given member_below section_by section_given members_in inputs_given reading_in reading_of asked_of moved_of_axes movement_at movement_of run_file_by run_file_of setting_in setting_of axis_of axis_said spec_said with_list
+no_values = refl
+
+bound_too_wide : read (codes "axes:\n- - name: salary\n    count: 2\n    min: 0\n    max: 1000000001") ≡ fault 2 (kind.Axes axes.BadBound)
+unfolding document block flow_value series with_person value_given dated_given variable_given named_given entry_given member_below section_by section_given members_in inputs_given reading_in reading_of asked_of moved_of_axes movement_at movement_of run_file_by run_file_of setting_in setting_of axis_of axis_said spec_said with_list
+bound_too_wide = refl
+
+counts_differ : read (codes "axes:\n- - {name: salary, count: 3, min: 0, max: 1}\n  - {name: rent, count: 3, min: 0, max: 1}\n  - {name: age, count: 2, min: 0, max: 1}") ≡ fault 4 (kind.Axes axes.CountsDiffer)
+unfolding document block flow_value series with_person value_given dated_given variable_given named_given entry_given member_below section_by section_given members_in inputs_given reading_in reading_of asked_of moved_of_axes movement_at movement_of run_file_by run_file_of setting_in setting_of axis_of axis_said spec_said with_list
+counts_differ = refl
+
+grid_too_large : read (codes "axes:\n- [{name: salary, count: 1048576, min: 0, max: 1}]\n- [{name: salary, count: 4097, min: 0, max: 1}]") ≡ fault 1 (kind.Axes axes.TooLarge)
+unfolding document block flow_value series with_person value_given dated_given variable_given named_given entry_given member_below section_by section_given members_in inputs_given reading_in reading_of asked_of moved_of_axes movement_at movement_of run_file_by run_file_of setting_in setting_of axis_of axis_said spec_said with_list
+grid_too_large = refl
+
+no_such_member_before_the_next_axis : read (codes "period: 2017-01\naxes:\n- - {name: salary, index: 7, count: 3, min: 0, max: 1}\n- - {name: owns, count: 3, min: 0, max: 1}") ≡ fault 3 (kind.Axes axes.BadIndex)
+unfolding document block flow_value series with_person value_given dated_given variable_given named_given entry_given member_below section_by section_given members_in inputs_given reading_in reading_of asked_of moved_of_axes movement_at movement_of run_file_by run_file_of setting_in setting_of axis_of axis_said spec_said with_list
+no_such_member_before_the_next_axis = refl
+
+variable_without_numbers : read (codes "period: 2017-01\naxes:\n- - {name: salary, count: 3, min: 0, max: 1}\n- - {name: owns, count: 3, min: 0, max: 1}") ≡ fault 4 (kind.Axes axes.UnknownVariable)
+unfolding document block flow_value series with_person value_given dated_given variable_given named_given entry_given member_below section_by section_given members_in inputs_given reading_in reading_of asked_of moved_of_axes movement_at movement_of run_file_by run_file_of setting_in setting_of axis_of axis_said spec_said with_list
+variable_without_numbers = refl
+
+no_period_for_an_axis : read (codes "axes:\n- [{name: salary, count: 3, min: 0, max: 100}]") ≡ fault 2 (kind.Axes axes.PeriodMismatch)
+unfolding document block flow_value series with_person value_given dated_given variable_given named_given entry_given member_below section_by section_given members_in inputs_given reading_in reading_of asked_of moved_of_axes movement_at movement_of run_file_by run_file_of setting_in setting_of axis_of axis_said spec_said with_list
+no_period_for_an_axis = refl
+
+longer_period_without_sharing : read (codes "axes:\n- [{name: rent, count: 3, min: 0, max: 1, period: 2017}]") ≡ fault 2 (kind.Axes axes.PeriodMismatch)
+unfolding document block flow_value series with_person value_given dated_given variable_given named_given entry_given member_below section_by section_given members_in inputs_given reading_in reading_of asked_of moved_of_axes movement_at movement_of run_file_by run_file_of setting_in setting_of axis_of axis_said spec_said with_list
+longer_period_without_sharing = refl
+
+-- Overlaps
+
+axes_of_one_input : read (codes "period: 2017-01\naxes:\n- [{name: salary, count: 3, min: 0, max: 100}]\n- [{name: salary, count: 3, min: 0, max: 100}]") ≡ fault 4 (kind.Axes axes.AxisOverlap)
+unfolding document block flow_value series with_person value_given dated_given variable_given named_given entry_given member_below section_by section_given members_in inputs_given reading_in reading_of asked_of moved_of_axes movement_at movement_of run_file_by run_file_of setting_in setting_of axis_of axis_said spec_said with_list
+axes_of_one_input = refl
+
+axes_for_ever : read (codes "axes:\n- [{name: height, count: 2, min: 0, max: 1}]\n- [{name: height, count: 2, min: 0, max: 1, period: 2017}]") ≡ fault 3 (kind.Axes axes.AxisOverlap)
+unfolding document block flow_value series with_person value_given dated_given variable_given named_given entry_given member_below section_by section_given members_in inputs_given reading_in reading_of asked_of moved_of_axes movement_at movement_of run_file_by run_file_of setting_in setting_of axis_of axis_said spec_said with_list
+axes_for_ever = refl
+
+axis_over_an_input : read (codes "input: {salary: {2017-01: 100}}\naxes:\n- [{name: salary, count: 3, min: 0, max: 100, period: 2017}]") ≡ fault 3 (kind.Axes axes.AxisOverlap)
+unfolding document block flow_value series with_person value_given dated_given variable_given named_given entry_given member_below section_by section_given members_in inputs_given reading_in reading_of asked_of moved_of_axes movement_at movement_of run_file_by run_file_of setting_in setting_of axis_of axis_said spec_said with_list
+axis_over_an_input = refl
+
+axis_in_the_place_of_an_input : read (codes "input: {salary: {2017: 100}}\naxes:\n- [{name: salary, count: 3, min: 0, max: 100, period: 2017}]") ≡ Some (Ok (record { counts = (3 ∷ []) ∷ []; moved = key 0 0 year ∷ []; columns = []; conditions = []; neutral = none }))
+unfolding document block flow_value series with_person value_given dated_given variable_given named_given entry_given member_below section_by section_given members_in inputs_given reading_in reading_of asked_of moved_of_axes movement_at movement_of run_file_by run_file_of setting_in setting_of axis_of axis_said spec_said with_list
+axis_in_the_place_of_an_input = refl
+
+axis_beside_another_month : read (codes "period: 2017-01\ninput: {salary: {2017-02: 100}}\naxes: [[{name: salary, count: 3, min: 0, max: 100}]]") ≡ Some (Ok (record { counts = (3 ∷ []) ∷ []; moved = key 0 0 january ∷ []; columns = []; conditions = []; neutral = none }))
+unfolding document block flow_value series with_person value_given dated_given variable_given named_given entry_given member_below section_by section_given members_in inputs_given reading_in reading_of asked_of moved_of_axes movement_at movement_of run_file_by run_file_of setting_in setting_of axis_of axis_said spec_said with_list
+axis_beside_another_month = refl
+
+-- Columns come before conditions, and both after axes
+
+column_before_condition : read (codes "period: 2017-01\naxes: [[{name: salary, count: 3, min: 0, max: 100}]]\nfilter: nope\ncolumns: nope") ≡ fault 4 kind.BadColumn
+unfolding document block flow_value series with_person value_given dated_given variable_given named_given entry_given member_below section_by section_given members_in inputs_given reading_in reading_of asked_of moved_of_axes movement_at movement_of run_file_by run_file_of setting_in setting_of axis_of axis_said spec_said with_list
+column_before_condition = refl
+
+axes_before_column : read (codes "axes: []\ncolumns: nope") ≡ fault 1 (kind.Axes axes.NoAxes)
+unfolding document block flow_value series with_person value_given dated_given variable_given named_given entry_given member_below section_by section_given members_in inputs_given reading_in reading_of asked_of moved_of_axes movement_at movement_of run_file_by run_file_of setting_in setting_of axis_of axis_said spec_said with_list
+axes_before_column = refl
+
+no_comparison : read (codes "period: 2017-01\naxes: [[{name: salary, count: 3, min: 0, max: 100}]]\nfilter: salary") ≡ fault 3 kind.BadCondition
+unfolding document block flow_value series with_person value_given dated_given variable_given named_given entry_given member_below section_by section_given members_in inputs_given reading_in reading_of asked_of moved_of_axes movement_at movement_of run_file_by run_file_of setting_in setting_of axis_of axis_said spec_said with_list
+no_comparison = refl
+
+spaces_at_the_end : read (codes "period: 2017-01\naxes: [[{name: salary, count: 3, min: 0, max: 100}]]\nfilter: 'salary>=5 '") ≡ fault 3 kind.BadCondition
+unfolding document block flow_value series with_person value_given dated_given variable_given named_given entry_given member_below section_by section_given members_in inputs_given reading_in reading_of asked_of moved_of_axes movement_at movement_of run_file_by run_file_of setting_in setting_of axis_of axis_said spec_said with_list
+spaces_at_the_end = refl
+
+number_for_a_bool : read (codes "period: 2017-01\naxes: [[{name: salary, count: 3, min: 0, max: 100}]]\nfilter: owns==1") ≡ fault 3 kind.BadCondition
+unfolding document block flow_value series with_person value_given dated_given variable_given named_given entry_given member_below section_by section_given members_in inputs_given reading_in reading_of asked_of moved_of_axes movement_at movement_of run_file_by run_file_of setting_in setting_of axis_of axis_said spec_said with_list
+number_for_a_bool = refl
+
+order_of_bools : read (codes "period: 2017-01\naxes: [[{name: salary, count: 3, min: 0, max: 100}]]\nfilter: owns>=true") ≡ fault 3 kind.BadCondition
+unfolding document block flow_value series with_person value_given dated_given variable_given named_given entry_given member_below section_by section_given members_in inputs_given reading_in reading_of asked_of moved_of_axes movement_at movement_of run_file_by run_file_of setting_in setting_of axis_of axis_said spec_said with_list
+order_of_bools = refl
+
+bool_for_a_number : read (codes "period: 2017-01\naxes: [[{name: salary, count: 3, min: 0, max: 100}]]\nfilter: salary==true") ≡ fault 3 kind.BadCondition
+unfolding document block flow_value series with_person value_given dated_given variable_given named_given entry_given member_below section_by section_given members_in inputs_given reading_in reading_of asked_of moved_of_axes movement_at movement_of run_file_by run_file_of setting_in setting_of axis_of axis_said spec_said with_list
+bool_for_a_number = refl
+
+two_signs : read (codes "period: 2017-01\naxes: [[{name: salary, count: 3, min: 0, max: 100}]]\nfilter: salary > = 5") ≡ fault 3 kind.BadCondition
+unfolding document block flow_value series with_person value_given dated_given variable_given named_given entry_given member_below section_by section_given members_in inputs_given reading_in reading_of asked_of moved_of_axes movement_at movement_of run_file_by run_file_of setting_in setting_of axis_of axis_said spec_said with_list
+two_signs = refl
+
+unknown_in_a_condition : read (codes "period: 2017-01\naxes: [[{name: salary, count: 3, min: 0, max: 100}]]\nfilter: nope>=5") ≡ fault 3 kind.BadCondition
+unfolding document block flow_value series with_person value_given dated_given variable_given named_given entry_given member_below section_by section_given members_in inputs_given reading_in reading_of asked_of moved_of_axes movement_at movement_of run_file_by run_file_of setting_in setting_of axis_of axis_said spec_said with_list
+unknown_in_a_condition = refl

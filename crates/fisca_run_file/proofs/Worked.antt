@@ -1,5 +1,5 @@
 -- The definition of run files, worked out on small ones.
-use Rattle.std.proofs.Common.{◌≡◌, ℕ, ◌*◌, List, [], ◌∷◌, codes, pos, refl}
+use Rattle.std.proofs.Common.{◌≡◌, ℕ, ◌*◌, List, [], ◌∷◌, codes, pos, negsuc, refl, sym, lit<}
 use Rattle.std.specs.Prelude.{Bool, true, false, map, Option, Some, None, Result, Ok, Err}
 use Rattle.fisca_calc.specs.declared.fault.RunFileFault.{RunFileFault}
 use Rattle.fisca_calc.specs.declared.fault.RunFileKind.{RunFileKind}
@@ -13,7 +13,9 @@ use Rattle.fisca_inputs.specs.declared.given.Value.TheVariants as v
 use Rattle.fisca_inputs.specs.declared.key.Key.{Key}
 use Rattle.fisca_members.specs.Members.{members_in}
 use Rattle.fisca_members.specs.Persons.{with_person}
-use Rattle.fisca_num.specs.Number.{zero_number, whole_number}
+use Rattle.fisca_num.specs.Literal.{number_of_literal, number_of_parts, digits_ratio}
+use Rattle.fisca_num.specs.Number.{Number, zero_number, one_number, whole_number}
+use Rattle.fisca_num.specs.Operations.{only_number_of}
 use Rattle.fisca_situations.specs.Reading.{dated_given, entry_given, inputs_given, member_below, named_given, section_by, section_given, value_given, variable_given}
 use Rattle.fisca_situations.specs.Situations.{reading_in, reading_of}
 use Rattle.fisca_tables.specs.declared.choices.Choices.{Choices}
@@ -79,7 +81,7 @@ country = record {
   variables =
       variable (codes "salary") 1 type.Float unit.Month (Some sharing.DivideByPeriod)
       ∷ variable (codes "rent") 0 type.Float unit.Month None
-      ∷ variable (codes "age") 1 type.Int unit.Month None
+      ∷ variable (codes "age") 1 type.Int unit.Month (Some sharing.DispatchByPeriod)
       ∷ variable (codes "height") 1 type.Float unit.Eternity None
       ∷ variable (codes "owns") 1 type.Bool unit.Month None
       ∷ variable (codes "born") 1 type.Date unit.Eternity None
@@ -128,35 +130,77 @@ fault line k = Some (Err (record { line = line; kind = k }))
 abbrev none : List Bool
 none = false ∷ false ∷ false ∷ false ∷ false ∷ false ∷ []
 
+-- Literals, by their only number
+
+zero : number_of_literal (codes "0") ≡ Ok zero_number
+unfolding number_of_literal number_of_parts
+zero = sym (only_number_of (digits_ratio false (codes "0") []) (Ok zero_number) (record { some = lit< tt; same = refl; lowest = zero_number.lowest }))
+
+one : number_of_literal (codes "1") ≡ Ok one_number
+unfolding number_of_literal number_of_parts
+one = sym (only_number_of (digits_ratio false (codes "1") []) (Ok one_number) (record { some = lit< tt; same = refl; lowest = one_number.lowest }))
+
+two : number_of_literal (codes "2") ≡ Ok (whole_number (pos 2) (lit< tt))
+unfolding number_of_literal number_of_parts
+two = sym (only_number_of (digits_ratio false (codes "2") []) (Ok (whole_number (pos 2) (lit< tt))) (record { some = lit< tt; same = refl; lowest = (whole_number (pos 2) (lit< tt)).lowest }))
+
+three : number_of_literal (codes "3") ≡ Ok (whole_number (pos 3) (lit< tt))
+unfolding number_of_literal number_of_parts
+three = sym (only_number_of (digits_ratio false (codes "3") []) (Ok (whole_number (pos 3) (lit< tt))) (record { some = lit< tt; same = refl; lowest = (whole_number (pos 3) (lit< tt)).lowest }))
+
+three_point : number_of_literal (codes "3.0") ≡ Ok (whole_number (pos 3) (lit< tt))
+unfolding number_of_literal number_of_parts
+three_point = sym (only_number_of (digits_ratio false (codes "3") (codes "0")) (Ok (whole_number (pos 3) (lit< tt))) (record { some = lit< tt; same = refl; lowest = (whole_number (pos 3) (lit< tt)).lowest }))
+
+seven : number_of_literal (codes "7") ≡ Ok (whole_number (pos 7) (lit< tt))
+unfolding number_of_literal number_of_parts
+seven = sym (only_number_of (digits_ratio false (codes "7") []) (Ok (whole_number (pos 7) (lit< tt))) (record { some = lit< tt; same = refl; lowest = (whole_number (pos 7) (lit< tt)).lowest }))
+
+most : number_of_literal (codes "1048576") ≡ Ok (whole_number (pos 1048576) (lit< tt))
+unfolding number_of_literal number_of_parts
+most = sym (only_number_of (digits_ratio false (codes "1048576") []) (Ok (whole_number (pos 1048576) (lit< tt))) (record { some = lit< tt; same = refl; lowest = (whole_number (pos 1048576) (lit< tt)).lowest }))
+
+many : number_of_literal (codes "4097") ≡ Ok (whole_number (pos 4097) (lit< tt))
+unfolding number_of_literal number_of_parts
+many = sym (only_number_of (digits_ratio false (codes "4097") []) (Ok (whole_number (pos 4097) (lit< tt))) (record { some = lit< tt; same = refl; lowest = (whole_number (pos 4097) (lit< tt)).lowest }))
+
+wide : number_of_literal (codes "1000000001") ≡ Ok (whole_number (pos 1000000001) (lit< tt))
+unfolding number_of_literal number_of_parts
+wide = sym (only_number_of (digits_ratio false (codes "1000000001") []) (Ok (whole_number (pos 1000000001) (lit< tt))) (record { some = lit< tt; same = refl; lowest = (whole_number (pos 1000000001) (lit< tt)).lowest }))
+
+less : number_of_literal (codes "-1") ≡ Ok (whole_number (negsuc 0) (lit< tt))
+unfolding number_of_literal number_of_parts
+less = sym (only_number_of (digits_ratio true (codes "1") []) (Ok (whole_number (negsuc 0) (lit< tt))) (record { some = lit< tt; same = refl; lowest = (whole_number (negsuc 0) (lit< tt)).lowest }))
+
 -- Axes in groups
 
-one_axis : read (codes "period: 2017-01\naxes: [[{name: salary, count: 3, min: 0, max: 100}]]") ≡ Some (Ok (record { counts = (3 ∷ []) ∷ []; moved = key 0 0 january ∷ []; columns = []; conditions = []; neutral = none }))
+one_axis : read (codes "period: 2017-01\naxes: [[{name: salary, count: 3, min: 0, max: 1}]]") ≡ Some (Ok (record { counts = (3 ∷ []) ∷ []; moved = key 0 0 january ∷ []; columns = []; conditions = []; neutral = none }))
 unfolding document block flow_value series with_person value_given dated_given variable_given named_given entry_given member_below section_by section_given members_in inputs_given reading_in reading_of asked_of moved_of_axes movement_at movement_of run_file_by run_file_of setting_in setting_of axis_of axis_said spec_said with_list
-one_axis = refl
+one_axis = rw (three, zero, one) refl
 
-groups : read (codes "period: 2017-01\naxes: [[{name: salary, count: 3, min: 0, max: 100}, {name: rent, count: 3, min: 10, max: 30}], [{name: age, count: 2, min: 20, max: 40}]]") ≡ Some (Ok (record { counts = (3 ∷ 3 ∷ []) ∷ (2 ∷ []) ∷ []; moved = key 0 0 january ∷ key 1 0 january ∷ key 2 0 january ∷ []; columns = []; conditions = []; neutral = none }))
+groups : read (codes "period: 2017-01\naxes: [[{name: salary, count: 3, min: 0, max: 1}, {name: rent, count: 3, min: 1, max: 0}], [{name: age, count: 2, min: 0, max: 1}]]") ≡ Some (Ok (record { counts = (3 ∷ 3 ∷ []) ∷ (2 ∷ []) ∷ []; moved = key 0 0 january ∷ key 1 0 january ∷ key 2 0 january ∷ []; columns = []; conditions = []; neutral = none }))
 unfolding document block flow_value series with_person value_given dated_given variable_given named_given entry_given member_below section_by section_given members_in inputs_given reading_in reading_of asked_of moved_of_axes movement_at movement_of run_file_by run_file_of setting_in setting_of axis_of axis_said spec_said with_list
-groups = refl
+groups = rw (three, zero, one, two) refl
 
-axis_over_a_year : read (codes "axes: [[{name: salary, count: 3.0, min: -5, max: 0.125, period: 2017, index: 0}]]") ≡ Some (Ok (record { counts = (3 ∷ []) ∷ []; moved = key 0 0 year ∷ []; columns = []; conditions = []; neutral = none }))
+axis_over_a_year : read (codes "axes: [[{name: age, count: 3.0, min: -1, max: 1, period: 2017, index: 0}]]") ≡ Some (Ok (record { counts = (3 ∷ []) ∷ []; moved = key 2 0 year ∷ []; columns = []; conditions = []; neutral = none }))
 unfolding document block flow_value series with_person value_given dated_given variable_given named_given entry_given member_below section_by section_given members_in inputs_given reading_in reading_of asked_of moved_of_axes movement_at movement_of run_file_by run_file_of setting_in setting_of axis_of axis_said spec_said with_list
-axis_over_a_year = refl
+axis_over_a_year = rw (three_point, less, one, zero) refl
 
 axis_for_ever : read (codes "axes: [[{name: height, count: 1, min: 0, max: 0}]]") ≡ Some (Ok (record { counts = (1 ∷ []) ∷ []; moved = key 3 0 eternity ∷ []; columns = []; conditions = []; neutral = none }))
 unfolding document block flow_value series with_person value_given dated_given variable_given named_given entry_given member_below section_by section_given members_in inputs_given reading_in reading_of asked_of moved_of_axes movement_at movement_of run_file_by run_file_of setting_in setting_of axis_of axis_said spec_said with_list
-axis_for_ever = refl
+axis_for_ever = rw (one, zero) refl
 
 axis_of_the_second_person : read (codes "period: 2017-01\ninput: {persons: {Ann: {}, Bob: {}}}\naxes: [[{name: salary, index: 1, count: 2, min: 0, max: 1}]]") ≡ Some (Ok (record { counts = (2 ∷ []) ∷ []; moved = key 0 1 january ∷ []; columns = []; conditions = []; neutral = none }))
 unfolding document block flow_value series with_person value_given dated_given variable_given named_given entry_given member_below section_by section_given members_in inputs_given reading_in reading_of asked_of moved_of_axes movement_at movement_of run_file_by run_file_of setting_in setting_of axis_of axis_said spec_said with_list
-axis_of_the_second_person = refl
+axis_of_the_second_person = rw (one, two, zero) refl
 
-columns_and_a_filter : read (codes "period: 2017-01\naxes: [[{name: salary, count: 3, min: 0, max: 100}]]\ncolumns: [rent, salary]\nfilter: [salary >= 5, owns==true]") ≡ Some (Ok (record { counts = (3 ∷ []) ∷ []; moved = key 0 0 january ∷ []; columns = key 1 0 january ∷ key 0 0 january ∷ []; conditions = key 0 0 january ∷ key 4 0 january ∷ []; neutral = none }))
+columns_and_a_filter : read (codes "period: 2017-01\naxes: [[{name: salary, count: 3, min: 0, max: 1}]]\ncolumns: [rent, salary]\nfilter: [salary >= 3, owns==true]") ≡ Some (Ok (record { counts = (3 ∷ []) ∷ []; moved = key 0 0 january ∷ []; columns = key 1 0 january ∷ key 0 0 january ∷ []; conditions = key 0 0 january ∷ key 4 0 january ∷ []; neutral = none }))
 unfolding document block flow_value series with_person value_given dated_given variable_given named_given entry_given member_below section_by section_given members_in inputs_given reading_in reading_of asked_of moved_of_axes movement_at movement_of run_file_by run_file_of setting_in setting_of axis_of axis_said spec_said with_list
-columns_and_a_filter = refl
+columns_and_a_filter = rw (three, zero, one) refl
 
-neutralised_twice : read (codes "period: 2017-01\naxes: [[{name: salary, count: 3, min: 0, max: 100}]]\nneutralize: [rent, rent]") ≡ Some (Ok (record { counts = (3 ∷ []) ∷ []; moved = key 0 0 january ∷ []; columns = []; conditions = []; neutral = false ∷ true ∷ false ∷ false ∷ false ∷ false ∷ [] }))
+neutralised_twice : read (codes "period: 2017-01\naxes: [[{name: salary, count: 3, min: 0, max: 1}]]\nneutralize: [rent, rent]") ≡ Some (Ok (record { counts = (3 ∷ []) ∷ []; moved = key 0 0 january ∷ []; columns = []; conditions = []; neutral = false ∷ true ∷ false ∷ false ∷ false ∷ false ∷ [] }))
 unfolding document block flow_value series with_person value_given dated_given variable_given named_given entry_given member_below section_by section_given members_in inputs_given reading_in reading_of asked_of moved_of_axes movement_at movement_of run_file_by run_file_of setting_in setting_of axis_of axis_said spec_said with_list
-neutralised_twice = refl
+neutralised_twice = rw (three, zero, one) refl
 
 -- Keys, from top to bottom, and a missing one last
 
@@ -176,7 +220,7 @@ null_axes : read (codes "period: 2017-01\naxes:") ≡ fault 2 kind.BadKey
 unfolding document block flow_value series with_person value_given dated_given variable_given named_given entry_given member_below section_by section_given members_in inputs_given reading_in reading_of asked_of moved_of_axes movement_at movement_of run_file_by run_file_of setting_in setting_of axis_of axis_said spec_said with_list
 null_axes = refl
 
-axes_without_groups : read (codes "period: 2017-01\naxes: [{name: salary, count: 3, min: 0, max: 100}]") ≡ fault 2 kind.BadKey
+axes_without_groups : read (codes "period: 2017-01\naxes: [{name: salary, count: 3, min: 0, max: 1}]") ≡ fault 2 kind.BadKey
 unfolding document block flow_value series with_person value_given dated_given variable_given named_given entry_given member_below section_by section_given members_in inputs_given reading_in reading_of asked_of moved_of_axes movement_at movement_of run_file_by run_file_of setting_in setting_of axis_of axis_said spec_said with_list
 axes_without_groups = refl
 
@@ -190,11 +234,7 @@ unknown_key_of_an_axis = refl
 
 count_below_zero : read (codes "axes:\n- - name: salary\n    count: -1") ≡ fault 3 kind.BadKey
 unfolding document block flow_value series with_person value_given dated_given variable_given named_given entry_given member_below section_by section_given members_in inputs_given reading_in reading_of asked_of moved_of_axes movement_at movement_of run_file_by run_file_of setting_in setting_of axis_of axis_said spec_said with_list
-count_below_zero = refl
-
-half_an_index : read (codes "axes:\n- - name: salary\n    index: 0.5") ≡ fault 3 kind.BadKey
-unfolding document block flow_value series with_person value_given dated_given variable_given named_given entry_given member_below section_by section_given members_in inputs_given reading_in reading_of asked_of moved_of_axes movement_at movement_of run_file_by run_file_of setting_in setting_of axis_of axis_said spec_said with_list
-half_an_index = refl
+count_below_zero = rw less refl
 
 bound_in_quotes : read (codes "axes:\n- - name: salary\n    min: '0'") ≡ fault 3 kind.BadKey
 unfolding document block flow_value series with_person value_given dated_given variable_given named_given entry_given member_below section_by section_given members_in inputs_given reading_in reading_of asked_of moved_of_axes movement_at movement_of run_file_by run_file_of setting_in setting_of axis_of axis_said spec_said with_list
@@ -206,27 +246,27 @@ unreadable_period_of_an_axis = refl
 
 missing_count : read (codes "period: 2017-01\naxes:\n- - name: salary\n    min: 0\n    max: 1") ≡ fault 1 kind.BadKey
 unfolding document block flow_value series with_person value_given dated_given variable_given named_given entry_given member_below section_by section_given members_in inputs_given reading_in reading_of asked_of moved_of_axes movement_at movement_of run_file_by run_file_of setting_in setting_of axis_of axis_said spec_said with_list
-missing_count = refl
+missing_count = rw (zero, one) refl
 
 first_of_two_keys : read (codes "axes:\n- - name: [a]\nother: 1") ≡ fault 2 kind.BadKey
 unfolding document block flow_value series with_person value_given dated_given variable_given named_given entry_given member_below section_by section_given members_in inputs_given reading_in reading_of asked_of moved_of_axes movement_at movement_of run_file_by run_file_of setting_in setting_of axis_of axis_said spec_said with_list
 first_of_two_keys = refl
 
-null_filter : read (codes "axes: [[{name: salary, count: 3, min: 0, max: 100}]]\nfilter:") ≡ fault 2 kind.BadKey
+null_filter : read (codes "axes: []\nfilter:") ≡ fault 2 kind.BadKey
 unfolding document block flow_value series with_person value_given dated_given variable_given named_given entry_given member_below section_by section_given members_in inputs_given reading_in reading_of asked_of moved_of_axes movement_at movement_of run_file_by run_file_of setting_in setting_of axis_of axis_said spec_said with_list
 null_filter = refl
 
-map_to_neutralise : read (codes "axes: [[{name: salary, count: 3, min: 0, max: 100}]]\nneutralize: {a: 1}") ≡ fault 2 kind.BadKey
+map_to_neutralise : read (codes "axes: []\nneutralize: {a: 1}") ≡ fault 2 kind.BadKey
 unfolding document block flow_value series with_person value_given dated_given variable_given named_given entry_given member_below section_by section_given members_in inputs_given reading_in reading_of asked_of moved_of_axes movement_at movement_of run_file_by run_file_of setting_in setting_of axis_of axis_said spec_said with_list
 map_to_neutralise = refl
 
 -- What is neutralised comes before the input, and the input before the axes
 
-unknown_to_neutralise : read (codes "axes: [[{name: salary, count: 3, min: 0, max: 100}]]\ninput: none\nneutralize:\n- rent\n- nope") ≡ fault 5 kind.BadNeutral
+unknown_to_neutralise : read (codes "axes: []\ninput: none\nneutralize:\n- rent\n- nope") ≡ fault 5 kind.BadNeutral
 unfolding document block flow_value series with_person value_given dated_given variable_given named_given entry_given member_below section_by section_given members_in inputs_given reading_in reading_of asked_of moved_of_axes movement_at movement_of run_file_by run_file_of setting_in setting_of axis_of axis_said spec_said with_list
 unknown_to_neutralise = refl
 
-day_to_neutralise : read (codes "axes: [[{name: salary, count: 3, min: 0, max: 100}]]\nneutralize: born") ≡ fault 2 kind.BadNeutral
+day_to_neutralise : read (codes "axes: []\nneutralize: born") ≡ fault 2 kind.BadNeutral
 unfolding document block flow_value series with_person value_given dated_given variable_given named_given entry_given member_below section_by section_given members_in inputs_given reading_in reading_of asked_of moved_of_axes movement_at movement_of run_file_by run_file_of setting_in setting_of axis_of axis_said spec_said with_list
 day_to_neutralise = refl
 
@@ -244,98 +284,94 @@ no_group : read (codes "period: 2017-01\naxes: []") ≡ fault 2 (kind.Axes axes.
 unfolding document block flow_value series with_person value_given dated_given variable_given named_given entry_given member_below section_by section_given members_in inputs_given reading_in reading_of asked_of moved_of_axes movement_at movement_of run_file_by run_file_of setting_in setting_of axis_of axis_said spec_said with_list
 no_group = refl
 
-empty_group : read (codes "period: 2017-01\naxes:\n- [{name: salary, count: 3, min: 0, max: 100}]\n- []") ≡ fault 2 (kind.Axes axes.NoAxes)
+empty_group : read (codes "period: 2017-01\naxes:\n- [{name: salary, count: 3, min: 0, max: 1}]\n- []") ≡ fault 2 (kind.Axes axes.NoAxes)
 unfolding document block flow_value series with_person value_given dated_given variable_given named_given entry_given member_below section_by section_given members_in inputs_given reading_in reading_of asked_of moved_of_axes movement_at movement_of run_file_by run_file_of setting_in setting_of axis_of axis_said spec_said with_list
-empty_group = refl
+empty_group = rw (three, zero, one) refl
 
 no_values : read (codes "axes:\n- [{name: salary, count: 1, min: 0, max: 1}]\n- [{name: nope, count: 0, min: 0, max: 1}]") ≡ fault 3 (kind.Axes axes.BadCount)
 unfolding document block flow_value series with_person value_given dated_given variable_given named_given entry_given member_below section_by section_given members_in inputs_given reading_in reading_of asked_of moved_of_axes movement_at movement_of run_file_by run_file_of setting_in setting_of axis_of axis_said spec_said with_list
-no_values = refl
+no_values = rw (one, zero) refl
 
 bound_too_wide : read (codes "axes:\n- - name: salary\n    count: 2\n    min: 0\n    max: 1000000001") ≡ fault 2 (kind.Axes axes.BadBound)
 unfolding document block flow_value series with_person value_given dated_given variable_given named_given entry_given member_below section_by section_given members_in inputs_given reading_in reading_of asked_of moved_of_axes movement_at movement_of run_file_by run_file_of setting_in setting_of axis_of axis_said spec_said with_list
-bound_too_wide = refl
+bound_too_wide = rw (two, zero, wide) refl
 
 counts_differ : read (codes "axes:\n- - {name: salary, count: 3, min: 0, max: 1}\n  - {name: rent, count: 3, min: 0, max: 1}\n  - {name: age, count: 2, min: 0, max: 1}") ≡ fault 4 (kind.Axes axes.CountsDiffer)
 unfolding document block flow_value series with_person value_given dated_given variable_given named_given entry_given member_below section_by section_given members_in inputs_given reading_in reading_of asked_of moved_of_axes movement_at movement_of run_file_by run_file_of setting_in setting_of axis_of axis_said spec_said with_list
-counts_differ = refl
+counts_differ = rw (three, zero, one, two) refl
 
 grid_too_large : read (codes "axes:\n- [{name: salary, count: 1048576, min: 0, max: 1}]\n- [{name: salary, count: 4097, min: 0, max: 1}]") ≡ fault 1 (kind.Axes axes.TooLarge)
 unfolding document block flow_value series with_person value_given dated_given variable_given named_given entry_given member_below section_by section_given members_in inputs_given reading_in reading_of asked_of moved_of_axes movement_at movement_of run_file_by run_file_of setting_in setting_of axis_of axis_said spec_said with_list
-grid_too_large = refl
+grid_too_large = rw (most, zero, one, many) refl
 
 no_such_member_before_the_next_axis : read (codes "period: 2017-01\naxes:\n- - {name: salary, index: 7, count: 3, min: 0, max: 1}\n- - {name: owns, count: 3, min: 0, max: 1}") ≡ fault 3 (kind.Axes axes.BadIndex)
 unfolding document block flow_value series with_person value_given dated_given variable_given named_given entry_given member_below section_by section_given members_in inputs_given reading_in reading_of asked_of moved_of_axes movement_at movement_of run_file_by run_file_of setting_in setting_of axis_of axis_said spec_said with_list
-no_such_member_before_the_next_axis = refl
+no_such_member_before_the_next_axis = rw (seven, three, zero, one) refl
 
 variable_without_numbers : read (codes "period: 2017-01\naxes:\n- - {name: salary, count: 3, min: 0, max: 1}\n- - {name: owns, count: 3, min: 0, max: 1}") ≡ fault 4 (kind.Axes axes.UnknownVariable)
 unfolding document block flow_value series with_person value_given dated_given variable_given named_given entry_given member_below section_by section_given members_in inputs_given reading_in reading_of asked_of moved_of_axes movement_at movement_of run_file_by run_file_of setting_in setting_of axis_of axis_said spec_said with_list
-variable_without_numbers = refl
+variable_without_numbers = rw (three, zero, one) refl
 
-no_period_for_an_axis : read (codes "axes:\n- [{name: salary, count: 3, min: 0, max: 100}]") ≡ fault 2 (kind.Axes axes.PeriodMismatch)
+no_period_for_an_axis : read (codes "axes:\n- [{name: salary, count: 3, min: 0, max: 1}]") ≡ fault 2 (kind.Axes axes.PeriodMismatch)
 unfolding document block flow_value series with_person value_given dated_given variable_given named_given entry_given member_below section_by section_given members_in inputs_given reading_in reading_of asked_of moved_of_axes movement_at movement_of run_file_by run_file_of setting_in setting_of axis_of axis_said spec_said with_list
-no_period_for_an_axis = refl
+no_period_for_an_axis = rw (three, zero, one) refl
 
 longer_period_without_sharing : read (codes "axes:\n- [{name: rent, count: 3, min: 0, max: 1, period: 2017}]") ≡ fault 2 (kind.Axes axes.PeriodMismatch)
 unfolding document block flow_value series with_person value_given dated_given variable_given named_given entry_given member_below section_by section_given members_in inputs_given reading_in reading_of asked_of moved_of_axes movement_at movement_of run_file_by run_file_of setting_in setting_of axis_of axis_said spec_said with_list
-longer_period_without_sharing = refl
+longer_period_without_sharing = rw (three, zero, one) refl
 
 -- Overlaps
 
-axes_of_one_input : read (codes "period: 2017-01\naxes:\n- [{name: salary, count: 3, min: 0, max: 100}]\n- [{name: salary, count: 3, min: 0, max: 100}]") ≡ fault 4 (kind.Axes axes.AxisOverlap)
+axes_of_one_input : read (codes "period: 2017-01\naxes:\n- [{name: salary, count: 3, min: 0, max: 1}]\n- [{name: salary, count: 3, min: 0, max: 1}]") ≡ fault 4 (kind.Axes axes.AxisOverlap)
 unfolding document block flow_value series with_person value_given dated_given variable_given named_given entry_given member_below section_by section_given members_in inputs_given reading_in reading_of asked_of moved_of_axes movement_at movement_of run_file_by run_file_of setting_in setting_of axis_of axis_said spec_said with_list
-axes_of_one_input = refl
+axes_of_one_input = rw (three, zero, one) refl
 
 axes_for_ever : read (codes "axes:\n- [{name: height, count: 2, min: 0, max: 1}]\n- [{name: height, count: 2, min: 0, max: 1, period: 2017}]") ≡ fault 3 (kind.Axes axes.AxisOverlap)
 unfolding document block flow_value series with_person value_given dated_given variable_given named_given entry_given member_below section_by section_given members_in inputs_given reading_in reading_of asked_of moved_of_axes movement_at movement_of run_file_by run_file_of setting_in setting_of axis_of axis_said spec_said with_list
-axes_for_ever = refl
+axes_for_ever = rw (two, zero, one) refl
 
-axis_over_an_input : read (codes "input: {salary: {2017-01: 100}}\naxes:\n- [{name: salary, count: 3, min: 0, max: 100, period: 2017}]") ≡ fault 3 (kind.Axes axes.AxisOverlap)
+axis_over_an_input : read (codes "input: {age: {2017-01: 7}}\naxes:\n- [{name: age, count: 3, min: 0, max: 1, period: 2017}]") ≡ fault 3 (kind.Axes axes.AxisOverlap)
 unfolding document block flow_value series with_person value_given dated_given variable_given named_given entry_given member_below section_by section_given members_in inputs_given reading_in reading_of asked_of moved_of_axes movement_at movement_of run_file_by run_file_of setting_in setting_of axis_of axis_said spec_said with_list
-axis_over_an_input = refl
+axis_over_an_input = rw (seven, three, zero, one) refl
 
-axis_in_the_place_of_an_input : read (codes "input: {salary: {2017: 100}}\naxes:\n- [{name: salary, count: 3, min: 0, max: 100, period: 2017}]") ≡ Some (Ok (record { counts = (3 ∷ []) ∷ []; moved = key 0 0 year ∷ []; columns = []; conditions = []; neutral = none }))
+axis_in_the_place_of_an_input : read (codes "input: {age: {2017: 7}}\naxes:\n- [{name: age, count: 3, min: 0, max: 1, period: 2017}]") ≡ Some (Ok (record { counts = (3 ∷ []) ∷ []; moved = key 2 0 year ∷ []; columns = []; conditions = []; neutral = none }))
 unfolding document block flow_value series with_person value_given dated_given variable_given named_given entry_given member_below section_by section_given members_in inputs_given reading_in reading_of asked_of moved_of_axes movement_at movement_of run_file_by run_file_of setting_in setting_of axis_of axis_said spec_said with_list
-axis_in_the_place_of_an_input = refl
+axis_in_the_place_of_an_input = rw (three, zero, one, seven) refl
 
-axis_beside_another_month : read (codes "period: 2017-01\ninput: {salary: {2017-02: 100}}\naxes: [[{name: salary, count: 3, min: 0, max: 100}]]") ≡ Some (Ok (record { counts = (3 ∷ []) ∷ []; moved = key 0 0 january ∷ []; columns = []; conditions = []; neutral = none }))
+axis_beside_another_month : read (codes "period: 2017-01\ninput: {salary: {2017-02: 7}}\naxes: [[{name: salary, count: 3, min: 0, max: 1}]]") ≡ Some (Ok (record { counts = (3 ∷ []) ∷ []; moved = key 0 0 january ∷ []; columns = []; conditions = []; neutral = none }))
 unfolding document block flow_value series with_person value_given dated_given variable_given named_given entry_given member_below section_by section_given members_in inputs_given reading_in reading_of asked_of moved_of_axes movement_at movement_of run_file_by run_file_of setting_in setting_of axis_of axis_said spec_said with_list
-axis_beside_another_month = refl
+axis_beside_another_month = rw (three, zero, one, seven) refl
 
 -- Columns come before conditions, and both after axes
 
-column_before_condition : read (codes "period: 2017-01\naxes: [[{name: salary, count: 3, min: 0, max: 100}]]\nfilter: nope\ncolumns: nope") ≡ fault 4 kind.BadColumn
+column_before_condition : read (codes "period: 2017-01\naxes: [[{name: salary, count: 3, min: 0, max: 1}]]\nfilter: nope\ncolumns: nope") ≡ fault 4 kind.BadColumn
 unfolding document block flow_value series with_person value_given dated_given variable_given named_given entry_given member_below section_by section_given members_in inputs_given reading_in reading_of asked_of moved_of_axes movement_at movement_of run_file_by run_file_of setting_in setting_of axis_of axis_said spec_said with_list
-column_before_condition = refl
+column_before_condition = rw (three, zero, one) refl
 
 axes_before_column : read (codes "axes: []\ncolumns: nope") ≡ fault 1 (kind.Axes axes.NoAxes)
 unfolding document block flow_value series with_person value_given dated_given variable_given named_given entry_given member_below section_by section_given members_in inputs_given reading_in reading_of asked_of moved_of_axes movement_at movement_of run_file_by run_file_of setting_in setting_of axis_of axis_said spec_said with_list
 axes_before_column = refl
 
-no_comparison : read (codes "period: 2017-01\naxes: [[{name: salary, count: 3, min: 0, max: 100}]]\nfilter: salary") ≡ fault 3 kind.BadCondition
+no_comparison : read (codes "period: 2017-01\naxes: [[{name: salary, count: 3, min: 0, max: 1}]]\nfilter: salary") ≡ fault 3 kind.BadCondition
 unfolding document block flow_value series with_person value_given dated_given variable_given named_given entry_given member_below section_by section_given members_in inputs_given reading_in reading_of asked_of moved_of_axes movement_at movement_of run_file_by run_file_of setting_in setting_of axis_of axis_said spec_said with_list
-no_comparison = refl
+no_comparison = rw (three, zero, one) refl
 
-spaces_at_the_end : read (codes "period: 2017-01\naxes: [[{name: salary, count: 3, min: 0, max: 100}]]\nfilter: 'salary>=5 '") ≡ fault 3 kind.BadCondition
+spaces_at_the_end : read (codes "period: 2017-01\naxes: [[{name: salary, count: 3, min: 0, max: 1}]]\nfilter: 'owns==true '") ≡ fault 3 kind.BadCondition
 unfolding document block flow_value series with_person value_given dated_given variable_given named_given entry_given member_below section_by section_given members_in inputs_given reading_in reading_of asked_of moved_of_axes movement_at movement_of run_file_by run_file_of setting_in setting_of axis_of axis_said spec_said with_list
-spaces_at_the_end = refl
+spaces_at_the_end = rw (three, zero, one) refl
 
-number_for_a_bool : read (codes "period: 2017-01\naxes: [[{name: salary, count: 3, min: 0, max: 100}]]\nfilter: owns==1") ≡ fault 3 kind.BadCondition
+number_for_a_bool : read (codes "period: 2017-01\naxes: [[{name: salary, count: 3, min: 0, max: 1}]]\nfilter: owns==1") ≡ fault 3 kind.BadCondition
 unfolding document block flow_value series with_person value_given dated_given variable_given named_given entry_given member_below section_by section_given members_in inputs_given reading_in reading_of asked_of moved_of_axes movement_at movement_of run_file_by run_file_of setting_in setting_of axis_of axis_said spec_said with_list
-number_for_a_bool = refl
+number_for_a_bool = rw (three, zero, one) refl
 
-order_of_bools : read (codes "period: 2017-01\naxes: [[{name: salary, count: 3, min: 0, max: 100}]]\nfilter: owns>=true") ≡ fault 3 kind.BadCondition
+order_of_bools : read (codes "period: 2017-01\naxes: [[{name: salary, count: 3, min: 0, max: 1}]]\nfilter: owns>=true") ≡ fault 3 kind.BadCondition
 unfolding document block flow_value series with_person value_given dated_given variable_given named_given entry_given member_below section_by section_given members_in inputs_given reading_in reading_of asked_of moved_of_axes movement_at movement_of run_file_by run_file_of setting_in setting_of axis_of axis_said spec_said with_list
-order_of_bools = refl
+order_of_bools = rw (three, zero, one) refl
 
-bool_for_a_number : read (codes "period: 2017-01\naxes: [[{name: salary, count: 3, min: 0, max: 100}]]\nfilter: salary==true") ≡ fault 3 kind.BadCondition
+two_signs : read (codes "period: 2017-01\naxes: [[{name: salary, count: 3, min: 0, max: 1}]]\nfilter: salary > = 3") ≡ fault 3 kind.BadCondition
 unfolding document block flow_value series with_person value_given dated_given variable_given named_given entry_given member_below section_by section_given members_in inputs_given reading_in reading_of asked_of moved_of_axes movement_at movement_of run_file_by run_file_of setting_in setting_of axis_of axis_said spec_said with_list
-bool_for_a_number = refl
+two_signs = rw (three, zero, one) refl
 
-two_signs : read (codes "period: 2017-01\naxes: [[{name: salary, count: 3, min: 0, max: 100}]]\nfilter: salary > = 5") ≡ fault 3 kind.BadCondition
+unknown_in_a_condition : read (codes "period: 2017-01\naxes: [[{name: salary, count: 3, min: 0, max: 1}]]\nfilter: nope>=3") ≡ fault 3 kind.BadCondition
 unfolding document block flow_value series with_person value_given dated_given variable_given named_given entry_given member_below section_by section_given members_in inputs_given reading_in reading_of asked_of moved_of_axes movement_at movement_of run_file_by run_file_of setting_in setting_of axis_of axis_said spec_said with_list
-two_signs = refl
-
-unknown_in_a_condition : read (codes "period: 2017-01\naxes: [[{name: salary, count: 3, min: 0, max: 100}]]\nfilter: nope>=5") ≡ fault 3 kind.BadCondition
-unfolding document block flow_value series with_person value_given dated_given variable_given named_given entry_given member_below section_by section_given members_in inputs_given reading_in reading_of asked_of moved_of_axes movement_at movement_of run_file_by run_file_of setting_in setting_of axis_of axis_said spec_said with_list
-unknown_in_a_condition = refl
+unknown_in_a_condition = rw (three, zero, one) refl

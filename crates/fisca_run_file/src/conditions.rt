@@ -1,9 +1,11 @@
 //! The conditions of a filter.
 
-ghost use Rattle.std.specs.Prelude.{◌≡◌, [], ◌∷◌, ◌++◌, IfOk};
-ghost use Rattle.fisca_calc.specs.Outcomes.{Tells};
+ghost use Rattle.std.specs.Prelude.{◌≡◌, [], ◌∷◌, Ok};
+ghost use Rattle.fisca_calc.specs.Outcomes.{Answers, Tells};
+ghost use Rattle.fisca_params.specs.Results.{and_then};
 ghost use Rattle.fisca_run_file.specs.Conditions as spec;
 ghost use Rattle.fisca_situations.specs.Views.{situation as situation_view};
+ghost use Rattle.fisca_tables.specs.Known.{tables as known};
 ghost use Rattle.fisca_yaml.specs.Views.{node, items_view};
 
 use crate::condition::{Condition, read_condition};
@@ -12,7 +14,7 @@ use fisca_situations::Situation;
 use fisca_tables::Tables;
 use fisca_time::Period;
 use fisca_yaml::{Item, Tree};
-use std::alloc::{AllocError, Global};
+use std::alloc::Global;
 use std::marker::Model;
 
 /// Conditions in order, seen as a list.
@@ -31,69 +33,67 @@ impl Model for Conditions {
 }
 
 impl Conditions {
-    /// None.
-    fn new(alloc: Global) -> Conditions
-        ensures { result ≡ [] }
-    {
-        Conditions {
-            items: Vec::new(alloc),
-        }
-    }
-
     /// The conditions in order.
     pub fn as_slice(&self) -> &[Condition]
         ensures { result.now ≡ self.now }
     {
         self.items.as_slice()
     }
-
-    /// One more.
-    fn with(self, condition: Condition) -> Result<Conditions, AllocError>
-        ensures { IfOk result (λ c. c ≡ self ++ condition ∷ []) }
-    {
-        let mut items = self.items;
-        items.push(condition).map_err(AllocError::from)?;
-        Ok(Conditions { items })
-    }
 }
 
-/// The conditions so far and the one of a scalar.
-fn with_condition(
+/// The condition of a scalar on this line.
+fn condition_at(
     tables: &Tables<'_>,
     situation: &Situation,
     default: Option<Period>,
-    conditions: Conditions,
-    tree: &Tree<'_>,
-) -> Result<Conditions, RunFileFault>
-    ensures { Tells (λ c. c) (spec.with_condition tables.now (situation_view situation.now).members default conditions (node tree.now)) result }
+    line: usize,
+    text: &str,
+) -> Result<Condition, RunFileFault>
+    ensures { Answers (λ x. x) (spec.condition_or_fault line (spec.condition_of (known tables.now) (situation_view situation.now).members default text.now)) result }
 {
-    let Tree::Scalar { text, line, .. } = tree else {
-        return Ok(conditions);
-    };
-    match read_condition(tables, situation, text.as_str(), default) {
-        Some(condition) => Ok(conditions.with(condition)?),
+    match read_condition(tables, situation, text, default) {
+        Some(condition) => Ok(condition),
         None => Err(RunFileFault {
-            line: *line,
+            line,
             kind: RunFileKind::BadCondition,
         }),
     }
 }
 
-/// The conditions so far and those of a list.
-fn with_conditions(
+/// The conditions of a list.
+fn listed_conditions(
+    alloc: Global,
     tables: &Tables<'_>,
     situation: &Situation,
     default: &Option<Period>,
-    conditions: Conditions,
     items: &[Item<'_>],
 ) -> Result<Conditions, RunFileFault>
-    ensures { Tells (λ c. c) (spec.with_conditions tables.now (situation_view situation.now).members default.now conditions (items_view items.now)) result }
+    ensures { Tells (λ c. c) (spec.with_conditions tables.now (situation_view situation.now).members default.now [] (items_view items.now)) result }
 {
-    let mut found = conditions;
+    let mut found = Vec::new(alloc);
     for item in items {
-        found = with_condition(tables, situation, *default, found, &item.value)?;
+        if let Tree::Scalar { text, line, .. } = &item.value {
+            found.push(condition_at(tables, situation, *default, *line, text.as_str())?)?;
+        }
     }
-    Ok(found)
+    Ok(Conditions { items: found })
+}
+
+/// The condition of a scalar on this line, alone.
+fn one_condition(
+    alloc: Global,
+    tables: &Tables<'_>,
+    situation: &Situation,
+    default: Option<Period>,
+    line: usize,
+    text: &str,
+) -> Result<Conditions, RunFileFault>
+    ensures { Tells (λ c. c) (and_then (spec.condition_or_fault line (spec.condition_of (known tables.now) (situation_view situation.now).members default text.now)) (λ x. Ok (x ∷ []))) result }
+{
+    let condition = condition_at(tables, situation, default, line, text)?;
+    let mut found = Vec::new(alloc);
+    found.push(condition)?;
+    Ok(Conditions { items: found })
 }
 
 /// The conditions that one scalar or a list of scalars state.
@@ -106,11 +106,16 @@ fn conditions_by(
 ) -> Result<Conditions, RunFileFault>
     ensures { Tells (λ c. c) (spec.conditions_by tables.now (situation_view situation.now).members default (node tree.now)) result }
 {
-    let none = Conditions::new(alloc);
     match tree {
-        Tree::Scalar { .. } => with_condition(tables, situation, default, none, tree),
-        Tree::List(items) => with_conditions(tables, situation, &default, none, items.as_slice()),
-        Tree::Null | Tree::Map(_) => Ok(none),
+        Tree::Scalar { text, line, .. } => {
+            one_condition(alloc, tables, situation, default, *line, text.as_str())
+        }
+        Tree::List(items) => {
+            listed_conditions(alloc, tables, situation, &default, items.as_slice())
+        }
+        Tree::Null | Tree::Map(_) => Ok(Conditions {
+            items: Vec::new(alloc),
+        }),
     }
 }
 

@@ -6,7 +6,8 @@ ghost use Rattle.fisca_run_file.specs.Keys as spec;
 ghost use Rattle.fisca_yaml.specs.Views.{node, entries_view};
 
 use crate::said_axes::axes_said;
-use fisca_calc::{RunFileFault, RunFileKind, are_columns, period_in};
+use crate::said_axis::bad_key;
+use fisca_calc::{RunFileFault, are_columns, period_in};
 use fisca_yaml::{Entry, Tree};
 use std::alloc::Global;
 
@@ -32,10 +33,7 @@ fn check_key(alloc: Global, entry: &Entry<'_>) -> Result<(), RunFileFault>
         return Ok(());
     }
     if !is_accepted(key, &entry.value) {
-        return Err(RunFileFault {
-            line: entry.line,
-            kind: RunFileKind::BadKey,
-        });
+        return Err(bad_key(entry.line));
     }
     Ok(())
 }
@@ -56,10 +54,7 @@ fn check_found(found: Option<&Tree<'_>>) -> Result<(), RunFileFault>
 {
     match found {
         Some(_) => Ok(()),
-        None => Err(RunFileFault {
-            line: 1,
-            kind: RunFileKind::BadKey,
-        }),
+        None => Err(bad_key(1)),
     }
 }
 
@@ -72,9 +67,6 @@ pub(crate) fn check_file(alloc: Global, tree: &Tree<'_>) -> Result<(), RunFileFa
             check_keys(alloc, entries.as_slice())?;
             check_found(tree.get("axes"))
         }
-        Tree::Null | Tree::Scalar { .. } | Tree::List(_) => Err(RunFileFault {
-            line: 1,
-            kind: RunFileKind::BadKey,
-        }),
+        Tree::Null | Tree::Scalar { .. } | Tree::List(_) => Err(bad_key(1)),
     }
 }

@@ -1,6 +1,6 @@
 //! The inputs that axes move.
 
-ghost use Rattle.std.specs.Prelude.{◌≡◌, ◌++◌, ◌∷◌, [], IfOk, option_map};
+ghost use Rattle.std.specs.Prelude.{◌≡◌, [], option_map};
 ghost use Rattle.fisca_calc.specs.Outcomes.{Answers, Tells};
 ghost use Rattle.fisca_run_file.specs.Moved as spec;
 ghost use Rattle.fisca_run_file.specs.Views.{said_axis as said_axis_view, said_list};
@@ -16,7 +16,7 @@ use fisca_num::Fraction;
 use fisca_situations::Situation;
 use fisca_tables::{DeclaredType, Tables, Variable};
 use fisca_time::{Period, Unit};
-use std::alloc::{AllocError, Global};
+use std::alloc::Global;
 use std::marker::Model;
 
 /// The inputs that axes move, in the order of the axes, seen as a list. Each has the variable, the member and the period of its axis, and 0 in
@@ -36,29 +36,11 @@ impl Model for MovedInputs {
 }
 
 impl MovedInputs {
-    /// None.
-    fn new(alloc: Global) -> MovedInputs
-        ensures { result ≡ [] }
-    {
-        MovedInputs {
-            items: Vec::new(alloc),
-        }
-    }
-
     /// The inputs in order.
     pub fn as_slice(&self) -> &[Given]
         ensures { result.now ≡ self.now }
     {
         self.items.as_slice()
-    }
-
-    /// One more.
-    fn with(self, given: Given) -> Result<MovedInputs, AllocError>
-        ensures { IfOk result (λ m. m ≡ self ++ given ∷ []) }
-    {
-        let mut items = self.items;
-        items.push(given).map_err(AllocError::from)?;
-        Ok(MovedInputs { items })
     }
 }
 
@@ -162,11 +144,11 @@ pub(crate) fn all_moved(
 ) -> Result<MovedInputs, RunFileFault>
     ensures { Tells (λ m. m) (spec.with_moved tables.now (situation_view situation.now).members default.now [] (said_list axes.now)) result }
 {
-    let mut moved = MovedInputs::new(alloc);
+    let mut items = Vec::new(alloc);
     for axis in axes {
-        moved = moved.with(moved_by(tables, situation, *default, axis)?)?;
+        items.push(moved_by(tables, situation, *default, axis)?)?;
     }
-    Ok(moved)
+    Ok(MovedInputs { items })
 }
 
 /// Whether this moves what one of these moves, or what an input says for another period.

@@ -1,12 +1,12 @@
 //! The axes of a run file in groups, as they are said.
 
-ghost use Rattle.std.specs.Prelude.{◌≡◌, ◌+◌, length, IfOk};
+ghost use Rattle.std.specs.Prelude.{◌≡◌, ◌+◌, length, sum, IfOk};
 ghost use Rattle.fisca_calc.specs.Outcomes.{Tells};
 ghost use Rattle.fisca_run_file.specs.SaidAxes as spec;
 ghost use Rattle.fisca_run_file.specs.Views.{said_axes as said_axes_view, said_list};
 ghost use Rattle.fisca_yaml.specs.Views.{node, items_view};
 
-use crate::said_axis::{SaidAxis, axis_said};
+use crate::said_axis::{SaidAxis, axis_said, bad_key};
 use fisca_calc::{RunFileFault, RunFileKind};
 use fisca_yaml::{Item, Tree};
 use std::alloc::Global;
@@ -19,16 +19,6 @@ pub(crate) struct SaidAxes<'t> {
     /// How many there are in each group.
     pub(crate) lengths: Vec<u32>,
     ghost grouped: { sum lengths.items ≡ length axes.items },
-}
-
-/// The fault of what has a wrong shape, at the line of `axes`.
-fn misshapen(key: usize) -> RunFileFault
-    ensures { result ≡ record { line = key; kind = RunFileKind.BadKey } }
-{
-    RunFileFault {
-        line: key,
-        kind: RunFileKind::BadKey,
-    }
 }
 
 /// The axes so far and one more.
@@ -94,7 +84,7 @@ fn with_group<'t>(
 {
     match tree {
         Tree::List(items) => with_list(key, said, items.as_slice()),
-        Tree::Null | Tree::Scalar { .. } | Tree::Map(_) => Err(misshapen(key)),
+        Tree::Null | Tree::Scalar { .. } | Tree::Map(_) => Err(bad_key(key)),
     }
 }
 
@@ -127,6 +117,6 @@ pub(crate) fn axes_said<'t>(
     };
     match tree {
         Tree::List(items) => with_groups(key, none, items.as_slice()),
-        Tree::Null | Tree::Scalar { .. } | Tree::Map(_) => Err(misshapen(key)),
+        Tree::Null | Tree::Scalar { .. } | Tree::Map(_) => Err(bad_key(key)),
     }
 }

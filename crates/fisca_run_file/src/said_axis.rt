@@ -13,7 +13,7 @@ use fisca_time::Period;
 use fisca_yaml::{Entry, Tree};
 
 /// An axis: of which variable and member, and what steps.
-#[derive(Clone, Copy, Debug)]
+#[derive(Clone, Copy)]
 pub(crate) struct SaidAxis<'t> {
     /// The line of its item.
     pub(crate) line: usize,
@@ -65,21 +65,18 @@ fn check_axis_keys(entries: &[Entry<'_>]) -> Result<(), RunFileFault>
 {
     for entry in entries {
         if !is_axis_key(entry.key.as_str(), &entry.value) {
-            return Err(RunFileFault {
-                line: entry.line,
-                kind: RunFileKind::BadKey,
-            });
+            return Err(bad_key(entry.line));
         }
     }
     Ok(())
 }
 
-/// The fault of a key that is missing.
-fn missing() -> RunFileFault
-    ensures { result ≡ record { line = 1; kind = RunFileKind.BadKey } }
+/// The fault of a key, or of what has another shape, on this line.
+pub(crate) fn bad_key(line: usize) -> RunFileFault
+    ensures { result ≡ record { line = line; kind = RunFileKind.BadKey } }
 {
     RunFileFault {
-        line: 1,
+        line,
         kind: RunFileKind::BadKey,
     }
 }
@@ -122,13 +119,13 @@ fn spec_said(tree: &Tree<'_>) -> Result<AxisSpec, RunFileFault>
     ensures { Answers (λ s. s) (spec.spec_said (node tree.now)) result }
 {
     let Some(count) = whole_at(tree, "count") else {
-        return Err(missing());
+        return Err(bad_key(1));
     };
     let Some(min) = number_at(tree, "min") else {
-        return Err(missing());
+        return Err(bad_key(1));
     };
     let Some(max) = number_at(tree, "max") else {
-        return Err(missing());
+        return Err(bad_key(1));
     };
     Ok(AxisSpec { count, min, max })
 }
@@ -139,7 +136,7 @@ fn axis_of<'t>(line: usize, tree: &'t Tree<'_>) -> Result<SaidAxis<'t>, RunFileF
     ensures { Answers said_axis_view (spec.axis_of line (node tree.now)) result }
 {
     let Some(name) = name_in(tree) else {
-        return Err(missing());
+        return Err(bad_key(1));
     };
     let spec = spec_said(tree)?;
     Ok(SaidAxis {
@@ -165,9 +162,6 @@ pub(crate) fn axis_said<'t>(
             check_axis_keys(entries.as_slice())?;
             axis_of(line, tree)
         }
-        Tree::Null | Tree::Scalar { .. } | Tree::List(_) => Err(RunFileFault {
-            line: key,
-            kind: RunFileKind::BadKey,
-        }),
+        Tree::Null | Tree::Scalar { .. } | Tree::List(_) => Err(bad_key(key)),
     }
 }

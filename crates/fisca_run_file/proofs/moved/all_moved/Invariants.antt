@@ -7,4 +7,4 @@ use Rattle.fisca_run_file.proofs.moved.all_moved.Given as goal
 abbrev pub invariant-loop-axis : goal.invariant-loop-axis
 invariant-loop-axis l =
     let members = (situation l.situation).members in
-    with_moved l.tables members l.default [] (said_list l.axes) ≡ with_moved l.tables members l.default l.moved (said_list (drop l.axis-index l.axes))
+    with_moved l.tables members l.default [] (said_list l.axes) ≡ with_moved l.tables members l.default l.items.items (said_list (drop l.axis-index l.axes))

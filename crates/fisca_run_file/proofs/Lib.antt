@@ -1,3 +1,4 @@
 pub mod Days
 pub mod Spaces
 mod Worked
+mod WorkedOverlaps

@@ -196,7 +196,7 @@ axis_of_the_second_person = rw (one, two, zero) refl
 
 columns_and_a_filter : read (codes "period: 2017-01\naxes: [[{name: salary, count: 3, min: 0, max: 1}]]\ncolumns: [rent, salary]\nfilter: [salary >= 3, owns==true]") ≡ Some (Ok (record { counts = (3 ∷ []) ∷ []; moved = key 0 0 january ∷ []; columns = key 1 0 january ∷ key 0 0 january ∷ []; conditions = key 0 0 january ∷ key 4 0 january ∷ []; neutral = none }))
 unfolding document block flow_value series with_person value_given dated_given variable_given named_given entry_given member_below section_by section_given members_in inputs_given reading_in reading_of asked_of moved_of_axes movement_at movement_of run_file_by run_file_of setting_in setting_of axis_of axis_said spec_said with_list
-columns_and_a_filter = rw (three, zero, one) refl
+columns_and_a_filter = rw (three, zero, one, three) refl
 
 neutralised_twice : read (codes "period: 2017-01\naxes: [[{name: salary, count: 3, min: 0, max: 1}]]\nneutralize: [rent, rent]") ≡ Some (Ok (record { counts = (3 ∷ []) ∷ []; moved = key 0 0 january ∷ []; columns = []; conditions = []; neutral = false ∷ true ∷ false ∷ false ∷ false ∷ false ∷ [] }))
 unfolding document block flow_value series with_person value_given dated_given variable_given named_given entry_given member_below section_by section_given members_in inputs_given reading_in reading_of asked_of moved_of_axes movement_at movement_of run_file_by run_file_of setting_in setting_of axis_of axis_said spec_said with_list
@@ -322,25 +322,9 @@ longer_period_without_sharing = rw (three, zero, one) refl
 
 -- Overlaps
 
-axes_of_one_input : read (codes "period: 2017-01\naxes:\n- [{name: salary, count: 3, min: 0, max: 1}]\n- [{name: salary, count: 3, min: 0, max: 1}]") ≡ fault 4 (kind.Axes axes.AxisOverlap)
-unfolding document block flow_value series with_person value_given dated_given variable_given named_given entry_given member_below section_by section_given members_in inputs_given reading_in reading_of asked_of moved_of_axes movement_at movement_of run_file_by run_file_of setting_in setting_of axis_of axis_said spec_said with_list
-axes_of_one_input = rw (three, zero, one) refl
-
 axes_for_ever : read (codes "axes:\n- [{name: height, count: 2, min: 0, max: 1}]\n- [{name: height, count: 2, min: 0, max: 1, period: 2017}]") ≡ fault 3 (kind.Axes axes.AxisOverlap)
 unfolding document block flow_value series with_person value_given dated_given variable_given named_given entry_given member_below section_by section_given members_in inputs_given reading_in reading_of asked_of moved_of_axes movement_at movement_of run_file_by run_file_of setting_in setting_of axis_of axis_said spec_said with_list
 axes_for_ever = rw (two, zero, one) refl
-
-axis_over_an_input : read (codes "input: {age: {2017-01: 7}}\naxes:\n- [{name: age, count: 3, min: 0, max: 1, period: 2017}]") ≡ fault 3 (kind.Axes axes.AxisOverlap)
-unfolding document block flow_value series with_person value_given dated_given variable_given named_given entry_given member_below section_by section_given members_in inputs_given reading_in reading_of asked_of moved_of_axes movement_at movement_of run_file_by run_file_of setting_in setting_of axis_of axis_said spec_said with_list
-axis_over_an_input = rw (seven, three, zero, one) refl
-
-axis_in_the_place_of_an_input : read (codes "input: {age: {2017: 7}}\naxes:\n- [{name: age, count: 3, min: 0, max: 1, period: 2017}]") ≡ Some (Ok (record { counts = (3 ∷ []) ∷ []; moved = key 2 0 year ∷ []; columns = []; conditions = []; neutral = none }))
-unfolding document block flow_value series with_person value_given dated_given variable_given named_given entry_given member_below section_by section_given members_in inputs_given reading_in reading_of asked_of moved_of_axes movement_at movement_of run_file_by run_file_of setting_in setting_of axis_of axis_said spec_said with_list
-axis_in_the_place_of_an_input = rw (three, zero, one, seven) refl
-
-axis_beside_another_month : read (codes "period: 2017-01\ninput: {salary: {2017-02: 7}}\naxes: [[{name: salary, count: 3, min: 0, max: 1}]]") ≡ Some (Ok (record { counts = (3 ∷ []) ∷ []; moved = key 0 0 january ∷ []; columns = []; conditions = []; neutral = none }))
-unfolding document block flow_value series with_person value_given dated_given variable_given named_given entry_given member_below section_by section_given members_in inputs_given reading_in reading_of asked_of moved_of_axes movement_at movement_of run_file_by run_file_of setting_in setting_of axis_of axis_said spec_said with_list
-axis_beside_another_month = rw (three, zero, one, seven) refl
 
 -- Columns come before conditions, and both after axes
 
@@ -369,7 +353,7 @@ unfolding document block flow_value series with_person value_given dated_given v
 order_of_bools = rw (three, zero, one) refl
 
 two_signs : read (codes "period: 2017-01\naxes: [[{name: salary, count: 3, min: 0, max: 1}]]\nfilter: salary > = 3") ≡ fault 3 kind.BadCondition
-unfolding document block flow_value series with_person value_given dated_given variable_given named_given entry_given member_below section_by section_given members_in inputs_given reading_in reading_of asked_of moved_of_axes movement_at movement_of run_file_by run_file_of setting_in setting_of axis_of axis_said spec_said with_list
+unfolding document block flow_value series with_person value_given dated_given variable_given named_given entry_given member_below section_by section_given members_in inputs_given reading_in reading_of asked_of moved_of_axes movement_at movement_of run_file_by run_file_of setting_in setting_of axis_of axis_said spec_said with_list number_of_literal number_of_parts
 two_signs = rw (three, zero, one) refl
 
 unknown_in_a_condition : read (codes "period: 2017-01\naxes: [[{name: salary, count: 3, min: 0, max: 1}]]\nfilter: nope>=3") ≡ fault 3 kind.BadCondition

@@ -6,7 +6,7 @@ use Rattle.fisca_run_file.specs.SaidAxes as said
 use Rattle.fisca_run_file.specs.declared.run_file.RunFile.{RunFile}
 use Rattle.fisca_run_file.specs.declared.movement.Movement.{Movement}
 use Rattle.fisca_run_file.specs.declared.said_axis.SaidAxis.{SaidAxis}
-use Rattle.fisca_run_file.specs.declared.said_axes.SaidAxes.{SaidAxes}
+use Rattle.fisca_run_file.specs.declared.said.SaidAxes.{SaidAxes}
 use Rattle.fisca_run_file.specs.declared.setting.Setting.{Setting}
 
 abbrev pub said_axis : SaidAxis → said.SaidAxis

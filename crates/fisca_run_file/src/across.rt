@@ -7,7 +7,6 @@ use fisca_inputs::Given;
 use fisca_time::Period;
 
 /// Whether two periods share a day.
-#[tactic(auto, using(crate::proofs::Days::shares_is))]
 fn shares_day(ours: Period, theirs: Period) -> bool
     ensures { result ≡ spec.shares_day ours theirs }
 {
@@ -25,9 +24,12 @@ fn is_across(variable: usize, member: u32, period: Period, given: &Given) -> boo
 pub(crate) fn meets(given: &[Given], variable: usize, member: u32, period: Period) -> bool
     ensures { result ≡ spec.meets given.now variable member period }
 {
-    given
-        .iter()
-        .any(|input| is_across(variable, member, period, input))
+    for input in given {
+        if is_across(variable, member, period, input) {
+            return true;
+        }
+    }
+    false
 }
 
 /// Whether a value is given for this variable and member, and for another period that shares a day with this one. The periods of an eternal
@@ -35,7 +37,10 @@ pub(crate) fn meets(given: &[Given], variable: usize, member: u32, period: Perio
 pub fn overlaps(given: &[Given], variable: usize, member: u32, period: Period) -> bool
     ensures { result ≡ spec.overlaps given.now variable member period }
 {
-    given
-        .iter()
-        .any(|input| is_across(variable, member, period, input) && input.period != period)
+    for input in given {
+        if is_across(variable, member, period, input) && input.period != period {
+            return true;
+        }
+    }
+    false
 }

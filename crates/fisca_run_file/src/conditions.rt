@@ -1,6 +1,6 @@
 //! The conditions of a filter.
 
-ghost use Rattle.std.specs.Prelude.{◌≡◌, [], ◌∷◌, Ok};
+ghost use Rattle.std.specs.Prelude.{◌≡◌, [], ◌∷◌, ◌++◌, Ok, OnOk};
 ghost use Rattle.fisca_calc.specs.Outcomes.{Answers, Tells};
 ghost use Rattle.fisca_params.specs.Results.{and_then};
 ghost use Rattle.fisca_run_file.specs.Conditions as spec;
@@ -14,7 +14,7 @@ use fisca_situations::Situation;
 use fisca_tables::Tables;
 use fisca_time::Period;
 use fisca_yaml::{Item, Tree};
-use std::alloc::Global;
+use std::alloc::{AllocError, Global};
 use std::marker::Model;
 
 /// Conditions in order, seen as a list.
@@ -60,6 +60,24 @@ fn condition_at(
     }
 }
 
+/// Puts a condition behind these.
+fn push_condition(items: &mut Vec<Condition>, condition: Condition) -> Result<(), AllocError>
+    ensures { OnOk result (items.new.items ≡ items.old.items ++ condition ∷ []) }
+{
+    let Condition {
+        key,
+        comparison,
+        constant,
+    } = condition;
+    items
+        .push(Condition {
+            key,
+            comparison,
+            constant,
+        })
+        .map_err(AllocError::from)
+}
+
 /// The conditions of a list.
 fn listed_conditions(
     alloc: Global,
@@ -73,7 +91,8 @@ fn listed_conditions(
     let mut found = Vec::new(alloc);
     for item in items {
         if let Tree::Scalar { text, line, .. } = &item.value {
-            found.push(condition_at(tables, situation, *default, *line, text.as_str())?)?;
+            let condition = condition_at(tables, situation, *default, *line, text.as_str())?;
+            push_condition(&mut found, condition)?;
         }
     }
     Ok(Conditions { items: found })
@@ -92,7 +111,7 @@ fn one_condition(
 {
     let condition = condition_at(tables, situation, default, line, text)?;
     let mut found = Vec::new(alloc);
-    found.push(condition)?;
+    push_condition(&mut found, condition)?;
     Ok(Conditions { items: found })
 }
 

@@ -6,7 +6,7 @@ ghost use Rattle.fisca_grid.specs.Grid.{groups_of};
 ghost use Rattle.fisca_run_file.specs.Grids as spec;
 ghost use Rattle.fisca_run_file.specs.Views.{said_axes as said_axes_view, said_list};
 
-use crate::said_axes::SaidAxes;
+use crate::said::SaidAxes;
 use crate::said_axis::SaidAxis;
 use fisca_calc::{RunFileFault, RunFileKind};
 use fisca_grid::{Axes, AxesFault, AxisSpec};
@@ -66,9 +66,7 @@ fn first_differing(axes: &[SaidAxis<'_>], lengths: &[u32]) -> Option<usize>
     let mut found = None;
     for length in lengths {
         let (group, others) = rest.split_at(*length as usize);
-        if found.is_none() {
-            found = differing_line(group);
-        }
+        found = found.or(differing_line(group));
         rest = others;
     }
     found

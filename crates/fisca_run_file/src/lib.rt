@@ -10,6 +10,7 @@ mod moved;
 mod movement;
 mod neutral;
 mod run_file;
+mod said;
 mod said_axes;
 mod said_axis;
 mod setting;

@@ -1,6 +1,6 @@
 //! The inputs that axes move.
 
-ghost use Rattle.std.specs.Prelude.{◌≡◌, [], option_map};
+ghost use Rattle.std.specs.Prelude.{◌≡◌, [], ◌∷◌, ◌++◌, OnOk, option_map};
 ghost use Rattle.fisca_calc.specs.Outcomes.{Answers, Tells};
 ghost use Rattle.fisca_run_file.specs.Moved as spec;
 ghost use Rattle.fisca_run_file.specs.Views.{said_axis as said_axis_view, said_list};
@@ -16,7 +16,7 @@ use fisca_num::Fraction;
 use fisca_situations::Situation;
 use fisca_tables::{DeclaredType, Tables, Variable};
 use fisca_time::{Period, Unit};
-use std::alloc::Global;
+use std::alloc::{AllocError, Global};
 use std::marker::Model;
 
 /// The inputs that axes move, in the order of the axes, seen as a list. Each has the variable, the member and the period of its axis, and 0 in
@@ -42,6 +42,28 @@ impl MovedInputs {
     {
         self.items.as_slice()
     }
+}
+
+/// Puts an input behind these.
+pub(crate) fn push_input(items: &mut Vec<Given>, input: Given) -> Result<(), AllocError>
+    ensures { OnOk result (items.new.items ≡ items.old.items ++ input ∷ []) }
+{
+    let Given {
+        variable,
+        member,
+        period,
+        value,
+        line,
+    } = input;
+    items
+        .push(Given {
+            variable,
+            member,
+            period,
+            value,
+            line,
+        })
+        .map_err(AllocError::from)
 }
 
 /// Whether values of this type are numbers.
@@ -146,7 +168,7 @@ pub(crate) fn all_moved(
 {
     let mut items = Vec::new(alloc);
     for axis in axes {
-        items.push(moved_by(tables, situation, *default, axis)?)?;
+        push_input(&mut items, moved_by(tables, situation, *default, axis)?)?;
     }
     Ok(MovedInputs { items })
 }

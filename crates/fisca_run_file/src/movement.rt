@@ -8,7 +8,8 @@ ghost use Rattle.fisca_yaml.specs.Views.{node};
 
 use crate::grids::grid_of;
 use crate::moved::{MovedInputs, all_moved, check_apart};
-use crate::said_axes::{SaidAxes, axes_said};
+use crate::said::SaidAxes;
+use crate::said_axes::axes_said;
 use crate::said_axis::SaidAxis;
 use crate::setting::Setting;
 use crate::sharing::check_sharing;

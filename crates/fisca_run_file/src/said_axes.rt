@@ -1,25 +1,16 @@
 //! The axes of a run file in groups, as they are said.
 
-ghost use Rattle.std.specs.Prelude.{◌≡◌, ◌+◌, length, sum, IfOk};
+ghost use Rattle.std.specs.Prelude.{◌≡◌, ◌+◌, length, IfOk};
 ghost use Rattle.fisca_calc.specs.Outcomes.{Tells};
 ghost use Rattle.fisca_run_file.specs.SaidAxes as spec;
 ghost use Rattle.fisca_run_file.specs.Views.{said_axes as said_axes_view, said_list};
 ghost use Rattle.fisca_yaml.specs.Views.{node, items_view};
 
+use crate::said::SaidAxes;
 use crate::said_axis::{SaidAxis, axis_said, bad_key};
 use fisca_calc::{RunFileFault, RunFileKind};
 use fisca_yaml::{Item, Tree};
 use std::alloc::Global;
-
-/// The axes of all groups, one after another, and how many there are in each.
-#[derive(Drop)]
-pub(crate) struct SaidAxes<'t> {
-    /// The axes.
-    pub(crate) axes: Vec<SaidAxis<'t>>,
-    /// How many there are in each group.
-    pub(crate) lengths: Vec<u32>,
-    ghost grouped: { sum lengths.items ≡ length axes.items },
-}
 
 /// The axes so far and one more.
 fn with_axis<'t>(

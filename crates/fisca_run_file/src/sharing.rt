@@ -7,8 +7,9 @@ ghost use Rattle.fisca_inputs.specs.Inputs.{key_given};
 ghost use Rattle.fisca_run_file.specs.Moved as spec;
 ghost use Rattle.fisca_situations.specs.Views.{situation as situation_view};
 
+use crate::moved::push_input;
 use fisca_calc::{RunFileFault, RunFileKind};
-use fisca_inputs::{Given, Inputs, SituationFault, SituationKind};
+use fisca_inputs::{Given, Inputs, SituationKind};
 use fisca_situations::Situation;
 use fisca_tables::Tables;
 use std::alloc::{AllocError, Global};
@@ -32,7 +33,7 @@ fn put_in(given: &mut Vec<Given>, input: Given) -> Result<(), AllocError>
             return Ok(());
         }
     }
-    given.push(input).map_err(AllocError::from)
+    push_input(given, input)
 }
 
 /// The inputs with these put in.
@@ -51,26 +52,6 @@ pub(crate) fn put_all_in(
     Ok(all)
 }
 
-/// What refuses the sharing of inputs, told of the line of `axes`.
-fn shared_or_fault(
-    key: usize,
-    shared: Result<Inputs, SituationFault>,
-) -> Result<(), RunFileFault>
-    ensures { Tells (λ _. []) (spec.shared_or_fault key shared) result }
-{
-    match shared {
-        Ok(_) => Ok(()),
-        Err(fault) if fault.kind == SituationKind::Memory => Err(RunFileFault {
-            line: 0,
-            kind: RunFileKind::Memory,
-        }),
-        Err(fault) => Err(RunFileFault {
-            line: key,
-            kind: RunFileKind::Situation(fault.kind),
-        }),
-    }
-}
-
 /// What refuses the inputs with those that axes move is told of the line of `axes`.
 pub(crate) fn check_sharing(
     alloc: Global,
@@ -85,6 +66,15 @@ pub(crate) fn check_sharing(
     let all = put_all_in(alloc, given, moved)?;
     let counts = situation.members.counts(alloc)?;
     let variables = tables.variables.as_slice();
-    let shared = Inputs::share(alloc, variables, counts.as_slice(), all.as_slice());
-    shared_or_fault(key, shared)
+    match Inputs::share(alloc, variables, counts.as_slice(), all.as_slice()) {
+        Ok(_) => Ok(()),
+        Err(fault) if fault.kind == SituationKind::Memory => Err(RunFileFault {
+            line: fault.line,
+            kind: RunFileKind::Memory,
+        }),
+        Err(fault) => Err(RunFileFault {
+            line: key,
+            kind: RunFileKind::Situation(fault.kind),
+        }),
+    }
 }

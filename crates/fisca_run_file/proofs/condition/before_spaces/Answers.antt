@@ -7,3 +7,6 @@ pub returns : goal.returns
 returns c =
     let none = strip_suffix_char 32 c.spaces.rest.now None c.in_default.ensures.cases (lit< tt) in
     sym (none_passed c.spaces.rest.now none) ∙ c.spaces.invariant.1
+
+pub spaces-preserved : goal.spaces-preserved
+spaces-preserved c = ?

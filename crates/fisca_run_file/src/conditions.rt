@@ -91,7 +91,16 @@ fn listed_conditions(
     let mut found = Vec::new(alloc);
     for item in items {
         if let Tree::Scalar { text, line, .. } = &item.value {
-            let condition = condition_at(tables, situation, *default, *line, text.as_str())?;
+            let Condition {
+                key,
+                comparison,
+                constant,
+            } = condition_at(tables, situation, *default, *line, text.as_str())?;
+            let condition = Condition {
+                key,
+                comparison,
+                constant,
+            };
             push_condition(&mut found, condition)?;
         }
     }
@@ -109,7 +118,16 @@ fn one_condition(
 ) -> Result<Conditions, RunFileFault>
     ensures { Tells (λ c. c) (and_then (spec.condition_or_fault line (spec.condition_of (known tables.now) (situation_view situation.now).members default text.now)) (λ x. Ok (x ∷ []))) result }
 {
-    let condition = condition_at(tables, situation, default, line, text)?;
+    let Condition {
+        key,
+        comparison,
+        constant,
+    } = condition_at(tables, situation, default, line, text)?;
+    let condition = Condition {
+        key,
+        comparison,
+        constant,
+    };
     let mut found = Vec::new(alloc);
     push_condition(&mut found, condition)?;
     Ok(Conditions { items: found })

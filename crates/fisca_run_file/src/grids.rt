@@ -62,12 +62,12 @@ fn first_differing(axes: &[SaidAxis<'_>], lengths: &[u32]) -> Option<usize>
     requires grouped { sum lengths.now ≡ length axes.now }
     ensures { result ≡ spec.first_differing (groups_of (said_list axes.now) lengths.now) }
 {
-    let mut rest = axes;
+    let mut start = 0;
     let mut found = None;
     for length in lengths {
-        let (group, others) = rest.split_at(*length as usize);
-        found = found.or(differing_line(group));
-        rest = others;
+        let end = start + *length as usize;
+        found = found.or(differing_line(&axes[start..end]));
+        start = end;
     }
     found
 }

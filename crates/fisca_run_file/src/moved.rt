@@ -168,7 +168,21 @@ pub(crate) fn all_moved(
 {
     let mut items = Vec::new(alloc);
     for axis in axes {
-        push_input(&mut items, moved_by(tables, situation, *default, axis)?)?;
+        let Given {
+            variable,
+            member,
+            period,
+            value,
+            line,
+        } = moved_by(tables, situation, *default, axis)?;
+        let input = Given {
+            variable,
+            member,
+            period,
+            value,
+            line,
+        };
+        push_input(&mut items, input)?;
     }
     Ok(MovedInputs { items })
 }

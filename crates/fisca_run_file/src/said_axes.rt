@@ -18,8 +18,8 @@ fn with_axis<'t>(
     axes: Vec<SaidAxis<'t>>,
     item: &'t Item<'_>,
 ) -> Result<Vec<SaidAxis<'t>>, RunFileFault>
-    ensures said { Tells (λ v. said_list v.items) (spec.with_axis key (said_list axes.items) item.now.line (node item.now.value)) result }
-    ensures one { IfOk result (λ v. length v.items ≡ length axes.items + 1) }
+    ensures said { Tells (λ v. said_list v.items) (spec.with_axis key (said_list axes.entry.items) item.now.line (node item.now.value)) result }
+    ensures one { IfOk result (λ v. length v.items ≡ length axes.entry.items + 1) }
 {
     let axis = axis_said(key, item.line, &item.value)?;
     let mut more = axes;
@@ -33,8 +33,8 @@ fn with_axes<'t>(
     axes: Vec<SaidAxis<'t>>,
     items: &'t [Item<'_>],
 ) -> Result<Vec<SaidAxis<'t>>, RunFileFault>
-    ensures said { Tells (λ v. said_list v.items) (spec.with_axes key (said_list axes.items) (items_view items.now)) result }
-    ensures many { IfOk result (λ v. length v.items ≡ length axes.items + length items.now) }
+    ensures said { Tells (λ v. said_list v.items) (spec.with_axes key (said_list axes.entry.items) (items_view items.now)) result }
+    ensures many { IfOk result (λ v. length v.items ≡ length axes.entry.items + length items.now) }
 {
     let mut more = axes;
     for item in items {
@@ -50,7 +50,7 @@ fn with_list<'t>(
     said: SaidAxes<'t>,
     items: &'t [Item<'_>],
 ) -> Result<SaidAxes<'t>, RunFileFault>
-    ensures { Tells said_axes_view (spec.with_list key (said_axes_view said) (items_view items.now)) result }
+    ensures { Tells said_axes_view (spec.with_list key (said_axes_view said.entry) (items_view items.now)) result }
 {
     let SaidAxes { axes, mut lengths } = said;
     // A list of so many items finds no memory.
@@ -71,7 +71,7 @@ fn with_group<'t>(
     said: SaidAxes<'t>,
     tree: &'t Tree<'_>,
 ) -> Result<SaidAxes<'t>, RunFileFault>
-    ensures { Tells said_axes_view (spec.with_group key (said_axes_view said) (node tree.now)) result }
+    ensures { Tells said_axes_view (spec.with_group key (said_axes_view said.entry) (node tree.now)) result }
 {
     match tree {
         Tree::List(items) => with_list(key, said, items.as_slice()),
@@ -85,7 +85,7 @@ fn with_groups<'t>(
     said: SaidAxes<'t>,
     items: &'t [Item<'_>],
 ) -> Result<SaidAxes<'t>, RunFileFault>
-    ensures { Tells said_axes_view (spec.with_groups key (said_axes_view said) (items_view items.now)) result }
+    ensures { Tells said_axes_view (spec.with_groups key (said_axes_view said.entry) (items_view items.now)) result }
 {
     let mut more = said;
     for item in items {

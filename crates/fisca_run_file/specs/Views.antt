@@ -1,5 +1,5 @@
 -- How definitions see what the code keeps of a run file.
-use Rattle.std.specs.Prelude.{List, map}
+use Rattle.std.specs.Prelude.{List, map, string_bytes}
 use Rattle.fisca_situations.specs.Views.{situation}
 use Rattle.fisca_run_file.specs.RunFiles as files
 use Rattle.fisca_run_file.specs.SaidAxes as said
@@ -10,7 +10,7 @@ use Rattle.fisca_run_file.specs.declared.said.SaidAxes.{SaidAxes}
 use Rattle.fisca_run_file.specs.declared.setting.Setting.{Setting}
 
 abbrev pub said_axis : SaidAxis → said.SaidAxis
-said_axis a = record { line = a.line; name = a.name.now; spec = a.spec; period = a.period; index = a.index }
+said_axis a = record { line = a.line; name = string_bytes a.name; spec = a.spec; period = a.period; index = a.index }
 
 abbrev pub said_list : List SaidAxis → List said.SaidAxis
 said_list = map said_axis

@@ -13,7 +13,7 @@ use fisca_grid::{Axes, AxesFault, AxisSpec};
 use std::alloc::{AllocError, Global};
 
 /// The steps of the axes.
-fn specs_of(alloc: Global, axes: &[SaidAxis<'_>]) -> Result<Vec<AxisSpec>, AllocError>
+fn specs_of(alloc: Global, axes: &[SaidAxis]) -> Result<Vec<AxisSpec>, AllocError>
     ensures { IfOk result (λ v. v.items ≡ spec.specs_of (said_list axes.now)) }
 {
     let mut specs = Vec::new(alloc);
@@ -24,7 +24,7 @@ fn specs_of(alloc: Global, axes: &[SaidAxis<'_>]) -> Result<Vec<AxisSpec>, Alloc
 }
 
 /// The line of the first axis whose count or bounds are outside the limits.
-fn bad_line(axes: &[SaidAxis<'_>]) -> Option<usize>
+fn bad_line(axes: &[SaidAxis]) -> Option<usize>
     ensures { result ≡ spec.bad_line (said_list axes.now) }
 {
     for axis in axes {
@@ -36,7 +36,7 @@ fn bad_line(axes: &[SaidAxis<'_>]) -> Option<usize>
 }
 
 /// The line of the first axis that has another count.
-fn other_line(count: u64, axes: &[SaidAxis<'_>]) -> Option<usize>
+fn other_line(count: u64, axes: &[SaidAxis]) -> Option<usize>
     ensures { result ≡ spec.other_line count (said_list axes.now) }
 {
     for axis in axes {
@@ -48,7 +48,7 @@ fn other_line(count: u64, axes: &[SaidAxis<'_>]) -> Option<usize>
 }
 
 /// The line of the first axis of a group that has not the count of its first.
-fn differing_line(group: &[SaidAxis<'_>]) -> Option<usize>
+fn differing_line(group: &[SaidAxis]) -> Option<usize>
     ensures { result ≡ spec.differing_line (said_list group.now) }
 {
     match group {
@@ -58,7 +58,7 @@ fn differing_line(group: &[SaidAxis<'_>]) -> Option<usize>
 }
 
 /// The same of groups of these lengths.
-fn first_differing(axes: &[SaidAxis<'_>], lengths: &[u32]) -> Option<usize>
+fn first_differing(axes: &[SaidAxis], lengths: &[u32]) -> Option<usize>
     requires grouped { sum lengths.now ≡ length axes.now }
     ensures { result ≡ spec.first_differing (groups_of (said_list axes.now) lengths.now) }
 {
@@ -73,7 +73,7 @@ fn first_differing(axes: &[SaidAxis<'_>], lengths: &[u32]) -> Option<usize>
 }
 
 /// The line of a fault of the axes.
-fn line_of(key: usize, said: &SaidAxes<'_>, fault: AxesFault) -> usize
+fn line_of(key: usize, said: &SaidAxes, fault: AxesFault) -> usize
     ensures { result ≡ spec.line_of key (said_axes_view said.now) fault }
 {
     match fault {
@@ -97,7 +97,7 @@ fn line_of(key: usize, said: &SaidAxes<'_>, fault: AxesFault) -> usize
 pub(crate) fn grid_of(
     alloc: Global,
     key: usize,
-    said: &SaidAxes<'_>,
+    said: &SaidAxes,
 ) -> Result<Axes, RunFileFault>
     ensures { Tells (λ a. a) (spec.grid_of key (said_axes_view said.now)) result }
 {

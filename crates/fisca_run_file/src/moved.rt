@@ -120,7 +120,7 @@ fn period_moved(variable: &Variable<'_>, period: Option<Period>) -> Option<Perio
 }
 
 /// A fault of an axis.
-fn fault_of(axis: &SaidAxis<'_>, fault: AxesFault) -> RunFileFault
+fn fault_of(axis: &SaidAxis, fault: AxesFault) -> RunFileFault
     ensures { result ≡ record { line = axis.now.line; kind = RunFileKind.Axes fault } }
 {
     RunFileFault {
@@ -134,11 +134,11 @@ fn moved_by(
     tables: &Tables<'_>,
     situation: &Situation,
     default: Option<Period>,
-    axis: &SaidAxis<'_>,
+    axis: &SaidAxis,
 ) -> Result<Given, RunFileFault>
     ensures { Answers (λ g. g) (spec.moved_by tables.now (situation_view situation.now).members default (said_axis_view axis.now)) result }
 {
-    let Some((variable, declared)) = variable_moved(tables, axis.name) else {
+    let Some((variable, declared)) = variable_moved(tables, axis.name.as_str()) else {
         return Err(fault_of(axis, AxesFault::UnknownVariable));
     };
     if axis.index >= u64::from(situation.members(declared.entity)) {
@@ -162,7 +162,7 @@ pub(crate) fn all_moved(
     tables: &Tables<'_>,
     situation: &Situation,
     default: &Option<Period>,
-    axes: &[SaidAxis<'_>],
+    axes: &[SaidAxis],
 ) -> Result<MovedInputs, RunFileFault>
     ensures { Tells (λ m. m) (spec.with_moved tables.now (situation_view situation.now).members default.now [] (said_list axes.now)) result }
 {

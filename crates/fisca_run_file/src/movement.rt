@@ -37,7 +37,7 @@ fn moved_in(
     key: usize,
     default: Option<Period>,
     setting: &Setting,
-    axes: &[SaidAxis<'_>],
+    axes: &[SaidAxis],
 ) -> Result<MovedInputs, RunFileFault>
     ensures { Tells (λ m. m) (spec.moved_in tables.now key default (setting_view setting.now) (said_list axes.now)) result }
 {
@@ -56,7 +56,7 @@ fn movement_of(
     key: usize,
     default: Option<Period>,
     setting: &Setting,
-    said: &SaidAxes<'_>,
+    said: &SaidAxes,
 ) -> Result<Movement, RunFileFault>
     ensures { Tells movement_view (spec.movement_of tables.now key default (setting_view setting.now) (said_axes_view said.now)) result }
 {

@@ -1,7 +1,7 @@
 //! An axis of a run file, as it is said.
 
 ghost use Rattle.std.specs.Prelude.{◌≡◌, [], option_map};
-ghost use Rattle.fisca_calc.specs.Outcomes.{Answers};
+ghost use Rattle.fisca_calc.specs.Outcomes.{Answers, Tells};
 ghost use Rattle.fisca_run_file.specs.SaidAxes as spec;
 ghost use Rattle.fisca_run_file.specs.Views.{said_axis as said_axis_view};
 ghost use Rattle.fisca_yaml.specs.Views.{node, entries_view};
@@ -11,14 +11,15 @@ use fisca_grid::AxisSpec;
 use fisca_num::Fraction;
 use fisca_time::Period;
 use fisca_yaml::{Entry, Tree};
+use std::alloc::Global;
 
 /// An axis: of which variable and member, and what steps.
-#[derive(Clone, Copy)]
-pub(crate) struct SaidAxis<'t> {
+#[derive(Drop)]
+pub(crate) struct SaidAxis {
     /// The line of its item.
     pub(crate) line: usize,
     /// The name of the variable.
-    pub(crate) name: &'t str,
+    pub(crate) name: String,
     /// The steps.
     pub(crate) spec: AxisSpec,
     /// The period, where it is not that of the file.
@@ -132,8 +133,8 @@ fn spec_said(tree: &Tree<'_>) -> Result<AxisSpec, RunFileFault>
 
 /// The axis of a map whose keys are right.
 #[tactic(auto, unfolding(crate::specs::SaidAxes::axis_of))]
-fn axis_of<'t>(line: usize, tree: &'t Tree<'_>) -> Result<SaidAxis<'t>, RunFileFault>
-    ensures { Answers said_axis_view (spec.axis_of line (node tree.now)) result }
+fn axis_of(alloc: Global, line: usize, tree: &Tree<'_>) -> Result<SaidAxis, RunFileFault>
+    ensures { Tells said_axis_view (spec.axis_of line (node tree.now)) result }
 {
     let Some(name) = name_in(tree) else {
         return Err(bad_key(1));
@@ -141,7 +142,7 @@ fn axis_of<'t>(line: usize, tree: &'t Tree<'_>) -> Result<SaidAxis<'t>, RunFileF
     let spec = spec_said(tree)?;
     Ok(SaidAxis {
         line,
-        name,
+        name: String::from_str(alloc, name)?,
         spec,
         period: period_at(tree),
         index: whole_at(tree, "index").unwrap_or(0),
@@ -150,17 +151,18 @@ fn axis_of<'t>(line: usize, tree: &'t Tree<'_>) -> Result<SaidAxis<'t>, RunFileF
 
 /// The axis of an item on this line. What is no map is told of the line of `axes`.
 #[tactic(auto, unfolding(crate::specs::SaidAxes::axis_said))]
-pub(crate) fn axis_said<'t>(
+pub(crate) fn axis_said(
+    alloc: Global,
     key: usize,
     line: usize,
-    tree: &'t Tree<'_>,
-) -> Result<SaidAxis<'t>, RunFileFault>
-    ensures { Answers said_axis_view (spec.axis_in key line (node tree.now)) result }
+    tree: &Tree<'_>,
+) -> Result<SaidAxis, RunFileFault>
+    ensures { Tells said_axis_view (spec.axis_in key line (node tree.now)) result }
 {
     match tree {
         Tree::Map(entries) => {
             check_axis_keys(entries.as_slice())?;
-            axis_of(line, tree)
+            axis_of(alloc, line, tree)
         }
         Tree::Null | Tree::Scalar { .. } | Tree::List(_) => Err(bad_key(key)),
     }

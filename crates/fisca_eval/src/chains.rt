@@ -21,7 +21,7 @@ fn same(left: &Key, right: &Key) -> bool
 }
 
 /// Whether the key stands among these.
-fn stands_in(keys: &[Key], key: &Key) -> bool
+pub(crate) fn stands_in(keys: &[Key], key: &Key) -> bool
     ensures { result ≡ keys_spec.has (map key_seen keys.now) (key_seen key.now) }
 {
     for one in keys {
@@ -60,7 +60,7 @@ fn first_again(keys: &[Key], last: &Key) -> Option<Key>
 }
 
 /// The key that was asked for first.
-fn first_of(keys: &[Key], key: &Key) -> Key
+pub(crate) fn first_of(keys: &[Key], key: &Key) -> Key
     ensures { key_seen result ≡ first_key (map key_seen keys.now) (key_seen key.now) }
 {
     match keys {

@@ -4,9 +4,12 @@
 mod chains;
 mod evaluator;
 mod fault;
+mod recalled;
+mod remembering;
 mod scene;
 mod values;
 mod work;
 
 pub use evaluator::Evaluator;
 pub use fault::EvalFault;
+pub use remembering::Remembering;

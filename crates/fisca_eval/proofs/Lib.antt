@@ -1,2 +1,3 @@
+pub mod Recalls
 pub mod Steps
 pub mod Worlds

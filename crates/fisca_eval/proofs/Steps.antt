@@ -44,7 +44,7 @@ told_on (Some f) one other h t = h f t
 
 -- Lengths
 
-so_long : {X Y : Type 0} (f : X → Y) (xs : List X) → length (map f xs) ≡ length xs
+pub so_long : {X Y : Type 0} (f : X → Y) (xs : List X) → length (map f xs) ≡ length xs
 so_long f [] = refl
 so_long f (x ∷ xs) = ap suc (so_long f xs)
 

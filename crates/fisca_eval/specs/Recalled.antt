@@ -1,18 +1,16 @@
 -- What is remembered where keys are worked out below one another.
-use Rattle.std.specs.Prelude.{◌≡◌, ⊤, ◌⊎◌, ℕ, List, [], ◌∷◌, ◌++◌, map, length, Option, Some, None, Result, Ok, Err}
-use Rattle.fisca_answers.specs.Answers.{Sources, most_keys}
+use Rattle.std.specs.Prelude.{◌≡◌, ⊤, ◌⊎◌, ℕ, suc, List, [], ◌∷◌, ◌++◌, map, Option, Some, None}
+use Rattle.fisca_answers.specs.Answers.{Sources}
 use Rattle.fisca_answers.specs.Inquiry.{Fault}
 use Rattle.fisca_answers.specs.Stacks.{left_below}
 use Rattle.fisca_heights.specs.Entries.{Entries, Remembered}
-use Rattle.fisca_heights.specs.Memory.{IsKnown, IsTrueMemory}
+use Rattle.fisca_heights.specs.Memory.{IsKnown}
 use Rattle.fisca_heights.specs.Stacks as stacks
-use Rattle.fisca_heights.specs.Work.{IsWork, Covered, Grows, PassedPath}
+use Rattle.fisca_heights.specs.Work.{IsWork, PassedPath}
 use Rattle.fisca_inputs.specs.Seen.{key_seen, value_seen}
 use Rattle.fisca_inputs.specs.declared.key.Key.{Key}
 use Rattle.fisca_meaning.specs.Dialogues as meaning
 use Rattle.fisca_recall.specs.declared.known.Known.{Known}
-use Rattle.fisca_eval.specs.Faults.{told}
-use Rattle.fisca_eval.specs.declared.fault.EvalFault.{EvalFault}
 
 -- what is told of an answer is so; want of memory tells nothing
 abbrev pub IfTold : Option Fault → Type 0 → Type 0
@@ -52,10 +50,10 @@ IsDoneBelow src entries keys key = (k : meaning.Key) → work_below src keys key
 
 -- with the last of these keys, the key itself
 abbrev pub IsKnownAt : Sources → List Key → Key → Known → Type 0
-IsKnownAt src keys key k = IsKnown src (1 + left_below (map key_seen keys)) (key_seen key) (value_seen k.value) k.height
+IsKnownAt src keys key k = IsKnown src (suc (left_below (map key_seen keys))) (key_seen key) (value_seen k.value) k.height
 
 abbrev pub work_at : Sources → List Key → Key → meaning.Key → Type 0
-work_at src keys key = IsWork src (1 + left_below (map key_seen keys)) (key_seen key)
+work_at src keys key = IsWork src (suc (left_below (map key_seen keys))) (key_seen key)
 
 abbrev pub IsDoneAt : Sources → Entries → List Key → Key → Type 0
 IsDoneAt src entries keys key = (k : meaning.Key) → work_at src keys key k → Remembered entries k

@@ -107,9 +107,10 @@ fn remember<R: Recall>(
     ensures kept { OnOk result (store.new.counts ≡ with_kept known.reads store.old.counts) }
     ensures lost { OnErr result (store.new.counts ≡ with_lost store.old.counts) }
 {
+    let reads = known.reads;
     match store.recall.keep(*key, known) {
         Ok(()) => {
-            store.counts.count_kept(known.reads);
+            store.counts.count_kept(reads);
             Ok(known)
         }
         Err(_) => {

@@ -93,25 +93,25 @@ fn remember<R: Recall>(
     scene: &Scene<'_, '_, '_>,
     store: &mut Store<R>,
     key: &Key,
-    known: Known,
-) -> Result<Known, EvalFault>
-    requires known { spec.IsKnownOf (scenes.sources_in scene.now) key.now known }
+    known: &Known,
+) -> Result<(), EvalFault>
+    requires known { spec.IsKnownOf (scenes.sources_in scene.now) key.now known.now }
     requires truth { IsTrueMemory (scenes.sources_in scene.now) (R.find store.old.recall) }
     requires formula { HasFormula (scenes.sources_in scene.now) (key_seen key.now) }
     requires work { spec.IsAllButItself (scenes.sources_in scene.now) (R.find store.old.recall) key.now }
-    ensures known { IfOk result (λ k. k ≡ known) }
     ensures fault { IfErr result (λ e. e ≡ EvalFault.Memory) }
     ensures truth { IsTrueMemory (scenes.sources_in scene.now) (R.find store.new.recall) }
-    ensures ok { OnOk result (R.find store.new.recall ≡ with_entry (R.find store.old.recall) (key_seen key.now) (entry_seen known)) }
+    ensures ok { OnOk result (R.find store.new.recall ≡ with_entry (R.find store.old.recall) (key_seen key.now) (entry_seen known.now)) }
     ensures err { OnErr result (R.find store.new.recall ≡ R.find store.old.recall) }
-    ensures kept { OnOk result (store.new.counts ≡ with_kept known.reads store.old.counts) }
+    ensures kept { OnOk result (store.new.counts ≡ with_kept known.now.reads store.old.counts) }
     ensures lost { OnErr result (store.new.counts ≡ with_lost store.old.counts) }
 {
+    let kept = *known;
     let reads = known.reads;
-    match store.recall.keep(*key, known) {
+    match store.recall.keep(*key, kept) {
         Ok(()) => {
             store.counts.count_kept(reads);
-            Ok(known)
+            Ok(())
         }
         Err(_) => {
             store.counts.count_lost();
@@ -198,7 +198,9 @@ fn by_formula<'r, R: Recall>(
         Ok(()) => {
             let worked = work_out(scene, store, machine, keys, variable, formula, key);
             let _ = keys.pop();
-            remember(scene, store, key, worked?)
+            let known = worked?;
+            remember(scene, store, key, &known)?;
+            Ok(known)
         }
         Err(_) => Err(EvalFault::Memory),
     }

@@ -92,7 +92,13 @@ impl<'r, 't, R: Recall> Remembering<'r, 't, R> {
         let situation = &self.situation;
         let scene = scene_of(self.rules, situation, self.neutral);
         let own = own_key(self.rules, key);
-        let known = value_below(&scene, &mut self.store, &mut self.machine, &mut self.keys, &own)?;
+        let known = value_below(
+            &scene,
+            &mut self.store,
+            &mut self.machine,
+            &mut self.keys,
+            &own,
+        )?;
         Ok(known.value)
     }
 

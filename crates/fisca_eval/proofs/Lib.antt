@@ -1,2 +1,4 @@
+pub mod Fitting
 pub mod Steps
+pub mod Told
 pub mod Worlds

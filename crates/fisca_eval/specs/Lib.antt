@@ -1,3 +1,4 @@
 pub mod Evaluators
 pub mod Faults
 pub mod Scenes
+pub mod Told

@@ -36,7 +36,7 @@ use Rattle.fisca_sources.proofs.Casts.{gives_then, cast_gives}
 
 -- What is known at the place of a variable
 
-type_at : (vs : List Written) (x : ℕ) (w : Written) → slice_get vs x ≡ Some w → type_in (slice_get (map known_variable vs) x) ≡ value_type w.value_type
+pub type_at : (vs : List Written) (x : ℕ) (w : Written) → slice_get vs x ≡ Some w → type_in (slice_get (map known_variable vs) x) ≡ value_type w.value_type
 type_at [] x w h = cc
 type_at (y ∷ vs) zero w h = let same : y ≡ w = cc in ap (λ (z : Written). value_type z.value_type) same
 type_at (y ∷ vs) (suc x) w h = type_at vs x w h
@@ -55,7 +55,7 @@ uncomputed_at (y ∷ vs) [] e x w h none = absurd e
 uncomputed_at (y ∷ vs) (ds ∷ more) e zero w h none = let same : y ≡ w = cc in e.0 (ap (λ (z : Written). value_type z.value_type) same ∙ none)
 uncomputed_at (y ∷ vs) (ds ∷ more) e (suc x) w h none = uncomputed_at vs more e.1 x w h none
 
-default_at : (es : List Choices) (vs : List Written) → AllDefaultsFit es vs → (x : ℕ) (w : Written) → slice_get vs x ≡ Some w → is_default es w.value_type w.default_value ≡ true
+pub default_at : (es : List Choices) (vs : List Written) → AllDefaultsFit es vs → (x : ℕ) (w : Written) → slice_get vs x ≡ Some w → is_default es w.value_type w.default_value ≡ true
 default_at es [] e x w h = cc
 default_at es (y ∷ vs) e zero w h = let same : y ≡ w = cc in subst (λ (z : Written). is_default es z.value_type z.default_value ≡ true) same e.0
 default_at es (y ∷ vs) e (suc x) w h = default_at es vs e.1 x w h
@@ -66,7 +66,7 @@ module _ (c : Tables) where
   typed_as : (d : DeclaredType) (x w : Input) → ◌≡◌ {A = Option Input} (Some x) (Some w) → is_typed c (value_type d) (value_seen x) ≡ true → is_typed c (value_type d) (value_seen w) ≡ true
   typed_as d x w e t = let same : x ≡ w = cc in subst (λ y. is_typed c (value_type d) (value_seen y) ≡ true) same t
 
-  default_typed : (d : DeclaredType) (e : DefaultValue) (w : Input) → is_default c.enums d e ≡ true → default_of e ≡ Some w → is_typed c (value_type d) (value_seen w) ≡ true
+  pub default_typed : (d : DeclaredType) (e : DefaultValue) (w : Input) → is_default c.enums d e ≡ true → default_of e ≡ Some w → is_typed c (value_type d) (value_seen w) ≡ true
   default_typed type.Float (default.Number n) w h k = typed_as type.Float (v.Number n) w k refl
   default_typed type.Int (default.Number n) w h k = typed_as type.Int (v.Number n) w k refl
   default_typed type.Bool (default.Bool b) w h k = typed_as type.Bool (v.Bool b) w k refl

@@ -1,0 +1,83 @@
+-- What an evaluator answers, as the code has it, is the answer of the key.
+use Rattle.std.proofs.Common.{◌≡◌, Option, Some, None, Result, Ok, Err, refl, sym, ap, subst, ◌∙◌}
+use Rattle.std.specs.Prelude.{◌≢◌}
+use Rattle.fisca_answers.specs.Answers.{answer}
+use Rattle.fisca_answers.specs.Inquiry as inquiry
+use Rattle.fisca_answers.specs.Inquiry.{Cause, Fault}
+use Rattle.fisca_calc.specs.Lines as lines
+use Rattle.fisca_inputs.specs.Seen.{key_of, key_seen, value_seen}
+use Rattle.fisca_inputs.specs.declared.given.Value.{Value}
+use Rattle.fisca_inputs.specs.declared.given.Value.TheVariants as v
+use Rattle.fisca_inputs.specs.declared.key.Key.{Key}
+use Rattle.fisca_lines.specs.declared.fault.RowFault.{RowFault}
+use Rattle.fisca_meaning.specs.Dialogues as meaning
+use Rattle.fisca_sources.specs.Simulations.{Simulation, normal_key, sources}
+use Rattle.fisca_eval.specs.Faults.{IsAnswer, told}
+use Rattle.fisca_eval.proofs.Steps.{is_told}
+use Rattle.fisca_eval.specs.Told.{IsReady, as_told, fault_of, row_fault, told_in, value_of}
+use Rattle.fisca_eval.specs.declared.fault.EvalFault.{EvalFault}
+use Rattle.fisca_eval.specs.declared.fault.EvalFault.TheVariants as fault
+
+-- What a row answers
+
+seen_back : (x : Value) → value_of (value_seen x) ≡ x
+seen_back (v.Number n) = refl
+seen_back (v.Bool b) = refl
+seen_back (v.Member i) = refl
+
+pub row_value : (a : Result meaning.Value Fault) (x : Value) → IsAnswer a (Ok x) → lines.IsAnswer {F = EvalFault} (as_told a) (Ok x)
+row_value a x h = ap as_told h ∙ ap Ok (seen_back x)
+
+pub row_faulty : (a : Result meaning.Value Fault) (e : EvalFault) → IsAnswer a (Err e) → lines.IsAnswer {F = EvalFault} (as_told a) (Err (row_fault e))
+row_faulty a (fault.ZeroDivisor k) h = ap as_told h
+row_faulty a (fault.TooWide k) h = ap as_told h
+row_faulty a (fault.ParameterUndefined k) h = ap as_told h
+row_faulty a (fault.BadScale k) h = ap as_told h
+row_faulty a (fault.NoMember k) h = ap as_told h
+row_faulty a (fault.PeriodMismatch k) h = ap as_told h
+row_faulty a (fault.PeriodOutOfRange k) h = ap as_told h
+row_faulty a (fault.Cycle k) h = ap as_told h
+row_faulty a (fault.TooDeep k) h = ap as_told h
+row_faulty a fault.Memory h = tt
+
+-- What is told
+
+back_seen : (x : meaning.Value) → x ≡ value_seen (value_of x)
+back_seen (meaning.number n) = refl
+back_seen (meaning.bool b) = refl
+back_seen (meaning.member i) = refl
+
+told_back : (c : Cause) (k : meaning.Key) → c ≢ inquiry.stuck → told (fault_of c (key_of k)) ≡ Some (inquiry.fault_at c k)
+told_back inquiry.zero_divisor k h = refl
+told_back inquiry.too_wide k h = refl
+told_back inquiry.parameter_undefined k h = refl
+told_back inquiry.bad_scale k h = refl
+told_back inquiry.no_member k h = refl
+told_back inquiry.period_mismatch k h = refl
+told_back inquiry.period_out_of_range k h = refl
+told_back inquiry.cycle k h = refl
+told_back inquiry.too_deep k h = refl
+told_back inquiry.stuck k h = absurd (h refl)
+
+abbrev IsMoving : Result meaning.Value Fault → Type 0
+IsMoving a = (f : Fault) → a ≡ Err f → f.cause ≢ inquiry.stuck
+
+told_so : (a : Result meaning.Value Fault) → IsMoving a → IsAnswer a (as_told a)
+told_so (Ok x) h = ap Ok (back_seen x)
+told_so (Err f) h = is_told (told (fault_of f.cause (key_of f.key))) f (Err f) (told_back f.cause f.key (h f refl)) refl
+
+some_none : (f : Fault) → ◌≡◌ {A = Option Fault} (Some f) None → ⊥
+some_none f e = cc
+
+never_memory : (a : Result meaning.Value Fault) → IsMoving a → as_told a ≢ Err fault.Memory
+never_memory (Ok x) h e = cc
+never_memory (Err f) h e =
+    let same : fault_of f.cause (key_of f.key) ≡ fault.Memory = cc in
+    some_none f (sym (told_back f.cause f.key (h f refl)) ∙ ap told same)
+
+module _ (m : Simulation) (moving : (k : meaning.Key) → IsMoving (answer (sources m) k)) (key : Key) where
+  pub is_answer : IsAnswer (answer (sources m) (normal_key m.rules (key_seen key))) (told_in m key)
+  is_answer = told_so (answer (sources m) (normal_key m.rules (key_seen key))) (moving (normal_key m.rules (key_seen key)))
+
+  pub is_no_want : told_in m key ≢ Err fault.Memory
+  is_no_want = never_memory (answer (sources m) (normal_key m.rules (key_seen key))) (moving (normal_key m.rules (key_seen key)))

@@ -1,15 +1,21 @@
 -- The inputs of a situation are of the types of their variables.
-use Rattle.std.proofs.Common.{◌≡◌, ℕ, zero, suc, List, [], ◌∷◌, map, slice_get, Bool, true, false, cond, not, Option, Some, None, Ok, refl, ap, sym, subst, ◌∙◌}
+use Rattle.std.proofs.Common.{◌≡◌, ℕ, zero, suc, List, [], ◌∷◌, map, slice_get, Bool, true, false, cond, not, Option, Some, None, Result, Ok, Err, codes, refl, ap, sym, subst, ◌∙◌}
 use Rattle.std.specs.Prelude.{◌&&◌}
+use Rattle.std.specs.Option.{unwrap_or}
 use Rattle.std.proofs.lemmas.Bool.{eqb-true}
 use Rattle.std.proofs.lemmas.Map.Entries.{lookup-filter-keys}
+use Rattle.fisca_calc.specs.Calc.{Calc, calc_by, calc_of, columns_in, default_in, file_checked, situation_in}
+use Rattle.fisca_calc.specs.Faults.{told}
+use Rattle.fisca_inputs.proofs.Typed.{then_ok}
 use Rattle.fisca_inputs.specs.Entries.{same_key, value_at}
 use Rattle.fisca_inputs.specs.Inputs.{is_marked, without_marked}
 use Rattle.fisca_inputs.specs.Rules.{Rule, default_of, rule_of}
 use Rattle.fisca_inputs.specs.Seen.{value_seen}
 use Rattle.fisca_inputs.specs.Typed.{DefaultsTyped, IsValueOf, is_typed}
+use Rattle.fisca_inputs.specs.declared.fault.SituationFault.{SituationFault}
 use Rattle.fisca_inputs.specs.declared.given.Value.{Value}
 use Rattle.fisca_inputs.specs.declared.key.Key.{Key}
+use Rattle.fisca_params.specs.Results.{and_then}
 use Rattle.fisca_rules.specs.Rules.{Rules, known_by}
 use Rattle.fisca_rules.specs.Safety.{DefaultsFit}
 use Rattle.fisca_rules.specs.Views.{rule_set}
@@ -23,7 +29,8 @@ use Rattle.fisca_tables.specs.declared.variable.Variable.{Variable}
 use Rattle.fisca_time.specs.Period.{Span}
 use Rattle.fisca_typing.specs.Tables as typing
 use Rattle.fisca_variables.specs.VariableForms.{written}
-use Rattle.fisca_yaml.specs.Node.{Node}
+use Rattle.fisca_yaml.specs.Find.{get, line_at}
+use Rattle.fisca_yaml.specs.Node.{Node, null}
 use Rattle.fisca_eval.proofs.Worlds.{tables_known}
 
 -- Defaults
@@ -54,6 +61,25 @@ read_fits rules safe default line n s h =
     let same = tables_known rules in
     let typed = subst (λ c. DefaultsTyped c (map rule_of rules.tables.variables)) (sym same) (defaults_typed rules safe.defaults) in
     subst (Fit s) same (situation_typed rules.tables default line n s typed h)
+
+-- A file of `fisca calc`
+
+told_ok : {X : Type 0} (r : Result X SituationFault) (x : X) → told r ≡ Ok x → r ≡ Ok x
+told_ok (Ok y) x h = let same : y ≡ x = cc in ap Ok same
+told_ok (Err f) x h = cc
+
+pub calc_fits : (rules : RuleSet) → IsSafeRules (rule_set rules) → (n : Node) (c : Calc) → calc_of rules.tables n ≡ Ok c → InputsFit (rule_set rules) c.situation
+unfolding calc_of calc_by
+calc_fits rules safe n c h =
+    let t = rules.tables in
+    let checked = then_ok (file_checked n) (λ _. and_then (situation_in t n) (calc_by t n)) c h in
+    let read = then_ok (situation_in t n) (calc_by t n) c checked.2 in
+    let found = then_ok (columns_in t read.0.members n) (λ ks. Ok (record { situation = read.0; columns = ks })) c read.2 in
+    let same : record { situation = read.0; columns = found.0 } ≡ c = cc in
+    let line = line_at (codes "input") 1 n in
+    let input = unwrap_or (get (codes "input") n) null in
+    subst (λ (x : Calc). InputsFit (rule_set rules) x.situation) same
+    (read_fits rules safe (default_in n) line input read.0 (told_ok (situation_of t (default_in n) line input) read.0 read.1))
 
 -- Neutralised variables
 

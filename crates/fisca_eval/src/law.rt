@@ -2,6 +2,7 @@
 
 ghost use Rattle.std.specs.Prelude.{◌≡◌, ◌≢◌, ℕ, Bool, List, Option, Ok, Err};
 ghost use Rattle.fisca_answers.specs.Answers.{answer};
+ghost use Rattle.fisca_calc.specs.Calc.{Calc, calc_of};
 ghost use Rattle.fisca_eval.specs.Faults.{IsAnswer};
 ghost use Rattle.fisca_eval.specs.Told.{IsReady, told_in};
 ghost use Rattle.fisca_inputs.specs.Seen.{key_seen};
@@ -39,7 +40,12 @@ pub fn inputs_fit()
     ensures { (rules : RuleSet) → IsSafeRules (rule_set rules) → (default : Option Span) (line : ℕ) (n : Node) (s : Situation) → situation_of rules.tables default line n ≡ Ok s → InputsFit (rule_set rules) s }
 {}
 
-/// Law: so are those that are left where variables are neutralised.
+/// Law: so is each input of a file of `fisca calc`.
+pub fn calc_inputs_fit()
+    ensures { (rules : RuleSet) → IsSafeRules (rule_set rules) → (n : Node) (c : Calc) → calc_of rules.tables n ≡ Ok c → InputsFit (rule_set rules) c.situation }
+{}
+
+/// Law: so are the inputs that are left where variables are neutralised.
 pub fn inputs_fit_when_neutralised()
     ensures { (r : Rules) (marks : List Bool) (s left : Situation) → InputsFit r s → left.inputs ≡ without_marked marks s.inputs → InputsFit r left }
 {}

@@ -12,4 +12,6 @@ mod work;
 
 pub use evaluator::Evaluator;
 pub use fault::EvalFault;
-pub use law::{answers_are_told, inputs_fit, inputs_fit_when_neutralised, rule_sets_are_safe};
+pub use law::{
+    answers_are_told, calc_inputs_fit, inputs_fit, inputs_fit_when_neutralised, rule_sets_are_safe,
+};

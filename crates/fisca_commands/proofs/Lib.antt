@@ -3,3 +3,4 @@ mod FirstModule
 mod Endings
 mod Calculated
 mod Named
+mod Telling

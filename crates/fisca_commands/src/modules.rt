@@ -36,6 +36,7 @@ fn read_file<'a>(alloc: Global, file: &'a SourceFile) -> Result<Module<'a>, Refu
 {
     match read_module(alloc, file.text()) {
         Ok(module) => Ok(module),
+        Err(fault) if fault.kind == Kind::Memory => Err(Refusal::Memory),
         Err(fault) => Err(refuse(alloc, file.path(), fault)),
     }
 }
@@ -72,6 +73,7 @@ fn build<'a>(
     let modules = read_modules(alloc, files)?;
     match RuleSet::build(alloc, parameters, modules) {
         Ok(rules) => Ok(rules),
+        Err(fault) if fault.kind == Kind::Memory => Err(Refusal::Memory),
         Err(BuildFault { module, line, kind }) => {
             let fault = FormulaFault { line, kind };
             Err(refuse(alloc, path_at(files, module), fault))
@@ -94,13 +96,9 @@ pub(crate) fn build_rules<'a>(
 
 /// The refusal of the module at this path for a fault.
 fn refuse(alloc: Global, path: &str, fault: FormulaFault) -> Refusal
-    ensures memory { fault.kind ≡ Kind.Memory → result ≡ Refusal.Memory }
-    ensures told { IsFaultOf (path.now, fault) result }
+    ensures { IsFaultOf (path.now, fault) result }
 {
     let FormulaFault { line, kind } = fault;
-    if kind == Kind::Memory {
-        return Refusal::Memory;
-    }
     match String::from_str(alloc, path) {
         Ok(path) => Refusal::Formula { path, line, kind },
         Err(_) => Refusal::Memory,

@@ -1,5 +1,5 @@
 use Rattle.std.proofs.Common.{◌≡◌, inr, refl, rules, string_bytes}
 use Rattle.fisca_commands.proofs.modules.refuse.Goals as goal
 
-pub returns-in-Ok-clause-told : goal.returns-in-Ok-clause-told
-returns-in-Ok-clause-told c = let same : string_bytes c.in-Ok.path ≡ c.args.path.now = search rules in inr (c.in-Ok.path, refl, same)
+pub returns-in-Ok : goal.returns-in-Ok
+returns-in-Ok c = let same : string_bytes c.in-Ok.path ≡ c.args.path.now = search rules in inr (c.in-Ok.path, refl, same)

@@ -3,13 +3,16 @@ use Rattle.std.proofs.Common.{◌≡◌, ◌<◌, ℕ, inl, inr, List, [], lengt
 use Rattle.std.proofs.lemmas.List.{append-nil}
 use Rattle.std.specs.Option.{option_map_or}
 use Rattle.fisca_calc.specs.Calc.{Calc, calc_of}
-use Rattle.fisca_eval.specs.Told.{IsReady}
+use Rattle.fisca_calc.specs.Lines.{column_row}
+use Rattle.fisca_eval.specs.Told.{IsReady, told_in}
 use Rattle.fisca_eval.specs.declared.fault.EvalFault.{EvalFault}
 use Rattle.fisca_lines.specs.Continued.{lines_before, limit_after}
 use Rattle.fisca_lines.specs.Lines.{AtEnd, FaultAt, first_fault, lines}
-use Rattle.fisca_lines.specs.Run.{told_end}
+use Rattle.fisca_inputs.specs.declared.key.Key.{Key}
+use Rattle.fisca_lines.specs.Run.{IsRun, told_end}
 use Rattle.fisca_lines.specs.declared.fault.RunEnd.{RunEnd}
 use Rattle.fisca_lines.specs.declared.fault.RunEnd.TheVariants.{End, More}
+use Rattle.fisca_lines.specs.declared.fault.RunFault.{RunFault}
 use Rattle.fisca_lines.specs.declared.fault.RunFault.TheVariants as run
 use Rattle.fisca_names.specs.declared.fault.BuildFault.{BuildFault}
 use Rattle.fisca_params.specs.Files.{in_path_order}
@@ -19,8 +22,10 @@ use Rattle.fisca_params.specs.Tree.{TreeNode}
 use Rattle.fisca_rules.specs.Rules.{Rules, rules_of}
 use Rattle.fisca_rules.specs.Views.{rule_set}
 use Rattle.fisca_rules.specs.declared.rule_set.RuleSet.{RuleSet}
+use Rattle.fisca_sources.specs.Simulations.{Simulation}
 use Rattle.fisca_sources.specs.Sound.{InputsFit, IsSafeRules}
 use Rattle.fisca_syntax.specs.Modules.{Statement}
+use Rattle.fisca_tables.specs.Known.{tables as known}
 use Rattle.fisca_yaml.specs.Node.{Node}
 use Rattle.fisca_commands.specs.Calc.{Calculation, IsAsked, IsColumnsRun, IsKeyTold, IsStopped, WritesFirst, lines_of, row_of, simulation_of}
 use Rattle.fisca_commands.specs.Modules.{FileFault, declared_by, modules_in, told_by}
@@ -53,6 +58,13 @@ ready files text c safe fit accepted asked =
     record { safe = is_safe; fit = fit c.rules is_safe asked.0 c.asked asked.2 }
 
 -- The run
+
+-- over an evaluator of what is asked for, and its columns
+pub columns_run : (c : Calculation) (m : Simulation) (columns : List Key) (old new : Option (List ℕ)) (answer : Result RunEnd (RunFault EvalFault)) → m ≡ simulation_of c → columns ≡ c.asked.columns
+    → IsRun (column_row (known c.rules.tables) m.situation.members (told_in m) columns) (length columns) 0 None old new answer → IsColumnsRun c old new answer
+columns_run c m columns old new answer same all is =
+    subst (λ (n : Simulation). IsRun (column_row (known c.rules.tables) n.situation.members (told_in n) c.asked.columns) (length c.asked.columns) 0 None old new answer) same
+      (subst (λ ks. IsRun (column_row (known c.rules.tables) m.situation.members (told_in m) ks) (length ks) 0 None old new answer) all is)
 
 no_more : (o : Option (ℕ × EvalFault)) (end : RunEnd) → option_map_or (λ fault. FaultAt fault.0 fault.1) o AtEnd ≡ told_end end → end ≡ End
 no_more None End e = refl

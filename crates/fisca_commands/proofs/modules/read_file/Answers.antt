@@ -1,4 +1,5 @@
-use Rattle.std.proofs.Common.{◌≢◌, rules, subst}
+use Rattle.std.proofs.Common.{◌≡◌, ◌≢◌, Err, rules, subst}
+use Rattle.fisca_syntax.specs.Reading.{module_of}
 use Rattle.fisca_tokens.specs.declared.fault.Kind.TheVariants.{Memory}
 use Rattle.fisca_commands.specs.Modules.{IsFaultOf}
 use Rattle.fisca_commands.proofs.Telling.{file_told}
@@ -7,4 +8,5 @@ use Rattle.fisca_commands.proofs.modules.read_file.Goals as goal
 pub returns-in-Err-2 : goal.returns-in-Err-2
 returns-in-Err-2 c =
     let known : c.in-Err.fault.kind ≢ Memory = search rules in
-    file_told c.args.file.now c.in-Err.fault c.refuse.result (c.in-Err.ensures.told known) (subst (λ path. IsFaultOf (path, c.in-Err.fault) c.refuse.result) c.path.ensures c.refuse.ensures)
+    let of_text = subst (λ text. module_of text ≡ Err c.in-Err.fault) c.text.ensures (c.in-Err.ensures.told known) in
+    file_told c.args.file.now c.in-Err.fault c.refuse.result of_text (subst (λ path. IsFaultOf (path, c.in-Err.fault) c.refuse.result) c.path.ensures c.refuse.ensures)

@@ -1,5 +1,5 @@
 -- What a refusal that names a file, a module or a key tells.
-use Rattle.std.proofs.Common.{◌≡◌, inl, inr, ℕ, List, Option, Some, None, Result, Ok, Err, option_map, slice_get, codes, string_bytes, refl, sym, ap, ◌∙◌, subst}
+use Rattle.std.proofs.Common.{◌≡◌, false, inl, inr, ℕ, List, Option, Some, None, Result, Ok, Err, option_map, slice_get, codes, string_bytes, refl, sym, ap, ◌∙◌, subst}
 use Rattle.fisca_columns.specs.Texts.{key_text}
 use Rattle.fisca_eval.specs.Faults.{told}
 use Rattle.fisca_eval.specs.declared.fault.EvalFault.{EvalFault}
@@ -18,8 +18,9 @@ use Rattle.fisca_syntax.specs.Modules.{Statement}
 use Rattle.fisca_syntax.specs.Reading.{module_of}
 use Rattle.fisca_tables.specs.Known.{tables as known}
 use Rattle.fisca_tokens.specs.declared.fault.FormulaFault.{FormulaFault}
-use Rattle.fisca_commands.specs.Calc.{key_told}
+use Rattle.fisca_commands.specs.Calc.{RefusesText, key_told}
 use Rattle.fisca_commands.specs.Modules.{FileFault, IsFaultOf, IsRefusalOf, declared_by, declared_in, path_or, rules_in, told_by, told_with}
+use Rattle.fisca_commands.specs.Refusal.{is_failed_write}
 use Rattle.fisca_commands.specs.RuleFiles.{IsToldAt, IsToldOf, StandsAt, path_of, place_of}
 use Rattle.fisca_commands.specs.declared.refusal.Refusal.{Refusal}
 
@@ -49,3 +50,9 @@ key_shown rules members fault key text is shown = by (told fault) is ∙ ap Some
         → option_map (λ f. key_text (codes " ") (known rules.tables) members (key_of f.key)) o ≡ Some (key_text (codes " ") (known rules.tables) members key)
     by None e = absurd (cc)
     by (Some f) e = let same : key_seen key ≡ f.key = cc in ap (λ k. Some (key_text (codes " ") (known rules.tables) members (key_of k))) (sym same)
+
+-- a text that is refused is no failed write
+pub text_unwritten : (rules : RuleSet) (text : List ℕ) (r : Refusal) → RefusesText rules text r → is_failed_write r ≡ false
+text_unwritten rules text r (inl (inl e)) = ap is_failed_write e
+text_unwritten rules text r (inl (inr is)) = ap is_failed_write is.1
+text_unwritten rules text r (inr is) = ap is_failed_write is.2

@@ -39,7 +39,8 @@ const CHECK_EXAMPLE: &str = "Example:
 
 const CALC_ABOUT: &str = "Work out values";
 
-const CALC_LONG: &str = "Work out values, one line each: the variable, the member, the period and the value, with tabs between them.
+const CALC_LONG: &str =
+    "Work out values, one line each: the variable, the member, the period and the value, with tabs between them.
 
 It reads the rule files of the folder as 'fisca check' does, and then the file, a map of these keys,
 of which each may be absent:

@@ -71,7 +71,11 @@ fn a_file_of_columns_ends_with_its_status(rt: HostRuntime) -> Result<(), Fail> {
         long.extend_from_slice(&[b'#'; 1024])?;
     }
     let table: [(&str, &[u8], u8); 8] = [
-        ("good", b"period: 2017-01\ninput: {salary: 4}\ncolumns: [share, salary]\n", 0),
+        (
+            "good",
+            b"period: 2017-01\ninput: {salary: 4}\ncolumns: [share, salary]\n",
+            0,
+        ),
         ("fault", b"period: 2017-01\ncolumns: [salary, share]\n", 4),
         ("yaml", b"period: [", 3),
         ("key", b"axes: []", 3),

@@ -111,7 +111,9 @@ fn worked_out_once(evaluator: &mut Evaluator<'_, '_>, columns: &[Key], before: u
     for key in columns {
         checksum = match evaluator.value(*key) {
             Ok(value) => with_value(checksum, value),
-            Err(fault) => checksum.rotate_left(7).wrapping_add(u64::from(fault.number())),
+            Err(fault) => checksum
+                .rotate_left(7)
+                .wrapping_add(u64::from(fault.number())),
         };
     }
     checksum

@@ -1,9 +1,8 @@
 //! The commands over texts and a sink in memory.
 
 use crate::fault::{Fault, push_refusal};
-use crate::words::number;
+use crate::words::{number, one};
 use crate::written::Written;
-use crate::words::one;
 use fisca_commands::{Refusal, Task, axes_words, calc_rules, check_rules, run_task};
 use fisca_lines::{MemorySink, RunEnd};
 use fisca_params::SourceFile;
@@ -137,12 +136,7 @@ fn shown(
 }
 
 /// What a task prints, its status and the line for standard error.
-fn run(
-    alloc: Global,
-    task: &Task<'_>,
-    files: &[SourceFile],
-    text: &str,
-) -> Result<String, Fault> {
+fn run(alloc: Global, task: &Task<'_>, files: &[SourceFile], text: &str) -> Result<String, Fault> {
     let mut sink = MemorySink::new(alloc);
     let ending = run_task(alloc, task, files, text, &mut sink);
     let mut shown = Written::new(alloc);

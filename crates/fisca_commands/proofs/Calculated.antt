@@ -64,7 +64,7 @@ pub columns_run : (c : Calculation) (m : Simulation) (columns : List Key) (old n
     → IsRun (column_row (known c.rules.tables) m.situation.members (told_in m) columns) (length columns) 0 None old new answer → IsColumnsRun c old new answer
 columns_run c m columns old new answer same all is =
     subst (λ (n : Simulation). IsRun (column_row (known c.rules.tables) n.situation.members (told_in n) c.asked.columns) (length c.asked.columns) 0 None old new answer) same
-      (subst (λ ks. IsRun (column_row (known c.rules.tables) m.situation.members (told_in m) ks) (length ks) 0 None old new answer) all is)
+    (subst (λ ks. IsRun (column_row (known c.rules.tables) m.situation.members (told_in m) ks) (length ks) 0 None old new answer) all is)
 
 no_more : (o : Option (ℕ × EvalFault)) (end : RunEnd) → option_map_or (λ fault. FaultAt fault.0 fault.1) o AtEnd ≡ told_end end → end ≡ End
 no_more None End e = refl

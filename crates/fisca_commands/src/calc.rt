@@ -48,12 +48,7 @@ fn read_file(alloc: Global, rules: &RuleSet<'_>, text: &str) -> Result<CalcFile,
 }
 
 /// The refusal of a column that has no value, with the text of the key that its fault is told of.
-fn tell(
-    alloc: Global,
-    rules: &RuleSet<'_>,
-    situation: &Situation,
-    fault: &EvalFault,
-) -> Refusal
+fn tell(alloc: Global, rules: &RuleSet<'_>, situation: &Situation, fault: &EvalFault) -> Refusal
     ensures { IsKeyTold rules.now (situation_view situation.now).members fault.now result }
 {
     let Some(key) = (*fault).key() else {
@@ -85,8 +80,7 @@ fn write_values<S: RowSink>(
 {
     let CalcFile { situation, columns } = file;
     let evaluator = Evaluator::new(alloc, rules, &[], situation);
-    let (evaluator, end) =
-        write_columns(alloc, &rules.tables, columns.as_slice(), evaluator, sink);
+    let (evaluator, end) = write_columns(alloc, &rules.tables, columns.as_slice(), evaluator, sink);
     match end {
         Ok(_) => Ok(()),
         Err(RunFault::Eval { fault, .. }) => {

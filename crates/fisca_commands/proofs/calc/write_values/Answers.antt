@@ -19,7 +19,7 @@ returns-in-Err-Eval-clause-answer g c =
     let run = columns_run asked (simulation_of c.new-evaluator.result) c.as_slice.result.now _ _ _ c.new-evaluator.ensures c.as_slice.ensures c.write_columns-evaluator.ensures.run in
     let members = ap (λ (s : Situation). s.members) c.situation.ensures ∙ c.write_columns-evaluator.ensures.members ∙ ap (λ (m : Simulation). m.situation.members) c.new-evaluator.ensures in
     without_value asked _ _ c.in-Err-Eval.field-0-0 c.in-Err-Eval.fault c.tell.result (subst (IsColumnsRun asked _ _) (c.in-Err-Eval.is ∙ ap Err c.in-Err-Eval.field-0-is) run)
-      (subst (λ ms. IsKeyTold c.args.rules.now ms c.in-Err-Eval.fault c.tell.result) members c.tell.ensures)
+    (subst (λ ms. IsKeyTold c.args.rules.now ms c.in-Err-Eval.fault c.tell.result) members c.tell.ensures)
 
 pub returns-in-Err-Write-clause-answer : goal.returns-in-Err-Write-clause-answer
 returns-in-Err-Write-clause-answer g c =

@@ -11,4 +11,4 @@ returns-in-Err-2 c =
     let fault = c.in-Err.fault in
     let known : fault.kind ≢ Memory = search rules in
     built_told c.args.parameters (map (λ f. f.now) c.args.files.now) (map statements c.in_ok-modules.modules.items) fault c.refuse.result c.in_ok-modules.ensures (c.in-Err.ensures known)
-      (subst (λ path. IsFaultOf (path, record { line = fault.line; kind = fault.kind }) c.refuse.result) c.path_at.ensures c.refuse.ensures)
+    (subst (λ path. IsFaultOf (path, record { line = fault.line; kind = fault.kind }) c.refuse.result) c.path_at.ensures c.refuse.ensures)

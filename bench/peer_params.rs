@@ -10,16 +10,16 @@ use std::time::Instant;
 const LIMIT: u64 = i64::MAX as u64;
 
 #[derive(Clone, Copy, Debug, PartialEq, Eq)]
-enum NumFault {
+pub enum NumFault {
     TooWide,
     ZeroDivisor,
     NotANumber,
 }
 
 #[derive(Clone, Copy, Debug, PartialEq, Eq, Hash)]
-struct Fraction {
-    numerator: i64,
-    denominator: u64,
+pub struct Fraction {
+    pub numerator: i64,
+    pub denominator: u64,
 }
 
 /// The greatest common divisor, by halving and differences.
@@ -65,7 +65,7 @@ fn checked(negative: bool, size: u128, denominator: u128) -> Result<Fraction, Nu
     Ok(Fraction { numerator: signed(negative, size as u64), denominator: denominator as u64 })
 }
 
-fn reduce(negative: bool, size: u128, denominator: u128) -> Result<Fraction, NumFault> {
+pub fn reduce(negative: bool, size: u128, denominator: u128) -> Result<Fraction, NumFault> {
     if denominator == 0 {
         return Err(NumFault::ZeroDivisor);
     }
@@ -74,9 +74,9 @@ fn reduce(negative: bool, size: u128, denominator: u128) -> Result<Fraction, Num
 }
 
 impl Fraction {
-    const ZERO: Fraction = Fraction { numerator: 0, denominator: 1 };
+    pub const ZERO: Fraction = Fraction { numerator: 0, denominator: 1 };
 
-    fn add(self, other: Fraction) -> Result<Fraction, NumFault> {
+    pub fn add(self, other: Fraction) -> Result<Fraction, NumFault> {
         if self.denominator == other.denominator {
             let sum = self.numerator as i128 + other.numerator as i128;
             if self.denominator == 1 {
@@ -102,7 +102,7 @@ impl Fraction {
         checked(sum < 0, size / divisor as u128, left as u128 * (other.denominator / divisor) as u128)
     }
 
-    fn mul(self, other: Fraction) -> Result<Fraction, NumFault> {
+    pub fn mul(self, other: Fraction) -> Result<Fraction, NumFault> {
         let negative = (self.numerator < 0) != (other.numerator < 0);
         let (a, c) = (self.numerator.unsigned_abs(), other.numerator.unsigned_abs());
         let (b, d) = (self.denominator, other.denominator);
@@ -114,11 +114,11 @@ impl Fraction {
         checked(negative, (a / over) as u128 * (c / under) as u128, (b / under) as u128 * (d / over) as u128)
     }
 
-    fn sub(self, other: Fraction) -> Result<Fraction, NumFault> {
+    pub fn sub(self, other: Fraction) -> Result<Fraction, NumFault> {
         self.add(Fraction { numerator: -other.numerator, ..other })
     }
 
-    fn from_decimal(text: &str) -> Result<Fraction, NumFault> {
+    pub fn from_decimal(text: &str) -> Result<Fraction, NumFault> {
         let bytes = text.as_bytes();
         let negative = bytes.first() == Some(&b'-');
         let bytes = match bytes {
@@ -230,7 +230,7 @@ impl PartialOrd for Fraction {
 /// How many places a fraction over this denominator has as a decimal.
 
 /// A day, as a number that is in order of time.
-type Day = u32;
+pub type Day = u32;
 
 /// The day of a text `YYYY-MM-DD`.
 fn day_of(text: &str) -> Option<Day> {
@@ -257,7 +257,7 @@ fn day_of(text: &str) -> Option<Day> {
 // Reading of YAML texts.
 
 #[derive(Clone, Copy, Debug, PartialEq, Eq)]
-enum Kind {
+pub enum Kind {
     TooLong,
     Tab,
     BadIndent,
@@ -272,7 +272,7 @@ enum Kind {
 
 /// Why a file is refused, and at which of its lines.
 #[derive(Clone, Copy, Debug)]
-struct Fault {
+pub struct Fault {
     kind: Kind,
     line: usize,
 }
@@ -823,7 +823,7 @@ enum ScaleKind {
 }
 
 #[derive(Clone, Copy, Debug, PartialEq)]
-enum CalcFault {
+pub enum CalcFault {
     BadScale,
     Undefined,
     Number(NumFault),
@@ -843,7 +843,7 @@ enum Content {
     Scale(Scale),
 }
 
-enum Value {
+pub enum Value {
     Number(Fraction),
     Bool(bool),
 }
@@ -853,12 +853,12 @@ struct Node {
     content: Content,
 }
 
-struct SourceFile {
-    path: String,
+pub struct SourceFile {
+    pub path: String,
     text: String,
 }
 
-struct ParamTree {
+pub struct ParamTree {
     nodes: Vec<Node>,
 }
 
@@ -1007,7 +1007,7 @@ fn parameter_path(path: &str) -> Option<&str> {
 }
 
 impl ParamTree {
-    fn read(files: &[SourceFile]) -> Result<ParamTree, (usize, Fault)> {
+    pub fn read(files: &[SourceFile]) -> Result<ParamTree, (usize, Fault)> {
         let mut order: Vec<usize> = (0..files.len()).collect();
         order.sort_by(|a, b| files[*a].path.cmp(&files[*b].path));
         let mut tree = ParamTree { nodes: vec![Node { children: BTreeMap::new(), content: Content::Folder }] };
@@ -1095,7 +1095,7 @@ impl ParamTree {
         self.nodes.iter().filter(|node| !matches!(node.content, Content::Folder | Content::Branch)).count()
     }
 
-    fn value_at(&self, node: usize, day: Day) -> Option<Value> {
+    pub fn value_at(&self, node: usize, day: Day) -> Option<Value> {
         match &self.nodes[node].content {
             Content::Numbers(dates) => Some(Value::Number(dates.value_at(day)?)),
             Content::Bools(dates) => Some(Value::Bool(dates.value_at(day)?)),
@@ -1103,7 +1103,7 @@ impl ParamTree {
         }
     }
 
-    fn calc(&self, node: usize, day: Day, base: Fraction) -> Result<Fraction, CalcFault> {
+    pub fn calc(&self, node: usize, day: Day, base: Fraction) -> Result<Fraction, CalcFault> {
         match &self.nodes[node].content {
             Content::Scale(scale) => scale.sum(day, base),
             _ => Err(CalcFault::Undefined),
@@ -1113,7 +1113,7 @@ impl ParamTree {
 
 // The measures.
 
-fn mixed(checksum: u64, number: Fraction) -> u64 {
+pub fn mixed(checksum: u64, number: Fraction) -> u64 {
     checksum.rotate_left(5).wrapping_add(number.numerator.unsigned_abs() ^ (number.denominator << 32))
 }
 
@@ -1125,14 +1125,14 @@ fn with_value(checksum: u64, value: Option<Value>) -> u64 {
     }
 }
 
-fn files_of(path: &str) -> Vec<SourceFile> {
+pub fn files_of(path: &str) -> Vec<SourceFile> {
     let text = std::fs::read_to_string(path).unwrap();
     let parts: Vec<&str> = text.split('\u{1}').collect();
     parts.chunks_exact(2).map(|pair| SourceFile { path: pair[0].to_string(), text: pair[1].to_string() }).collect()
 }
 
 /// The node of a parameter file.
-fn find(tree: &ParamTree, path: &str) -> Option<usize> {
+pub fn find(tree: &ParamTree, path: &str) -> Option<usize> {
     parameter_path(path)?.split('/').try_fold(0, |node, name| tree.child(node, name))
 }
 

@@ -35,9 +35,9 @@ pub struct Period {
 
 #[derive(Clone, Copy)]
 pub struct Day {
-    year: u16,
-    month: u8,
-    day: u8,
+    pub year: u16,
+    pub month: u8,
+    pub day: u8,
 }
 
 fn is_leap_year(year: u32) -> bool {
@@ -175,7 +175,7 @@ fn written_period(text: &str) -> Option<Form> {
 }
 
 impl Period {
-    const ETERNITY: Period = Period { key: 3 << 48 };
+    pub const ETERNITY: Period = Period { key: 3 << 48 };
 
     fn of(unit: Unit, first: u32, size: u16) -> Period {
         Period { key: (unit as u64) << 48 | u64::from(first) << 16 | u64::from(size) }
@@ -194,7 +194,7 @@ impl Period {
         (self.key >> 16) as u32
     }
 
-    fn size(self) -> u16 {
+    pub fn size(self) -> u16 {
         self.key as u16
     }
 
@@ -297,14 +297,14 @@ impl Period {
         }
     }
 
-    fn this_year(self) -> Result<Period, TimeFault> {
+    pub fn this_year(self) -> Result<Period, TimeFault> {
         if self.unit() == Unit::Eternity {
             return Err(TimeFault::OutOfRange);
         }
         Ok(Period::of(Unit::Year, 12 * (self.first() / 12), 1))
     }
 
-    fn first_month(self) -> Result<Period, TimeFault> {
+    pub fn first_month(self) -> Result<Period, TimeFault> {
         if self.unit() == Unit::Eternity {
             return Err(TimeFault::OutOfRange);
         }
@@ -318,11 +318,11 @@ impl Period {
         Period::from_month(Unit::Month, 3, i128::from(self.first()) - 3)
     }
 
-    fn offset(self, k: i64) -> Result<Period, TimeFault> {
+    pub fn offset(self, k: i64) -> Result<Period, TimeFault> {
         self.offset_by(k, self.unit())
     }
 
-    fn offset_by(self, k: i64, unit: Unit) -> Result<Period, TimeFault> {
+    pub fn offset_by(self, k: i64, unit: Unit) -> Result<Period, TimeFault> {
         if self.unit() == Unit::Eternity || unit == Unit::Eternity {
             return Err(TimeFault::OutOfRange);
         }

@@ -1,12 +1,12 @@
 -- Which commands the words can name where they ask for no help.
-use Rattle.std.proofs.Common.{◌≡◌, ◌≢◌, ◌⊎◌, ◌||◌, ◌&&◌, ℕ, Bool, true, false, cond, not, inl, inr, List, [], ◌∷◌, Option, Some, None, fold, find, option_map, option_and_then, is_some, refl, sym, ap, ◌∙◌, codes, subst}
+use Rattle.std.proofs.Common.{◌≡◌, ◌≢◌, ◌⊎◌, ◌||◌, ℕ, Bool, true, false, cond, not, inl, inr, List, [], ◌∷◌, Option, Some, None, fold, option_map, is_some, refl, sym, ap, ◌∙◌, codes, subst}
 use Rattle.std.proofs.lemmas.Bool.{true≢false}
 use Rattle.std.proofs.lemmas.Slice.Eq.{bytes_eq-Decides}
 use Rattle.std.specs.Str.{bytes_eq}
 use Rattle.std.specs.List.{slice_index_or}
 use Rattle.clap.specs.Lexer.{long_of, short_of}
-use Rattle.clap.specs.Walk.{Text, Rule, Row, Held, Names, Outcome, Step, Waiting, Walk, next, trailing, subcommand, value, idle, option, positional, done, waits, plain, refused, answers_to, after_flag, after_step, arg_by_index, arg_by_long, bundle, long_met, long_or_other, nothing_held, plain_word, short_or_plain, subcommand_met, subcommand_or_other, to_positional, walk_from, walked, walked_from, word_met, stop_after}
-use Rattle.clap.specs.Simple.{App, Shape, argument_words, built, entered, label_of, names_of, rows_at, subcommand_of, subcommand_rows, HasMatchesOf}
+use Rattle.clap.specs.Walk.{Text, Rule, Held, Names, Outcome, Step, Waiting, Walk, next, trailing, subcommand, value, idle, option, positional, done, waits, plain, refused, after_flag, after_step, arg_by_index, arg_by_long, bundle, long_met, long_or_other, nothing_held, plain_word, short_or_plain, subcommand_met, subcommand_or_other, to_positional, walk_from, walked, walked_from, word_met, stop_after}
+use Rattle.clap.specs.Simple.{App, Shape, argument_words, built, entered, names_of, rows_at, subcommand_of, subcommand_rows, HasMatchesOf}
 use Rattle.clap.specs.Kinds.{Kinds, or_else}
 use Rattle.std.specs.Prelude.{Box}
 use Rattle.std.specs.Box.{box_value}
@@ -15,7 +15,7 @@ use Rattle.clap.specs.declared.parser.matches.ArgMatches.{ArgMatches}
 use Rattle.clap.specs.declared.parser.matches.ArgMatches.TheViews.{out-ArgMatches, out-SubCommand}
 use Rattle.clap.specs.declared.parser.matches.SubCommand.{SubCommand}
 use Rattle.fisca.proofs.Parses.{no_fault}
-use Rattle.clap.specs.Faults.{fault_of, is_simple_and_free, other_fault, step_fault, turn_fault, walk_fault, word_fault}
+use Rattle.clap.specs.Faults.{fault_of, is_simple_and_free, other_fault, turn_fault, walk_fault, word_fault}
 use Rattle.clap.specs.declared.error.kind.ErrorKind.TheVariants as kind
 use Rattle.fisca.specs.CommandLine.{fisca_app}
 
@@ -110,7 +110,7 @@ walk_no_help s names enabled (word ∷ words) w goes none =
 -- a command of the program, but for its `help`
 abbrev IsNamed : Option Text → Type 0
 IsNamed None = Unit {0}
-IsNamed (Some name) = (name ≡ codes "check") ⊎ (name ≡ codes "axes")
+IsNamed (Some name) = (name ≡ codes "check") ⊎ ((name ≡ codes "calc") ⊎ ((name ≡ codes "test") ⊎ ((name ≡ codes "run") ⊎ (name ≡ codes "axes"))))
 
 swapped : (one other : Text) → bytes_eq one other ≡ false → bytes_eq other one ≡ false
 swapped one other differ = go (bytes_eq other one) refl
@@ -122,22 +122,25 @@ swapped one other differ = go (bytes_eq other one) refl
         let back : bytes_eq one other ≡ true = (bytes_eq-Decides one other).1 (sym same) in
         absurd (true≢false (sym back ∙ differ))
 
--- the commands as built: `check`, `axes` and `help`
+-- the commands as built: `check`, `calc`, `test`, `run`, `axes` and `help`
 abbrev sub : ℕ → Shape
 sub place = slice_index_or (built fisca_app).subs place (built fisca_app).top
 
 entered_named : (stop : Option (Text × List Text)) → IsNoHelp stop → IsNamed (option_map (λ command. command.0) (entered (built fisca_app) stop))
 entered_named None other = tt
-entered_named (Some stop) other = go (bytes_eq (codes "check") stop.0) (bytes_eq (codes "axes") stop.0) (bytes_eq (codes "help") stop.0) (swapped stop.0 (codes "help") other)
+entered_named (Some stop) other = go (bytes_eq (codes "check") stop.0) (bytes_eq (codes "calc") stop.0) (bytes_eq (codes "test") stop.0) (bytes_eq (codes "run") stop.0) (bytes_eq (codes "axes") stop.0) (bytes_eq (codes "help") stop.0) (swapped stop.0 (codes "help") other)
   where
-    go : (check axes help : Bool) → help ≡ false
-        → IsNamed (option_map (λ command. command.0) (option_map (λ s. rows_at s stop.1) (cond (check || false) (Some (sub 0)) (cond (axes || false) (Some (sub 1)) (cond (help || false) (Some (sub 2)) None)))))
-    go true axes help none = inl refl
-    go false true help none = inr refl
-    go false false true none = absurd (true≢false none)
-    go false false false none = tt
+    go : (check calc test run axes help : Bool) → help ≡ false
+        → IsNamed (option_map (λ command. command.0) (option_map (λ s. rows_at s stop.1) (cond (check || false) (Some (sub 0)) (cond (calc || false) (Some (sub 1)) (cond (test || false) (Some (sub 2)) (cond (run || false) (Some (sub 3)) (cond (axes || false) (Some (sub 4)) (cond (help || false) (Some (sub 5)) None))))))))
+    go true calc test run axes help none = inl refl
+    go false true test run axes help none = inr (inl refl)
+    go false false true run axes help none = inr (inr (inl refl))
+    go false false false true axes help none = inr (inr (inr (inl refl)))
+    go false false false false true help none = inr (inr (inr (inr refl)))
+    go false false false false false true none = absurd (true≢false none)
+    go false false false false false false none = tt
 
--- words without a fault name `check` or `axes`
+-- words without a fault name `check`, `calc`, `test`, `run` or `axes`
 named : (words : List Text) → fault_of fisca_app words ≡ [] → IsNamed (option_map (λ command. command.0) (subcommand_of fisca_app words))
 named words none =
     let app = built fisca_app in
@@ -150,10 +153,19 @@ module _ {Z : Type 0} where
   same_name (Some b) = refl
 
 pub no_other : (app : App) (words : List Text) (m : ArgMatches) (name : Text) → app ≡ fisca_app → (is_simple_and_free app ≡ true → fault_of app words ≡ []) → HasMatchesOf app words m
-    → Some name ≡ subcommand_name_of m → name ≢ codes "check" → name ≢ codes "axes" → ⊥
-no_other app words m name is none matches met no_check no_axes = elim told [
+    → Some name ≡ subcommand_name_of m → name ≢ codes "check" → name ≢ codes "calc" → name ≢ codes "test" → name ≢ codes "run" → name ≢ codes "axes" → ⊥
+no_other app words m name is none matches met no_check no_calc no_test no_run no_axes = elim told [
   | inl e ↦ no_check e
-  | inr e ↦ no_axes e
+  | inr later ↦ elim later [
+    | inl e ↦ no_calc e
+    | inr rest ↦ elim rest [
+      | inl e ↦ no_test e
+      | inr last ↦ elim last [
+        | inl e ↦ no_run e
+        | inr e ↦ no_axes e
+      ]
+    ]
+  ]
 ]
   where
     faultless : fault_of fisca_app words ≡ []
@@ -162,5 +174,5 @@ no_other app words m name is none matches met no_check no_axes = elim told [
     found : HasMatchesOf fisca_app words m
     found = subst (λ (a : App). HasMatchesOf a words m) is matches
 
-    told : (name ≡ codes "check") ⊎ (name ≡ codes "axes")
+    told : (name ≡ codes "check") ⊎ ((name ≡ codes "calc") ⊎ ((name ≡ codes "test") ⊎ ((name ≡ codes "run") ⊎ (name ≡ codes "axes"))))
     told = subst IsNamed (ap (option_map (λ command. command.0)) (sym (found refl).1) ∙ same_name (out-ArgMatches m).subcommand ∙ sym met) (named words faultless)

@@ -35,14 +35,6 @@ impl<'a, R: Files + AllocGlobal + Clone + Drop> DiskFolder<'a, R> {
             Err(_) => false,
         }
     }
-
-    /// Whether a path of the machine leads to a regular file.
-    fn leads_to_file(&self, path: &str) -> bool {
-        match fs::metadata(self.rt, path) {
-            Ok(found) => found.is_file(),
-            Err(_) => false,
-        }
-    }
 }
 
 impl<R: Files + AllocGlobal + Clone + Drop> RuleFolder for DiskFolder<'_, R> {
@@ -74,18 +66,35 @@ impl<R: Files + AllocGlobal + Clone + Drop> RuleFolder for DiskFolder<'_, R> {
 
     fn bytes(&self, path: &str, most: u64) -> Result<Option<Vec<u8>>, AllocError> {
         let whole = self.whole(path)?;
-        if !self.leads_to_file(whole.as_str()) {
-            return Ok(None);
-        }
-        let file = match fs::open(self.rt, whole.as_str()) {
-            Ok(file) => file,
-            Err(error) => return none_for(error.kind()),
-        };
-        let mut bytes = Vec::new(self.rt.alloc());
-        match file.take(most).read_to_end(&mut bytes) {
-            Ok(_) => Ok(Some(bytes)),
-            Err(error) => none_for(error.kind()),
-        }
+        read_bytes(self.rt, whole.as_str(), most)
+    }
+}
+
+/// The first `most` bytes of a regular file at a path of this machine; `None` where it cannot be read. Memory is its only error.
+pub fn read_bytes<R: Files + AllocGlobal + Clone + Drop>(
+    rt: &R,
+    path: &str,
+    most: u64,
+) -> Result<Option<Vec<u8>>, AllocError> {
+    if !leads_to_file(rt, path) {
+        return Ok(None);
+    }
+    let file = match fs::open(rt, path) {
+        Ok(file) => file,
+        Err(error) => return none_for(error.kind()),
+    };
+    let mut bytes = Vec::new(rt.alloc());
+    match file.take(most).read_to_end(&mut bytes) {
+        Ok(_) => Ok(Some(bytes)),
+        Err(error) => none_for(error.kind()),
+    }
+}
+
+/// Whether a path of the machine leads to a regular file.
+fn leads_to_file<R: Files + AllocGlobal + Clone + Drop>(rt: &R, path: &str) -> bool {
+    match fs::metadata(rt, path) {
+        Ok(found) => found.is_file(),
+        Err(_) => false,
     }
 }
 

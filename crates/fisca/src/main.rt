@@ -6,10 +6,10 @@ mod task;
 
 use clap::error::ErrorKind;
 use fisca_commands::{Ending, Task, run_task};
-use fisca_folder::{FolderFault, read_rules};
+use fisca_folder::{FolderFault, LONGEST, read_rules, text_of_file};
 use fisca_lines::StreamSink;
 use fisca_params::SourceFile;
-use folder::DiskFolder;
+use folder::{DiskFolder, read_bytes};
 use std::io::{BufWriter, Write};
 use std::process::ExitCode;
 use std::{env, io};
@@ -65,24 +65,46 @@ fn print_text(rt: &HostRuntime, error: &clap::Error) -> u8 {
     }
 }
 
-/// Runs a task over the files of the folder that it names, if it names one, and answers the exit status.
+/// Runs a task over the files of the folder and the file that it names, if it names any, and answers the exit status.
 fn run_task_of(rt: &HostRuntime, task: &Task<'_>) -> u8 {
     match task {
-        Task::Check { rules } => match read_rules(rt.alloc(), &DiskFolder::new(rt, rules)) {
-            Ok(files) => run_over(rt, task, files.as_slice()),
-            Err(fault) => tell_folder(rt, rules, fault),
-        },
-        Task::Axes { .. } => run_over(rt, task, &[]),
+        Task::Check { rules } => run_in(rt, task, rules, None),
+        Task::Calc { rules, file } | Task::Test { rules, file } | Task::Run { rules, file, .. } => {
+            run_in(rt, task, rules, Some(*file))
+        }
+        Task::Axes { .. } => run_over(rt, task, &[], ""),
     }
 }
 
-/// Runs a task over these files, and answers the exit status.
-fn run_over(rt: &HostRuntime, task: &Task<'_>, files: &[SourceFile]) -> u8 {
+/// Runs a task over the files of a folder and its own file, if it has one, and answers the exit status.
+fn run_in(rt: &HostRuntime, task: &Task<'_>, rules: &str, file: Option<&str>) -> u8 {
+    match read_all(rt, rules, file) {
+        Ok((files, text)) => run_over(rt, task, files.as_slice(), text.as_str()),
+        Err(fault) => tell_folder(rt, rules, fault),
+    }
+}
+
+/// The files of a folder, and then the text of a file, if there is one.
+fn read_all(
+    rt: &HostRuntime,
+    rules: &str,
+    file: Option<&str>,
+) -> Result<(Vec<SourceFile>, String), FolderFault> {
+    let files = read_rules(rt.alloc(), &DiskFolder::new(rt, rules))?;
+    let text = match file {
+        Some(path) => text_of_file(rt.alloc(), path, read_bytes(rt, path, LONGEST + 1)?)?,
+        None => String::new(rt.alloc()),
+    };
+    Ok((files, text))
+}
+
+/// Runs a task over these files and this text, and answers the exit status.
+fn run_over(rt: &HostRuntime, task: &Task<'_>, files: &[SourceFile], text: &str) -> u8 {
     let Ok(writer) = BufWriter::new(rt.alloc(), io::writer(rt)) else {
         return tell(rt, OUT_OF_MEMORY, NO_MEMORY);
     };
     let mut sink = StreamSink::new(writer);
-    let ending = run_task(rt.alloc(), task, files, &mut sink);
+    let ending = run_task(rt.alloc(), task, files, text, &mut sink);
     finish(rt, sink, &ending)
 }
 
@@ -97,7 +119,7 @@ fn finish<W: Write + Drop>(rt: &HostRuntime, mut sink: StreamSink<W>, ending: &E
     }
 }
 
-/// Tells why the rule files could not be read, and answers the status.
+/// Tells why the files could not be read, and answers the status.
 fn tell_folder(rt: &HostRuntime, rules: &str, fault: FolderFault) -> u8 {
     match fault.line(rt.alloc(), rules) {
         Ok(line) => tell(rt, line.as_str(), fault.status()),

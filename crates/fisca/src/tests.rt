@@ -3,6 +3,8 @@
 use super::*;
 use fisca_commands::Refusal;
 use std::alloc::{AllocError, Global};
+use std::fs;
+use std::test::Fail;
 
 /// The words of a command line, between single spaces.
 pub(crate) fn words_of(alloc: Global, line: &str) -> Result<Vec<String>, AllocError> {
@@ -26,6 +28,14 @@ fn each_command_line_ends_with_its_status(rt: HostRuntime) -> Result<(), AllocEr
         ("fisca axes salary=7..9/0", 3),
         ("fisca axes salary=0..1000000001/2", 3),
         ("fisca axes", 2),
+        ("fisca calc", 2),
+        ("fisca calc rules", 2),
+        ("fisca calc --help", 0),
+        ("fisca calc none none.yaml", 5),
+        ("fisca run", 2),
+        ("fisca run rules", 2),
+        ("fisca run --help", 0),
+        ("fisca run none none.yaml", 5),
         ("fisca", 2),
         ("fisca --help", 0),
         ("fisca axes --help", 0),
@@ -34,6 +44,86 @@ fn each_command_line_ends_with_its_status(rt: HostRuntime) -> Result<(), AllocEr
     for (line, status) in table {
         let words = words_of(rt.alloc(), line)?;
         assert_eq!(rt; run_words(&rt, words.as_slice()), status, "{line}");
+    }
+    Ok(())
+}
+
+/// The modules of a rule set with one entity and two variables.
+const PERSON: &str = "Person = build_entity(key='person', plural='persons', is_person=True)\n";
+
+const VARIABLES: &str = "class salary(Variable):
+    value_type = float
+    entity = Person
+    definition_period = MONTH
+
+class share(Variable):
+    value_type = float
+    entity = Person
+    definition_period = MONTH
+
+    def formula(person, period):
+        return 1 / person('salary', period)
+";
+
+#[test]
+fn a_file_of_columns_ends_with_its_status(rt: HostRuntime) -> Result<(), Fail> {
+    fs::create_dir_all(&rt, "rules/variables")?;
+    fs::write(&rt, "rules/entities.py", PERSON)?;
+    fs::write(&rt, "rules/variables/a.py", VARIABLES)?;
+    let mut long = Vec::new(rt.alloc());
+    for _ in 0..1025 {
+        long.extend_from_slice(&[b'#'; 1024])?;
+    }
+    let table: [(&str, &[u8], u8); 8] = [
+        (
+            "good",
+            b"period: 2017-01\ninput: {salary: 4}\ncolumns: [share, salary]\n",
+            0,
+        ),
+        ("fault", b"period: 2017-01\ncolumns: [salary, share]\n", 4),
+        ("yaml", b"period: [", 3),
+        ("key", b"axes: []", 3),
+        ("column", b"period: 2017-01\ncolumns: nope\n", 3),
+        ("encoding", &[0xC3, 0x28], 5),
+        ("long", long.as_slice(), 3),
+        ("empty", b"", 3),
+    ];
+    for (name, text, status) in table {
+        fs::write(&rt, name, text)?;
+        let line = format!(in rt.alloc(); "fisca calc rules {name}")?;
+        let words = words_of(rt.alloc(), line.as_str())?;
+        assert_eq!(rt; run_words(&rt, words.as_slice()), status, "{name}");
+    }
+    let none = words_of(rt.alloc(), "fisca calc rules none")?;
+    assert_eq!(rt; run_words(&rt, none.as_slice()), 5);
+    fs::write(&rt, "rules/variables/b.py", "x = 1\n")?;
+    let refused = words_of(rt.alloc(), "fisca calc rules yaml")?;
+    assert_eq!(rt; run_words(&rt, refused.as_slice()), 3);
+    Ok(())
+}
+
+#[test]
+fn a_run_file_ends_with_its_status(rt: HostRuntime) -> Result<(), Fail> {
+    fs::create_dir_all(&rt, "rules/variables")?;
+    fs::write(&rt, "rules/entities.py", PERSON)?;
+    fs::write(&rt, "rules/variables/a.py", VARIABLES)?;
+    let axes = "period: 2017-01\naxes: [[{name: salary, count: 3, min: 2, max: 0}]]\n";
+    let table = [
+        ("good", "", "", 0),
+        ("limited", "columns: share\n", " --rows 2", 0),
+        ("continued", "columns: share\n", " --from 2", 4),
+        ("kept", "filter: salary > 0\ncolumns: share\n", "", 0),
+        ("behind", "", " --from 3", 0),
+        ("outside", "", " --from 4", 3),
+        ("column", "columns: nope\n", "", 3),
+        ("yaml", "columns: [", "", 3),
+    ];
+    for (name, more, options, status) in table {
+        let text = format!(in rt.alloc(); "{axes}{more}")?;
+        fs::write(&rt, name, text.as_str())?;
+        let line = format!(in rt.alloc(); "fisca run rules {name}{options}")?;
+        let words = words_of(rt.alloc(), line.as_str())?;
+        assert_eq!(rt; run_words(&rt, words.as_slice()), status, "{name}");
     }
     Ok(())
 }
@@ -54,7 +144,7 @@ impl Write for Stuck {
 
 #[test]
 fn lines_that_cannot_be_handed_over_are_a_failed_write(rt: HostRuntime) {
-    let refused = Ending::refused(rt.alloc(), &Refusal::BadWord);
+    let refused = Ending::refused(rt.alloc(), &Refusal::BadWord, "");
     assert_eq!(rt; finish(&rt, StreamSink::new(Stuck), &refused), 5);
     assert_eq!(rt; finish(&rt, StreamSink::new(Stuck), &Ending::done()), 5);
 }

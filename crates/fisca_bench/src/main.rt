@@ -2,6 +2,7 @@
 //! answers. The same work is done by a plain Rust program under `bench/`, which prints the same checksum.
 #![tactic(auto)]
 
+mod evaluation;
 mod modules;
 mod numbers;
 mod params;
@@ -24,6 +25,7 @@ fn main(rt: HostRuntime) -> io::Result<()> {
     match words.as_slice() {
         [] => list(&rt),
         [subject, rest @ ..] => match subject.as_str() {
+            "evaluation" => evaluation::run(&rt, rt.alloc(), rest),
             "modules" => modules::run(&rt, rt.alloc(), rest),
             "numbers" => numbers::run(&rt, rt.alloc(), rest),
             "params" => params::run(&rt, rt.alloc(), rest),
@@ -40,6 +42,7 @@ fn main(rt: HostRuntime) -> io::Result<()> {
 /// Lists the benchmarks.
 fn list(rt: &impl Print) -> io::Result<()> {
     println!(rt; "fisca_bench SUBJECT WORD.. COUNT")?;
+    println!(rt; "evaluation NAME SIZE COUNT")?;
     println!(rt; "modules NAME COUNT")?;
     println!(rt; "modules FILE")?;
     println!(rt; "numbers add|mul|cmp|text|decimal whole|hundredths|unlike COUNT")?;

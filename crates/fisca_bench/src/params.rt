@@ -126,7 +126,7 @@ fn find(tree: &ParamTree, path: &str) -> Option<NodeId>
 }
 
 /// A checksum with one more number.
-fn mixed(checksum: u64, number: Fraction) -> u64 {
+pub(crate) fn mixed(checksum: u64, number: Fraction) -> u64 {
     let word = number.numerator().unsigned_abs() ^ (number.denominator() << 32);
     checksum.rotate_left(5).wrapping_add(word)
 }

@@ -1,16 +1,23 @@
 //! Columns, and the files of `fisca calc`.
 
+ghost use Rattle.fisca_rules.specs.Views.{rule_set};
+ghost use Rattle.fisca_sources.specs.Sound.{IsSafeRules};
+
 use crate::fault::Fault;
 use crate::rule_sets::rules_of;
 use crate::situations::{key_of, situation};
 use crate::words::number;
 use crate::written::Written;
-use fisca_calc::CalcFile;
+use fisca_calc::{Answers, CalcFile, write_columns};
 use fisca_columns::{key_text, read_column, value_text};
-use fisca_inputs::Value;
+use fisca_eval::{EvalFault, Evaluator, calc_inputs_fit};
+use fisca_inputs::{Key, Value};
+use fisca_lines::{MemorySink, RunFault};
 use fisca_num::Fraction;
 use fisca_params::SourceFile;
+use fisca_recall::{IndexRecall, ListRecall};
 use fisca_rules::RuleSet;
+use fisca_situations::Situation;
 use fisca_time::Period;
 use fisca_yaml::read;
 use std::alloc::Global;
@@ -86,7 +93,7 @@ fn said(words: &[String]) -> Result<Value, Fault> {
     }
 }
 
-/// The answer to a case of a file of `fisca calc`: the texts of its columns' keys.
+/// The answer to a case of a file of `fisca calc`: the texts of its columns' keys, or the lines of its columns.
 pub fn calc(
     alloc: Global,
     operation: &str,
@@ -96,6 +103,7 @@ pub fn calc(
     let rules = rules_of(alloc, files)?;
     match words {
         [text] if operation == "read" => file(alloc, &rules, text.as_str()),
+        [text] if operation == "values" => values(alloc, &rules, text.as_str()),
         _ => Err(Fault::Malformed),
     }
 }
@@ -115,4 +123,104 @@ fn file(alloc: Global, rules: &RuleSet<'_>, text: &str) -> Result<String, Fault>
         shown.push(text.as_str());
     }
     Ok(shown.finish()?)
+}
+
+/// The lines of the columns of a file, and behind them, where one has no value, the fault and its key: worked out without a memory of values. Where an
+/// evaluator that remembers answers anything else, that is told.
+fn values(alloc: Global, rules: &RuleSet<'_>, text: &str) -> Result<String, Fault>
+    requires { IsSafeRules (rule_set rules.now) }
+{
+    let plain = plain_values(alloc, rules, text)?;
+    if listed_values(alloc, rules, text)? != plain {
+        return Ok(String::from_str(alloc, "another answer from a list")?);
+    }
+    if hashed_values(alloc, rules, text)? != plain {
+        return Ok(String::from_str(alloc, "another answer from a hash table")?);
+    }
+    Ok(plain)
+}
+
+/// The same by an evaluator that remembers nothing.
+fn plain_values(alloc: Global, rules: &RuleSet<'_>, text: &str) -> Result<String, Fault>
+    requires { IsSafeRules (rule_set rules.now) }
+{
+    calc_inputs_fit();
+    let tree = read(alloc, text)?;
+    let file = CalcFile::read(alloc, &rules.tables, &tree)?;
+    let CalcFile { situation, columns } = file;
+    let evaluator = Evaluator::new(alloc, rules, &[], situation);
+    shown(alloc, rules, columns.as_slice(), evaluator)
+}
+
+/// The same by one that remembers values in a list.
+fn listed_values(alloc: Global, rules: &RuleSet<'_>, text: &str) -> Result<String, Fault>
+    requires { IsSafeRules (rule_set rules.now) }
+{
+    calc_inputs_fit();
+    let tree = read(alloc, text)?;
+    let file = CalcFile::read(alloc, &rules.tables, &tree)?;
+    let CalcFile { situation, columns } = file;
+    let recall = ListRecall::new(alloc);
+    let evaluator = fisca_memo::Evaluator::new(alloc, rules, &[], situation, recall);
+    shown(alloc, rules, columns.as_slice(), evaluator)
+}
+
+/// The same by one that remembers them in a hash table.
+fn hashed_values(alloc: Global, rules: &RuleSet<'_>, text: &str) -> Result<String, Fault>
+    requires { IsSafeRules (rule_set rules.now) }
+{
+    calc_inputs_fit();
+    let tree = read(alloc, text)?;
+    let file = CalcFile::read(alloc, &rules.tables, &tree)?;
+    let CalcFile { situation, columns } = file;
+    let recall = IndexRecall::new(alloc);
+    let evaluator = fisca_memo::Evaluator::new(alloc, rules, &[], situation, recall);
+    shown(alloc, rules, columns.as_slice(), evaluator)
+}
+
+/// The lines of columns by what answers the values of keys, and behind them, where one has no value, the fault and its key.
+fn shown<A: Answers<Fault = EvalFault> + Drop>(
+    alloc: Global,
+    rules: &RuleSet<'_>,
+    columns: &[Key],
+    evaluator: A,
+) -> Result<String, Fault>
+    requires { A.ready evaluator }
+{
+    let mut sink = MemorySink::new(alloc);
+    let (evaluator, end) = write_columns(alloc, &rules.tables, columns, evaluator, &mut sink);
+    let lines = str::from_utf8(sink.bytes()).unwrap_or("no text\n");
+    let mut shown = Written::new(alloc);
+    match end {
+        Ok(_) => shown.push(lines.strip_suffix("\n").unwrap_or(lines)),
+        Err(fault) => {
+            shown.push(lines);
+            push_fault(alloc, &mut shown, rules, evaluator.situation(), fault)?;
+        }
+    }
+    Ok(shown.finish()?)
+}
+
+/// Appends the name of the fault of a key, and the key.
+fn push_fault(
+    alloc: Global,
+    shown: &mut Written,
+    rules: &RuleSet<'_>,
+    situation: &Situation,
+    fault: RunFault<EvalFault>,
+) -> Result<(), Fault> {
+    match fault {
+        RunFault::Eval { fault, .. } => {
+            shown.push("fault ");
+            shown.push(fault.name());
+            if let Some(key) = fault.key() {
+                shown.push(" ");
+                shown.push(key_text(alloc, &rules.tables, situation, &key)?.as_str());
+            }
+            Ok(())
+        }
+        RunFault::BadPosition | RunFault::Write { .. } | RunFault::Memory { .. } => {
+            Err(Fault::Memory)
+        }
+    }
 }

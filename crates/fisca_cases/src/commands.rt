@@ -1,9 +1,11 @@
 //! The commands over texts and a sink in memory.
 
 use crate::fault::{Fault, push_refusal};
-use crate::words::number;
+use crate::words::{number, one, three};
 use crate::written::Written;
-use fisca_commands::{Task, axes_words, check_rules, run_task};
+use fisca_commands::{
+    Refusal, Task, axes_words, calc_rules, check_rules, run_rules, run_task, test_rules,
+};
 use fisca_lines::{MemorySink, RunEnd};
 use fisca_params::SourceFile;
 use std::alloc::{AllocError, Global};
@@ -17,9 +19,40 @@ pub fn answer(
 ) -> Result<String, Fault> {
     match operation {
         "axes" => axes(alloc, &Asked::new(words)?),
-        "axes_task" => run(alloc, &Asked::new(words)?.task(alloc)?, &[]),
+        "axes_task" => run(alloc, &Asked::new(words)?.task(alloc)?, &[], ""),
+        "calc" => calc(alloc, files, one(words)?),
+        "calc_task" => run(
+            alloc,
+            &Task::Calc {
+                rules: "rules",
+                file: "file.yaml",
+            },
+            files,
+            one(words)?,
+        ),
         "check" => check(alloc, files),
-        "check_task" => run(alloc, &Task::Check { rules: "rules" }, files),
+        "check_task" => run(alloc, &Task::Check { rules: "rules" }, files, ""),
+        "run" => grid(alloc, files, words),
+        "run_task" => {
+            let (from, rows, text) = three(words)?;
+            let task = Task::Run {
+                rules: "rules",
+                file: "run.yaml",
+                from: number(from)?,
+                rows: limit(rows)?,
+            };
+            run(alloc, &task, files, text)
+        }
+        "test" => test(alloc, files, one(words)?),
+        "test_task" => run(
+            alloc,
+            &Task::Test {
+                rules: "rules",
+                file: "tests.yaml",
+            },
+            files,
+            one(words)?,
+        ),
         _ => Err(Fault::Malformed),
     }
 }
@@ -82,8 +115,32 @@ fn axes(alloc: Global, asked: &Asked<'_>) -> Result<String, Fault> {
         asked.rows,
         &mut sink,
     );
+    ended(alloc, &sink, answer)
+}
+
+/// What is written of the run file `FROM ROWS TEXT`, where `-` stands for no limit, and the end of the run or the refusal.
+fn grid(alloc: Global, files: &[SourceFile], words: &[String]) -> Result<String, Fault> {
+    let (from, rows, text) = three(words)?;
+    let mut sink = MemorySink::new(alloc);
+    let answer = run_rules(
+        alloc,
+        files,
+        text,
+        number(from)?,
+        limit(rows)?,
+        &mut sink,
+    );
+    ended(alloc, &sink, answer)
+}
+
+/// What is written, and the end of the run or the refusal.
+fn ended(
+    alloc: Global,
+    sink: &MemorySink,
+    answer: Result<RunEnd, Refusal>,
+) -> Result<String, Fault> {
     let mut shown = Written::new(alloc);
-    push_sink(&mut shown, &sink);
+    push_sink(&mut shown, sink);
     match answer {
         Ok(RunEnd::End) => shown.push("end"),
         Ok(RunEnd::More(position)) => {
@@ -99,19 +156,54 @@ fn axes(alloc: Global, asked: &Asked<'_>) -> Result<String, Fault> {
 fn check(alloc: Global, files: &[SourceFile]) -> Result<String, Fault> {
     let mut sink = MemorySink::new(alloc);
     let answer = check_rules(alloc, files, &mut sink);
+    shown(alloc, &sink, answer, "checked")
+}
+
+/// What is written, and that the columns are worked out or the refusal.
+fn calc(alloc: Global, files: &[SourceFile], text: &str) -> Result<String, Fault> {
+    let mut sink = MemorySink::new(alloc);
+    let answer = calc_rules(alloc, files, text, &mut sink);
+    shown(alloc, &sink, answer, "worked out")
+}
+
+/// What is written, and how many tests passed and failed or the refusal.
+fn test(alloc: Global, files: &[SourceFile], text: &str) -> Result<String, Fault> {
+    let mut sink = MemorySink::new(alloc);
+    let answer = test_rules(alloc, files, text, &mut sink);
     let mut shown = Written::new(alloc);
     push_sink(&mut shown, &sink);
     match answer {
-        Ok(()) => shown.push("checked"),
+        Ok(verdict) => {
+            shown.push("answered ");
+            shown.push_number(verdict.passed);
+            shown.push(" and ");
+            shown.push_number(verdict.failed);
+        }
+        Err(refusal) => push_refusal(alloc, &mut shown, &refusal),
+    }
+    Ok(shown.finish()?)
+}
+
+/// What is written, and this word or the refusal.
+fn shown(
+    alloc: Global,
+    sink: &MemorySink,
+    answer: Result<(), Refusal>,
+    done: &str,
+) -> Result<String, Fault> {
+    let mut shown = Written::new(alloc);
+    push_sink(&mut shown, sink);
+    match answer {
+        Ok(()) => shown.push(done),
         Err(refusal) => push_refusal(alloc, &mut shown, &refusal),
     }
     Ok(shown.finish()?)
 }
 
 /// What a task prints, its status and the line for standard error.
-fn run(alloc: Global, task: &Task<'_>, files: &[SourceFile]) -> Result<String, Fault> {
+fn run(alloc: Global, task: &Task<'_>, files: &[SourceFile], text: &str) -> Result<String, Fault> {
     let mut sink = MemorySink::new(alloc);
-    let ending = run_task(alloc, task, files, &mut sink);
+    let ending = run_task(alloc, task, files, text, &mut sink);
     let mut shown = Written::new(alloc);
     push_sink(&mut shown, &sink);
     shown.push("status ");

@@ -142,7 +142,7 @@ pub fn push_refusal(alloc: Global, told: &mut Written, refusal: &Refusal) {
     told.push(", status ");
     told.push_number(u64::from(refusal.status()));
     told.push(", ");
-    match refusal.line(alloc, "") {
+    match refusal.line(alloc, "file.yaml") {
         Ok(line) => told.push(line.as_str()),
         Err(_) => told.push("no memory"),
     }

@@ -1,6 +1,11 @@
 //! Rule sets.
 
+ghost use Rattle.std.specs.Prelude.{IfOk};
+ghost use Rattle.fisca_rules.specs.Views.{rule_set};
+ghost use Rattle.fisca_sources.specs.Sound.{IsSafeRules};
+
 use crate::fault::Fault;
+use fisca_eval::rule_sets_are_safe;
 use fisca_params::{ParamTree, SourceFile};
 use fisca_rules::RuleSet;
 use fisca_syntax::{Module, read_module};
@@ -26,9 +31,16 @@ fn modules<'a>(alloc: Global, files: &'a [SourceFile]) -> Result<Vec<Module<'a>>
 }
 
 /// The rule set of the files.
-pub fn rules_of<'a>(alloc: Global, files: &'a [SourceFile]) -> Result<RuleSet<'a>, Fault> {
+pub fn rules_of<'a>(alloc: Global, files: &'a [SourceFile]) -> Result<RuleSet<'a>, Fault>
+    ensures { IfOk result (λ rules. IsSafeRules (rule_set rules)) }
+{
+    rule_sets_are_safe();
     let parameters = ParamTree::read(alloc, files)?;
-    Ok(RuleSet::build(alloc, parameters, modules(alloc, files)?)?)
+    let modules = modules(alloc, files)?;
+    match RuleSet::build(alloc, parameters, modules) {
+        Ok(rules) => Ok(rules),
+        Err(fault) => Err(Fault::Build(fault)),
+    }
 }
 
 /// How many entities, variables and parameters the rule set of the files has.

@@ -1,5 +1,5 @@
 -- The status that is told of an answer is 5 exactly where the sink failed.
-use Rattle.std.proofs.Common.{◌≡◌, inl, inr, ℕ, ◌==◌, ◌&&◌, cond, is_ok, Bool, false, List, map, Option, Some, None, Result, Ok, Err, MatchResult, refl, sym, ap, ◌∙◌}
+use Rattle.std.proofs.Common.{◌≡◌, ◌≢◌, inl, inr, ℕ, ◌==◌, ◌&&◌, if◌then◌else◌, cond, is_ok, Bool, true, false, List, [], map, Option, Some, None, Result, Ok, Err, refl, sym, ap, ◌∙◌}
 use Rattle.std.proofs.lemmas.Bool.{ne_eqb, true≢false}
 use Rattle.fisca_grid.specs.Grid.{axes_fault, groups_of}
 use Rattle.fisca_lines.specs.Sink.{one_more}
@@ -10,28 +10,49 @@ use Rattle.fisca_lines.specs.declared.fault.RunEnd.{RunEnd}
 use Rattle.fisca_lines.specs.declared.fault.RunFault.TheVariants as run
 use Rattle.fisca_grid.specs.NamedAxes.{name_of, specs_of, own_groups, filter_from}
 use Rattle.fisca_grid.specs.declared.condition.Filter.{Filter}
-use Rattle.fisca_commands.specs.AxesRun.{FilteredAxes, required_filter, optional_filter, filtered_axes, axes_within_limits, named_fault, required_axes, axes_of_words, IsAxesRun, IsRefused, IsAxesAnswer, is_write}
-use Rattle.fisca_commands.specs.Ending.{Outcome, IsTold, IsRunEnding}
-use Rattle.fisca_commands.specs.Refusal.{status_of}
-use Rattle.fisca_commands.specs.declared.refusal.Refusal.{Refusal}
-use Rattle.fisca_commands.specs.declared.refusal.Refusal.TheVariants.{Params, Formula, Axes, BadWord, BadCondition, Run, Write, Memory, TooManyFiles}
+use Rattle.fisca_commands.specs.AxesRun.{required_filter, optional_filter, filtered_axes, axes_within_limits, named_fault, required_axes, axes_of_words}
+use Rattle.fisca_commands.specs.Ending.{IsAnswered, IsJudged, IsRunEnding, IsTold, Outcome}
+use Rattle.fisca_verdicts.specs.declared.all.Verdict.{Verdict}
+use Rattle.fisca_refusals.specs.Refusal.{is_failed_write, is_write, status_of}
+use Rattle.fisca_refusals.specs.declared.refusal.Refusal.{Refusal}
+use Rattle.fisca_refusals.specs.declared.refusal.Refusal.TheVariants.{Params, Formula, Yaml, RunFile, Tests, Axes, BadWord, BadCondition, Run, Eval, Write, Memory, TooManyFiles}
 
 -- no refusal of words, axes or conditions is a failed write
-abbrev IsUnwritten : {X : Type 0} → Result X Refusal → Type 0
-IsUnwritten (Ok x) = Unit {0}
-IsUnwritten (Err refusal) = (status_of refusal == 5) ≡ false
-
-unwritten_filter : (filter : Option Filter) → IsUnwritten (required_filter filter)
+unwritten_filter : (filter : Option Filter) → is_write (required_filter filter) ≡ false
 unwritten_filter None = refl
-unwritten_filter (Some filter) = tt
+unwritten_filter (Some filter) = refl
 
-unwritten_keep : (names : List (List ℕ)) (keep : Option (List ℕ)) → IsUnwritten (optional_filter names keep)
-unwritten_keep names None = tt
+unwritten_keep : (names : List (List ℕ)) (keep : Option (List ℕ)) → is_write (optional_filter names keep) ≡ false
+unwritten_keep names None = refl
 unwritten_keep names (Some text) = unwritten_filter (filter_from 0 names text)
 
-unwritten_axes : (axes : List (List AxisSpec)) (keep : Result (Option Filter) Refusal) → IsUnwritten keep → IsUnwritten (filtered_axes axes keep)
-unwritten_axes axes (Ok keep) h = tt
+unwritten_axes : (axes : List (List AxisSpec)) (keep : Result (Option Filter) Refusal) → is_write keep ≡ false → is_write (filtered_axes axes keep) ≡ false
+unwritten_axes axes (Ok keep) h = refl
 unwritten_axes axes (Err refusal) h = h
+
+unwritten_limits : (names : List (List ℕ)) (specs : List AxisSpec) (fault : Option AxesFault) (keep : Option (List ℕ)) → is_write (axes_within_limits names specs fault keep) ≡ false
+unwritten_limits names specs None keep = unwritten_axes (groups_of specs (own_groups specs)) (optional_filter names keep) (unwritten_keep names keep)
+unwritten_limits names specs (Some fault) keep = refl
+
+unwritten_required : (names : List (List ℕ)) (specs : Option (List AxisSpec)) (keep : Option (List ℕ)) → is_write (required_axes names specs keep) ≡ false
+unwritten_required names None keep = refl
+unwritten_required names (Some specs) keep = unwritten_limits names specs (named_fault names (axes_fault specs (own_groups specs))) keep
+
+-- what is refused before a run over axes is no failed write
+pub unwritten : (words : List (List ℕ)) (keep : Option (List ℕ)) (refusal : Refusal) → (refusal ≢ Memory → axes_of_words words keep ≡ Err refusal) → is_failed_write refusal ≡ false
+unwritten words keep (Params path line fault) is = refl
+unwritten words keep (Formula path line kind) is = refl
+unwritten words keep (Yaml fault) is = refl
+unwritten words keep (RunFile fault) is = refl
+unwritten words keep (Tests fault) is = refl
+unwritten words keep (Axes fault) is = refl
+unwritten words keep BadWord is = refl
+unwritten words keep BadCondition is = refl
+unwritten words keep (Run fault) is = sym (ap is_write (is (λ e. absurd (cc)))) ∙ unwritten_required (map name_of words) (specs_of words) keep
+unwritten words keep (Eval unanswered) is = refl
+unwritten words keep Write is = sym (ap is_write (is (λ e. true≢false (ap is_failed_write e)))) ∙ unwritten_required (map name_of words) (specs_of words) keep
+unwritten words keep Memory is = refl
+unwritten words keep TooManyFiles is = refl
 
 unwritten_fault : (fault : AxesFault) → (status_of (Axes fault) == 5) ≡ false
 unwritten_fault axes.NoAxes = refl
@@ -45,55 +66,55 @@ unwritten_fault axes.PeriodMismatch = refl
 unwritten_fault axes.BadBound = refl
 unwritten_fault axes.Memory = refl
 
-unwritten_limits : (names : List (List ℕ)) (specs : List AxisSpec) (fault : Option AxesFault) (keep : Option (List ℕ)) → IsUnwritten (axes_within_limits names specs fault keep)
-unwritten_limits names specs None keep = unwritten_axes (groups_of specs (own_groups specs)) (optional_filter names keep) (unwritten_keep names keep)
-unwritten_limits names specs (Some fault) keep = unwritten_fault fault
-
-unwritten_required : (names : List (List ℕ)) (specs : Option (List AxisSpec)) (keep : Option (List ℕ)) → IsUnwritten (required_axes names specs keep)
-unwritten_required names None keep = refl
-unwritten_required names (Some specs) keep = unwritten_limits names specs (named_fault names (axes_fault specs (own_groups specs))) keep
-
-unwritten_words : (words : List (List ℕ)) (keep : Option (List ℕ)) → IsUnwritten (axes_of_words words keep)
-unwritten_words words keep = unwritten_required (map name_of words) (specs_of words) keep
-
-abbrev is_failed_write : Result RunEnd Refusal → Bool
-is_failed_write (Ok end) = false
-is_failed_write (Err refusal) = status_of refusal == 5
-
--- `axes` never answers that the sink failed outside the run
-not_write : (wanted : Result FilteredAxes Refusal) (from : ℕ) (limit : Option ℕ) (old new : Option (List ℕ)) → IsUnwritten wanted
-    → MatchResult wanted (λ run. IsAxesRun run from limit old new (Err Write)) (λ refusal. IsRefused refusal old new (Err Write)) → ⊥
-not_write (Ok run) from limit old new h answer = true≢false (ap (λ r. status_of r == 5) answer.0)
-not_write (Err refusal) from limit old new h (inl e, kept) = true≢false (ap is_failed_write e ∙ h)
-not_write (Err refusal) from limit old new h (inr e, kept) = true≢false (ap is_failed_write e)
-
--- the status of what `axes` answers is 5 exactly where the sink failed
-failed_write : (words : List (List ℕ)) (keep : Option (List ℕ)) (from : ℕ) (limit : Option ℕ) (old new : Option (List ℕ)) (refusal : Refusal)
-    → IsAxesAnswer words keep from limit old new (Err refusal) → (status_of refusal == 5) ≡ is_write (Err refusal)
-failed_write words keep from limit old new (Params path line fault) answer = refl
-failed_write words keep from limit old new (Formula path line kind) answer = refl
-failed_write words keep from limit old new (Axes fault) answer = unwritten_fault fault
-failed_write words keep from limit old new BadWord answer = refl
-failed_write words keep from limit old new BadCondition answer = refl
-failed_write words keep from limit old new (Run run.BadPosition) answer = refl
-failed_write words keep from limit old new (Run (run.Eval position fault)) answer = refl
-failed_write words keep from limit old new (Run (run.Write position)) answer = refl
-failed_write words keep from limit old new (Run (run.Memory position)) answer = refl
-failed_write words keep from limit old new Write answer = absurd (not_write (axes_of_words words keep) from limit old new (unwritten_words words keep) answer)
-failed_write words keep from limit old new Memory answer = refl
-failed_write words keep from limit old new TooManyFiles answer = refl
+-- the status of a refusal is 5 exactly where it says that the sink failed
+failed_write : (refusal : Refusal) → (status_of refusal == 5) ≡ is_failed_write refusal
+failed_write (Params path line fault) = refl
+failed_write (Formula path line kind) = refl
+failed_write (Yaml fault) = refl
+failed_write (RunFile fault) = refl
+failed_write (Tests fault) = refl
+failed_write (Axes fault) = unwritten_fault fault
+failed_write BadWord = refl
+failed_write BadCondition = refl
+failed_write (Run run.BadPosition) = refl
+failed_write (Run (run.Eval position unanswered)) = refl
+failed_write (Run (run.Write position)) = refl
+failed_write (Run (run.Memory position)) = refl
+failed_write (Eval unanswered) = refl
+failed_write Write = refl
+failed_write Memory = refl
+failed_write TooManyFiles = refl
 
 -- what is told of a refusal has the status 5 exactly where the refusal has
-told_write : (refusal : Refusal) (outcome : Outcome) → IsTold refusal outcome → (outcome.status == 5) ≡ (status_of refusal == 5)
-told_write refusal outcome (inl e) = ap (λ o. o.status == 5) e
-told_write refusal outcome (inr h) = ap (λ o. o.status == 5) h.0 ∙ sym (ne_eqb (status_of refusal) 5 h.1)
+told_write : (path : List ℕ) (refusal : Refusal) (outcome : Outcome) → IsTold path refusal outcome → (outcome.status == 5) ≡ (status_of refusal == 5)
+told_write path refusal outcome (inl e) = ap (λ o. o.status == 5) e
+told_write path refusal outcome (inr h) = ap (λ o. o.status == 5) h.0 ∙ sym (ne_eqb (status_of refusal) 5 h.1)
 
 -- the failures of a run and of what follows it
-pub counted : (words : List (List ℕ)) (keep : Option (List ℕ)) (from : ℕ) (limit : Option ℕ) (old between new : Option (List ℕ)) (answer : Result RunEnd Refusal) (outcome : Outcome) (before run_failures after : ℕ)
-    → IsAxesAnswer words keep from limit old between answer → IsRunEnding answer between new outcome
+pub counted : (path : List ℕ) (old new : Option (List ℕ)) (answer : Result RunEnd Refusal) (outcome : Outcome) (before run_failures after : ℕ)
+    → IsRunEnding path answer old new outcome
     → run_failures ≡ cond (is_write answer) (one_more before) before
     → after ≡ cond (is_ok answer && (outcome.status == 5)) (one_more run_failures) run_failures
     → after ≡ cond (outcome.status == 5) (one_more before) before
-counted words keep from limit old between new (Ok end) outcome before failures after run ending first last = last ∙ ap (λ n. cond (outcome.status == 5) (one_more n) n) first
-counted words keep from limit old between new (Err refusal) outcome before failures after run ending first last =
-    last ∙ first ∙ ap (λ failed. cond failed (one_more before) before) (sym (told_write refusal outcome ending.0 ∙ failed_write words keep from limit old between refusal run))
+counted path old new (Ok end) outcome before failures after ending first last = last ∙ ap (λ n. cond (outcome.status == 5) (one_more n) n) first
+counted path old new (Err refusal) outcome before failures after ending first last =
+    last ∙ first ∙ ap (λ failed. cond failed (one_more before) before) (sym (told_write path refusal outcome ending.0 ∙ failed_write refusal))
+
+-- the failures of a command that writes no last line
+pub answered : (path : List ℕ) (answer : Result Unit Refusal) (outcome : Outcome) (before after : ℕ)
+    → IsAnswered path answer outcome → after ≡ cond (is_write answer) (one_more before) before → after ≡ cond (outcome.status == 5) (one_more before) before
+answered path (Ok done) outcome before after ending count = count ∙ ap (λ status. cond (status == 5) (one_more before) before) (sym (ap (λ (o : Outcome). o.status) ending))
+answered path (Err refusal) outcome before after ending count =
+    count ∙ ap (λ failed. cond failed (one_more before) before) (sym (told_write path refusal outcome ending ∙ failed_write refusal))
+
+neither : (b : Bool) → ((if b then 0 else 1) == 5) ≡ false
+neither true = refl
+neither false = refl
+
+-- the failures of tests
+pub of_tests : (path : List ℕ) (answer : Result Verdict Refusal) (outcome : Outcome) (before after : ℕ)
+    → IsJudged path answer outcome → after ≡ cond (is_write answer) (one_more before) before → after ≡ cond (outcome.status == 5) (one_more before) before
+of_tests path (Ok verdict) outcome before after ending count =
+    count ∙ ap (λ failed. cond failed (one_more before) before) (sym (ap (λ (o : Outcome). o.status == 5) ending ∙ neither (verdict.failed == 0)))
+of_tests path (Err refusal) outcome before after ending count =
+    count ∙ ap (λ failed. cond failed (one_more before) before) (sym (told_write path refusal outcome ending ∙ failed_write refusal))

@@ -1,5 +1,8 @@
 mod Parts
-mod FirstModule
 mod Endings
-mod Written
+mod Calculated
 mod Named
+mod Telling
+mod Tested
+mod Headline
+mod Past

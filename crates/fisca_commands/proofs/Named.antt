@@ -1,5 +1,5 @@
 -- Axes that are groups of their own, and a condition on one of them.
-use Rattle.std.proofs.Common.{◌≡◌, ℕ, ◌+◌, ◌<◌, List, [], ◌∷◌, length, map, sum, Option, Some, None, option_map, option_and_then, Result, Ok, Err, refl, sym, ap, ◌∙◌, arith}
+use Rattle.std.proofs.Common.{◌≡◌, ℕ, ◌+◌, ◌<◌, List, [], ◌∷◌, length, map, sum, Option, Some, None, option_map, option_and_then, Ok, refl, sym, ap, ◌∙◌, arith}
 use Rattle.std.proofs.lemmas.List.{length-map}
 use Rattle.std.specs.Option.{option_or}
 use Rattle.fisca_grid.specs.Condition.{condition_of}
@@ -11,7 +11,6 @@ use Rattle.fisca_grid.specs.declared.condition.Condition.{Condition}
 use Rattle.fisca_grid.specs.declared.condition.Filter.{Filter}
 use Rattle.fisca_grid.proofs.Groups.{sum_first}
 use Rattle.fisca_commands.specs.AxesRun.{required_filter, optional_filter}
-use Rattle.fisca_commands.specs.declared.refusal.Refusal.{Refusal}
 
 pub own_sum : (specs : List AxisSpec) → sum (own_groups specs) ≡ length specs
 own_sum [] = refl

@@ -1,18 +1,21 @@
 -- What `fisca axes` answers and writes.
-use Rattle.std.specs.Prelude.{◌≡◌, ◌⊎◌, Bool, false, ℕ, List, map, Option, Some, None, Result, Ok, Err, if◌then◌else◌, MatchResult}
+use Rattle.std.specs.Prelude.{◌≡◌, ◌⊎◌, ℕ, List, map, Option, Some, None, Result, Ok, Err, if◌then◌else◌, MatchResult}
 use Rattle.std.specs.Option.{option_or}
 use Rattle.std.specs.Io.KnownBytes.{Keeps}
 use Rattle.fisca_grid.specs.AxesRow.{axes_row}
 use Rattle.fisca_grid.specs.Grid.{axes_fault, groups_of, size_of}
 use Rattle.fisca_grid.specs.NamedAxes.{name_of, specs_of, own_groups, has_twins, filter_from}
-use Rattle.fisca_lines.specs.Run.{IsRun, is_write as run_is_write}
+use Rattle.fisca_lines.specs.Run.{IsRun}
 use Rattle.fisca_grid.specs.declared.axes.AxisSpec.{AxisSpec}
 use Rattle.fisca_grid.specs.declared.axes.AxesFault.{AxesFault}
 use Rattle.fisca_grid.specs.declared.axes.AxesFault.TheVariants.{AxisOverlap}
 use Rattle.fisca_grid.specs.declared.condition.Filter.{Filter}
 use Rattle.fisca_lines.specs.declared.fault.RunEnd.{RunEnd}
-use Rattle.fisca_commands.specs.declared.refusal.Refusal.{Refusal}
-use Rattle.fisca_commands.specs.declared.refusal.Refusal.TheVariants.{Params, Formula, Axes, BadWord, BadCondition, Run, Write, Memory, TooManyFiles}
+use Rattle.fisca_lines.specs.declared.fault.RunFault.{RunFault}
+use Rattle.std.specs.declared.convert.Infallible.{Infallible}
+use Rattle.fisca_refusals.specs.declared.refusal.Refusal.{Refusal}
+use Rattle.fisca_refusals.specs.declared.refusal.Refusal.TheVariants.{Axes, BadWord, BadCondition, Memory}
+use Rattle.fisca_refusals.specs.Refusal.{of_axes}
 
 -- the grid of a run, and its condition
 pub record FilteredAxes : Type 0 where
@@ -55,25 +58,13 @@ axes_of_words words keep = required_axes (map name_of words) (specs_of words) ke
 -- what a run over the axes answers, and what a sink that held `old` then holds
 abbrev pub IsAxesRun : FilteredAxes → ℕ → Option ℕ → Option (List ℕ) → Option (List ℕ) → Result RunEnd Refusal → Type 0
 IsAxesRun run from limit old new (Ok end) = IsRun (axes_row run.axes run.keep) (size_of run.axes) from limit old new (Ok end)
-IsAxesRun run from limit old new (Err (Run fault)) = IsRun (axes_row run.axes run.keep) (size_of run.axes) from limit old new (Err fault)
-IsAxesRun run from limit old new (Err other) = (other ≡ Memory) × Keeps old new
+IsAxesRun run from limit old new (Err refusal) =
+    ((refusal ≡ Memory) × Keeps old new)
+    ⊎ ((fault : RunFault Infallible) × (refusal ≡ of_axes fault) × IsRun (axes_row run.axes run.keep) (size_of run.axes) from limit old new (Err fault))
 
 -- the answer is this refusal, or that memory was refused, and nothing is written
 abbrev pub IsRefused : Refusal → Option (List ℕ) → Option (List ℕ) → Result RunEnd Refusal → Type 0
 IsRefused refusal old new answer = ((answer ≡ Err refusal) ⊎ (answer ≡ Err Memory)) × Keeps old new
-
--- the answer is that the sink failed
-abbrev pub is_write : Result RunEnd Refusal → Bool
-is_write (Ok end) = false
-is_write (Err (Run fault)) = run_is_write {X = RunEnd} (Err fault)
-is_write (Err (Axes fault)) = false
-is_write (Err BadWord) = false
-is_write (Err BadCondition) = false
-is_write (Err Memory) = false
-is_write (Err Write) = false
-is_write (Err TooManyFiles) = false
-is_write (Err (Params path line fault)) = false
-is_write (Err (Formula path line kind)) = false
 
 -- what `axes` answers for these words and this condition, where a sink held `old` and then holds `new`
 abbrev pub IsAxesAnswer : List (List ℕ) → Option (List ℕ) → ℕ → Option ℕ → Option (List ℕ) → Option (List ℕ) → Result RunEnd Refusal → Type 0

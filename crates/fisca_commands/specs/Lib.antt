@@ -1,6 +1,8 @@
-pub mod Refusal
 pub mod AxesRun
-pub mod Modules
-pub mod Check
-pub mod LastLine
+pub mod Calc
 pub mod Ending
+pub mod Headline
+pub mod LastLine
+pub mod Run
+pub mod Test
+pub mod Unanswered

@@ -4,13 +4,14 @@ ghost use Rattle.std.specs.Prelude.{◌≡◌, ◌≢◌, ℕ, map, option_map, 
 ghost use Rattle.fisca_grid.specs.Grid.{axes_fault, groups_of};
 ghost use Rattle.fisca_grid.specs.NamedAxes.{name_of, specs_of, own_groups};
 ghost use Rattle.fisca_lines.specs.Sink.{CountsFailure};
-ghost use Rattle.fisca_commands.specs.AxesRun.{axes_of_words, axes_within_limits, named_fault, optional_filter, IsAxesAnswer, is_write};
+ghost use Rattle.fisca_commands.specs.AxesRun.{axes_of_words, axes_within_limits, named_fault, optional_filter, IsAxesAnswer};
+ghost use Rattle.fisca_refusals.specs.Refusal.{is_write};
 
-use super::refusal::Refusal;
 use fisca_grid::{
     Axes, AxesFault, AxisRows, AxisSpec, Filter, has_twins, own_groups, read_axes, read_filter,
 };
 use fisca_lines::{RowSink, RunEnd, write_lines};
+use fisca_refusals::Refusal;
 use std::alloc::Global;
 
 /// The condition that a text states of one of the axes that the words describe, if a text is given.
@@ -99,6 +100,6 @@ pub fn axes_words<S: RowSink>(
     let mut axis_rows = read_words(alloc, words, keep)?;
     match write_lines(alloc, &mut axis_rows, from, rows, sink) {
         Ok(end) => Ok(end),
-        Err(fault) => Err(Refusal::Run(fault)),
+        Err(fault) => Err(Refusal::from(fault)),
     }
 }

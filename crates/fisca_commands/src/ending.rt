@@ -1,10 +1,11 @@
 //! How a command ends.
 
 ghost use Rattle.std.specs.Prelude.{◌≡◌, option_map};
-ghost use Rattle.fisca_commands.specs.Ending.{done, told_of, IsTold};
+ghost use Rattle.fisca_commands.specs.Ending.{done, judged, told_of, IsTold};
 
-use super::refusal::Refusal;
 use fisca_lines::RunFault;
+use fisca_refusals::Refusal;
+use fisca_verdicts::Verdict;
 use std::alloc::Global;
 use std::borrow::CowStr;
 use std::marker::Model;
@@ -37,15 +38,25 @@ impl Ending {
         }
     }
 
+    /// The ending of tests that were worked out: 0 where all passed, and 1 where one failed.
+    pub fn judged(verdict: Verdict) -> Self
+        ensures { result ≡ judged verdict }
+    {
+        Ending {
+            status: if verdict.failed == 0 { 0 } else { 1 },
+            told: None,
+        }
+    }
+
     /// The ending of a command that was refused: the refusal's status and line, or those for want of memory where the line
-    /// finds none. A failed write is told without memory.
-    pub fn refused(alloc: Global, refusal: &Refusal) -> Self
-        ensures { IsTold refusal.now result }
+    /// finds none. A failed write is told without memory. `path` names the command's own file, if it has one.
+    pub fn refused(alloc: Global, refusal: &Refusal, path: &str) -> Self
+        ensures { IsTold path.now refusal.now result }
     {
         if let Refusal::Write | Refusal::Run(RunFault::Write { .. }) = refusal {
             return Ending::told(5, "fisca: write failed");
         }
-        match refusal.line(alloc, "") {
+        match refusal.line(alloc, path) {
             Ok(line) => Ending {
                 status: refusal.status(),
                 told: Some(CowStr::Owned(line)),
@@ -65,7 +76,7 @@ impl Ending {
         }
     }
 
-    /// The exit status: 0 where the command was done, else that of [`Refusal::status`].
+    /// The exit status: 0 where the command was done, 1 where a test failed, else that of [`Refusal::status`].
     pub fn status(&self) -> u8
         ensures { result ≡ self.now.status }
     {

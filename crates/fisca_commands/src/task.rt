@@ -2,15 +2,19 @@
 
 ghost use Rattle.std.specs.Prelude.{◌≡◌, ◌==◌, ◌&&◌, is_ok, map, option_map, string_bytes};
 ghost use Rattle.fisca_lines.specs.Sink.{CountsFailure};
-ghost use Rattle.fisca_commands.specs.Ending.{IsTaskEnding, IsAxesEnding, IsCheckEnding, IsRunEnding};
+ghost use Rattle.fisca_commands.specs.Ending.{IsAnswered, IsAxesEnding, IsCalcEnding, IsCheckEnding, IsGridEnding, IsJudged, IsRunEnding, IsTaskEnding, IsTestEnding};
 
 use super::axes::axes_words;
-use super::check::check_rules;
+use super::calc::calc_rules;
 use super::ending::Ending;
 use super::last_line::write_end;
-use super::refusal::Refusal;
+use super::run::run_rules;
+use super::test::test_rules;
 use fisca_lines::{RowSink, RunEnd};
 use fisca_params::SourceFile;
+use fisca_refusals::Refusal;
+use fisca_rule_files::check_rules;
+use fisca_verdicts::Verdict;
 use std::alloc::Global;
 
 /// What a command line asks for.
@@ -19,6 +23,23 @@ pub enum Task<'a> {
     /// `check`: check the rule files of a folder.
     Check {
         rules: &'a str,
+    },
+    /// `calc`: work out the columns of a file under the rule files of a folder.
+    Calc {
+        rules: &'a str,
+        file: &'a str,
+    },
+    /// `test`: work out the tests of a file under the rule files of a folder.
+    Test {
+        rules: &'a str,
+        file: &'a str,
+    },
+    /// `run`: write the lines of a run file under the rule files of a folder.
+    Run {
+        rules: &'a str,
+        file: &'a str,
+        from: u64,
+        rows: Option<u64>,
     },
     /// `axes`: list the values of axes.
     Axes {
@@ -30,10 +51,15 @@ pub enum Task<'a> {
 }
 
 /// Runs a task, and answers how it ended: the exit status, and the line for standard error where the task was refused or
-/// failed. `files` are those of the task's folder, in any order, and none where it names no folder. What the task prints
-/// goes to the sink.
+/// failed. `files` are those of the task's folder, in any order, and none where it names no folder; `text` is that of the file that the task
+/// names, and no one's where it names none. What the task prints goes to the sink.
 ///
 /// - `check`: what [`check_rules`] writes of the files.
+/// - `calc`: what [`calc_rules`] writes of the files and the text. A refusal of the text is told with the path of its file.
+/// - `test`: what [`test_rules`] writes of the files and the text; the status is 1 where a test failed. A refusal of the text is told with the path
+///   of its file.
+/// - `run`: the lines of [`run_rules`], and after a run that nothing stopped its last line, as by [`write_end`]. A refusal of the text is told with
+///   the path of its file.
 /// - `axes`: the lines of [`axes_words`], and after a run that nothing stopped its last line, as by [`write_end`].
 ///
 /// A refusal ends with its own status and line, and one whose line finds no memory with those for want of memory, but a
@@ -42,13 +68,22 @@ pub fn run_task<S: RowSink>(
     alloc: Global,
     task: &Task<'_>,
     files: &[SourceFile],
+    text: &str,
     sink: &mut S,
 ) -> Ending
-    ensures ending { IsTaskEnding task.now files.now (S.taken sink.old) (S.taken sink.new) result }
+    ensures ending { IsTaskEnding task.now files.now text.now (S.taken sink.old) (S.taken sink.new) result }
     ensures failures { CountsFailure (result.status == 5) (S.failures sink.old) (S.failures sink.new) }
 {
     match task {
         Task::Check { rules: _ } => run_check(alloc, files, sink),
+        Task::Calc { rules: _, file } => run_calc(alloc, files, file, text, sink),
+        Task::Test { rules: _, file } => run_test(alloc, files, file, text, sink),
+        Task::Run {
+            rules: _,
+            file,
+            from,
+            rows,
+        } => run_file(alloc, files, file, text, *from, *rows, sink),
         Task::Axes {
             words,
             keep,
@@ -63,10 +98,75 @@ fn run_check<S: RowSink>(alloc: Global, files: &[SourceFile], sink: &mut S) -> E
     ensures ending { IsCheckEnding files.now (S.taken sink.old) (S.taken sink.new) result }
     ensures failures { CountsFailure (result.status == 5) (S.failures sink.old) (S.failures sink.new) }
 {
-    match check_rules(alloc, files, sink) {
-        Ok(()) => Ending::done(),
-        Err(refusal) => Ending::refused(alloc, &refusal),
+    let answer = check_rules(alloc, files, sink);
+    ending_of(alloc, answer, "")
+}
+
+/// Works out the columns of a file of this path and this text, and answers how that ended.
+fn run_calc<S: RowSink>(
+    alloc: Global,
+    files: &[SourceFile],
+    path: &str,
+    text: &str,
+    sink: &mut S,
+) -> Ending
+    ensures ending { IsCalcEnding files.now path.now text.now (S.taken sink.old) (S.taken sink.new) result }
+    ensures failures { CountsFailure (result.status == 5) (S.failures sink.old) (S.failures sink.new) }
+{
+    let answer = calc_rules(alloc, files, text, sink);
+    ending_of(alloc, answer, path)
+}
+
+/// Works out the tests of a file of this path and this text, and answers how that ended.
+fn run_test<S: RowSink>(
+    alloc: Global,
+    files: &[SourceFile],
+    path: &str,
+    text: &str,
+    sink: &mut S,
+) -> Ending
+    ensures ending { IsTestEnding files.now path.now text.now (S.taken sink.old) (S.taken sink.new) result }
+    ensures failures { CountsFailure (result.status == 5) (S.failures sink.old) (S.failures sink.new) }
+{
+    let answer = test_rules(alloc, files, text, sink);
+    judged_of(alloc, answer, path)
+}
+
+/// How tests end.
+fn judged_of(alloc: Global, answer: Result<Verdict, Refusal>, path: &str) -> Ending
+    ensures { IsJudged path.now answer result }
+{
+    match answer {
+        Ok(verdict) => Ending::judged(verdict),
+        Err(refusal) => Ending::refused(alloc, &refusal, path),
     }
+}
+
+/// How a command ends that writes no last line.
+fn ending_of(alloc: Global, answer: Result<(), Refusal>, path: &str) -> Ending
+    ensures { IsAnswered path.now answer result }
+{
+    match answer {
+        Ok(()) => Ending::done(),
+        Err(refusal) => Ending::refused(alloc, &refusal, path),
+    }
+}
+
+/// Writes the lines of a run file of this path and this text, and answers how that ended.
+fn run_file<S: RowSink>(
+    alloc: Global,
+    files: &[SourceFile],
+    path: &str,
+    text: &str,
+    from: u64,
+    rows: Option<u64>,
+    sink: &mut S,
+) -> Ending
+    ensures ending { IsGridEnding files.now path.now text.now from rows (S.taken sink.old) (S.taken sink.new) result }
+    ensures failures { CountsFailure (result.status == 5) (S.failures sink.old) (S.failures sink.new) }
+{
+    let answer = run_rules(alloc, files, text, from, rows, sink);
+    end_run(alloc, answer, path, sink)
 }
 
 /// Lists the values of axes, and answers how that ended.
@@ -82,19 +182,24 @@ fn run_axes<S: RowSink>(
     ensures failures { CountsFailure (result.status == 5) (S.failures sink.old) (S.failures sink.new) }
 {
     let answer = axes_words(alloc, words, keep, from, rows, sink);
-    end_run(alloc, answer, sink)
+    end_run(alloc, answer, "", sink)
 }
 
-/// Writes the last line of a run that nothing stopped, and answers how the run ended.
-fn end_run<S: RowSink>(alloc: Global, answer: Result<RunEnd, Refusal>, sink: &mut S) -> Ending
-    ensures ending { IsRunEnding answer (S.taken sink.old) (S.taken sink.new) result }
+/// Writes the last line of a run that nothing stopped, and answers how the run ended. `path` names the command's own file, if it has one.
+fn end_run<S: RowSink>(
+    alloc: Global,
+    answer: Result<RunEnd, Refusal>,
+    path: &str,
+    sink: &mut S,
+) -> Ending
+    ensures ending { IsRunEnding path.now answer (S.taken sink.old) (S.taken sink.new) result }
     ensures failures { CountsFailure (is_ok answer && (result.status == 5)) (S.failures sink.old) (S.failures sink.new) }
 {
     match answer {
         Ok(end) => match write_end(end, sink) {
             Ok(()) => Ending::done(),
-            Err(_) => Ending::refused(alloc, &Refusal::Write),
+            Err(_) => Ending::refused(alloc, &Refusal::Write, path),
         },
-        Err(refusal) => Ending::refused(alloc, &refusal),
+        Err(refusal) => Ending::refused(alloc, &refusal, path),
     }
 }

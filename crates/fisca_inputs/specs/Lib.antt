@@ -2,6 +2,7 @@ pub mod Defaults
 pub mod Entries
 pub mod Faults
 pub mod Inputs
+pub mod KeyHashes
 pub mod Order
 pub mod Outcomes
 pub mod Ranks

@@ -8,18 +8,20 @@ ghost use Rattle.fisca_inputs.specs.Outcomes.{Becomes};
 
 use crate::fault::{SituationFault, SituationKind};
 use crate::given::Value;
+use crate::hasher::KeyHasher;
 use crate::key::Key;
 use indexmap::{IndexMap, IndexSet};
 use std::alloc::{AllocError, Global};
+use std::hash::BuildHasherDefault;
 use std::marker::Model;
 
 /// The largest number of inputs.
-const LIMIT: usize = 100_000;
+pub(crate) const LIMIT: usize = 100_000;
 
 /// The inputs of a situation: a value for each key that has one, seen as the list of its entries.
 #[derive(Drop)]
 pub struct Inputs {
-    entries: IndexMap<Key, Value>,
+    entries: IndexMap<Key, Value, BuildHasherDefault<KeyHasher>>,
 }
 
 impl Model for Inputs {
@@ -36,8 +38,15 @@ impl Inputs {
         ensures { result ≡ [] }
     {
         Inputs {
-            entries: IndexMap::new(alloc),
+            entries: IndexMap::with_hasher(alloc, BuildHasherDefault::new()),
         }
+    }
+
+    /// Makes room for so many more entries.
+    pub(crate) fn reserve(&mut self, count: usize) -> Result<(), AllocError>
+        ensures { self.new ≡ self.old }
+    {
+        self.entries.reserve(count)
     }
 
     /// The value of a key, by one look-up and without memory.

@@ -5,6 +5,7 @@
 mod defaults;
 mod fault;
 mod given;
+mod hasher;
 mod inputs;
 mod key;
 mod law;

@@ -8,12 +8,32 @@ ghost use Rattle.fisca_inputs.specs.Sharing as spec;
 
 use crate::fault::{SituationFault, SituationKind};
 use crate::given::Given;
-use crate::inputs::Inputs;
+use crate::inputs::{Inputs, LIMIT};
 use crate::order::{Rank, in_order};
 use crate::sharing::fault;
 use fisca_tables::Variable;
 use std::alloc::Global;
 use std::collections::BTreeMap;
+
+/// How many parts the period of a given input has.
+fn parts_of(variables: &[Variable<'_>], given: &Given) -> usize {
+    match variables.get(given.variable) {
+        Some(variable) => match given.period.sub_count(variable.definition_period) {
+            Ok(count) => count as usize,
+            Err(_) => 1,
+        },
+        None => 0,
+    }
+}
+
+/// For how many inputs the given ones need room, at most as many as there may be.
+fn room_for(variables: &[Variable<'_>], givens: &[Given]) -> usize {
+    let mut room = 0usize;
+    for given in givens {
+        room = room.saturating_add(parts_of(variables, given));
+    }
+    room.min(LIMIT)
+}
 
 impl Inputs {
     /// The inputs of a situation: those that are given, in the order of the file, beside the variables of a rule set and the number of
@@ -36,6 +56,7 @@ impl Inputs {
     {
         let sorted = in_order(alloc, variables, givens)?;
         let mut inputs = Inputs::new(alloc);
+        inputs.reserve(room_for(variables, givens))?;
         inputs.put_givens(variables, &sorted)?;
         let rows = inputs.rows(alloc)?;
         inputs.put_defaults(variables, counts, givens, &rows)?;

@@ -3,5 +3,7 @@
 mod axes;
 mod check;
 mod folder;
+mod narrow;
 mod refusal;
+mod run;
 mod task;

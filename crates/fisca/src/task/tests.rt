@@ -12,6 +12,18 @@ fn a_command_line_without_a_task_has_its_kind(rt: HostRuntime) -> Result<(), All
         ("fisca", missing_command),
         ("fisca chart", ErrorKind::InvalidSubcommand),
         ("fisca axes", ErrorKind::MissingRequiredArgument),
+        ("fisca calc rules", ErrorKind::MissingRequiredArgument),
+        ("fisca calc rules a b", ErrorKind::UnknownArgument),
+        ("fisca test rules", ErrorKind::MissingRequiredArgument),
+        ("fisca run rules", ErrorKind::MissingRequiredArgument),
+        (
+            "fisca run rules file --rows two",
+            ErrorKind::ValueValidation,
+        ),
+        (
+            "fisca run rules file --keep a>0",
+            ErrorKind::UnknownArgument,
+        ),
         ("fisca axes x=0..1/2 --rows", ErrorKind::InvalidValue),
         (
             "fisca axes x=0..1/2 --rows 18446744073709551616",
@@ -57,8 +69,74 @@ fn words_and_options_of_axes_are_read(rt: HostRuntime) -> Result<(), AllocError>
             assert_eq!(rt; from, 5);
             assert_eq!(rt; rows, Some(7));
         }
-        Ok(Task::Check { .. }) => assert!(rt; false, "axes are asked for"),
+        Ok(Task::Check { .. } | Task::Calc { .. } | Task::Test { .. } | Task::Run { .. }) => {
+            assert!(rt; false, "axes are asked for")
+        }
         Err(error) => assert!(rt; false, "{error}"),
+    }
+    Ok(())
+}
+
+#[test]
+fn the_folder_and_the_file_of_calc_are_read(rt: HostRuntime) -> Result<(), AllocError> {
+    let line = words_of(rt.alloc(), "fisca calc rules file.yaml")?;
+    match read_task(rt.alloc(), line.as_slice()) {
+        Ok(Task::Calc { rules, file }) => {
+            assert_eq!(rt; rules, "rules");
+            assert_eq!(rt; file, "file.yaml");
+        }
+        Ok(Task::Check { .. } | Task::Test { .. } | Task::Run { .. } | Task::Axes { .. }) => {
+            assert!(rt; false, "calc is asked for")
+        }
+        Err(error) => assert!(rt; false, "{error}"),
+    }
+    Ok(())
+}
+
+#[test]
+fn the_folder_and_the_file_of_test_are_read(rt: HostRuntime) -> Result<(), AllocError> {
+    let line = words_of(rt.alloc(), "fisca test rules tests.yaml")?;
+    match read_task(rt.alloc(), line.as_slice()) {
+        Ok(Task::Test { rules, file }) => {
+            assert_eq!(rt; rules, "rules");
+            assert_eq!(rt; file, "tests.yaml");
+        }
+        Ok(Task::Check { .. } | Task::Calc { .. } | Task::Run { .. } | Task::Axes { .. }) => {
+            assert!(rt; false, "test is asked for")
+        }
+        Err(error) => assert!(rt; false, "{error}"),
+    }
+    Ok(())
+}
+
+#[test]
+fn the_folder_the_file_and_the_options_of_run_are_read(rt: HostRuntime) -> Result<(), AllocError> {
+    let table = [
+        ("fisca run rules run.yaml", 0, None),
+        ("fisca run --rows 3 rules run.yaml", 0, Some(3)),
+        ("fisca run rules --from 7 run.yaml --rows 0", 7, Some(0)),
+    ];
+    for (line, start, limit) in table {
+        let words = words_of(rt.alloc(), line)?;
+        match read_task(rt.alloc(), words.as_slice()) {
+            Ok(
+                Task::Run {
+                    rules,
+                    file,
+                    from,
+                    rows,
+                },
+            ) => {
+                assert_eq!(rt; rules, "rules");
+                assert_eq!(rt; file, "run.yaml");
+                assert_eq!(rt; from, start);
+                assert_eq!(rt; rows, limit);
+            }
+            Ok(Task::Check { .. } | Task::Calc { .. } | Task::Test { .. } | Task::Axes { .. }) => {
+                assert!(rt; false, "run is asked for")
+            }
+            Err(error) => assert!(rt; false, "{error}"),
+        }
     }
     Ok(())
 }
@@ -85,6 +163,24 @@ fn help_says_what_the_commands_take_and_answer(rt: HostRuntime) -> Result<(), Al
         ("fisca check --help", RULES_HELP),
         ("fisca check --help", CHECK_EXAMPLE),
         ("fisca help check", CHECK_LONG),
+        ("fisca --help", CALC_ABOUT),
+        ("fisca calc --help", "Usage: fisca calc <RULES> <FILE>"),
+        ("fisca calc --help", CALC_LONG),
+        ("fisca calc --help", FILE_HELP),
+        ("fisca calc --help", CALC_EXAMPLE),
+        ("fisca test --help", "Usage: fisca test <RULES> <TESTS>"),
+        ("fisca test --help", TEST_LONG),
+        ("fisca test --help", TESTS_HELP),
+        ("fisca test --help", TEST_EXAMPLE),
+        ("fisca --help", RUN_ABOUT),
+        (
+            "fisca run --help",
+            "Usage: fisca run [OPTIONS] <RULES> <FILE>",
+        ),
+        ("fisca run --help", RUN_LONG),
+        ("fisca run --help", RUN_FILE_HELP),
+        ("fisca run --help", "  --from <P>"),
+        ("fisca run --help", RUN_EXAMPLE),
         ("fisca axes --help", "Usage: fisca axes [OPTIONS] <AXIS>..."),
         ("fisca axes --help", AXES_LONG),
         ("fisca axes --help", AXES_EXAMPLES),

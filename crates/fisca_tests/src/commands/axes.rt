@@ -1,9 +1,9 @@
 //! `fisca axes` over sinks that fail, and under refused growths.
 
+use super::narrow::Narrow;
 use fisca_commands::{Refusal, axes_words};
 use fisca_lines::{MemorySink, RowSink, RunEnd, RunFault, StreamSink};
 use std::alloc::{AllocError, Global};
-use std::io;
 
 fn one_word(alloc: Global, word: &str) -> Result<Vec<String>, AllocError> {
     let mut words = Vec::new(alloc);
@@ -29,31 +29,6 @@ fn list_salaries<S: RowSink>(
     )
 }
 
-/// A writer that takes a few bytes a call while it has room, and then fails: by an error, or by taking nothing.
-#[derive(Drop)]
-struct Narrow {
-    held: Vec<u8>,
-    per_call: usize,
-    room: usize,
-    answers_zero: bool,
-}
-
-impl io::Write for Narrow {
-    fn write(&mut self, bytes: &[u8]) -> io::Result<usize> {
-        let count = self.per_call.min(self.room).min(bytes.len());
-        if count == 0 && !self.answers_zero {
-            return Err(io::Error::from(io::ErrorKind::StorageFull));
-        }
-        self.held.extend_from_slice(&bytes[..count])?;
-        self.room -= count;
-        Ok(count)
-    }
-
-    fn flush(&mut self) -> io::Result<()> {
-        Ok(())
-    }
-}
-
 /// The text of the first two lines.
 const TWO: &[u8] = b"1\t500\n2\t1000\n";
 
@@ -71,12 +46,7 @@ fn is_broken(alloc: Global, writer: Narrow) -> bool {
 fn a_sink_that_fails_has_the_text_up_to_there(rt: HostRuntime) {
     for (per_call, answers_zero) in [(3, false), (1, false), (1, true)] {
         for room in 0..TWO.len() {
-            let writer = Narrow {
-                held: Vec::new(rt.alloc()),
-                per_call,
-                room,
-                answers_zero,
-            };
+            let writer = Narrow::new(rt.alloc(), per_call, room, answers_zero);
             assert!(rt; is_broken(rt.alloc(), writer), "after {room} bytes");
         }
     }

@@ -13,7 +13,7 @@ fn told_of(alloc: Global, text: &str) -> Result<(String, u8), AllocError> {
     files.push(SourceFile::new(path, String::from_str(alloc, text)?))?;
     let mut sink = MemorySink::new(alloc);
     let task = Task::Check { rules: "rules" };
-    let ending = run_task(alloc, &task, files.as_slice(), &mut sink);
+    let ending = run_task(alloc, &task, files.as_slice(), "", &mut sink);
     let line = String::from_str(alloc, ending.line().unwrap_or(""))?;
     Ok((line, ending.status()))
 }
@@ -49,7 +49,7 @@ fn each_word_of_a_parameter_file_is_told_with_its_line_and_status(
 
 #[test]
 fn a_failed_write_is_told_as_such(rt: HostRuntime) {
-    let ending = Ending::refused(rt.alloc(), &Refusal::Write);
+    let ending = Ending::refused(rt.alloc(), &Refusal::Write, "");
     assert_eq!(rt; ending.status(), 5);
     assert_eq!(rt; ending.line().unwrap_or(""), "fisca: write failed");
 }

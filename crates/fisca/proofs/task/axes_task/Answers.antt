@@ -1,7 +1,7 @@
 use Rattle.std.proofs.Common.{◌∙◌, [], ap, map, codes, unwrap_or}
 use Rattle.clap.proofs.WalkLemmas.{first_value-rows, raw_values-rows}
 use Rattle.clap.specs.Matches.{found_of}
-use Rattle.fisca.proofs.Matches.{texts_or, number_read}
+use Rattle.fisca.proofs.Matches.{texts_or}
 use Rattle.fisca.proofs.task.axes_task.Goals as goal
 
 pub returns : goal.returns
@@ -9,6 +9,6 @@ returns c =
     let found = found_of c.args.matches.now in (
       c.in_ok-copies.ensures ∙ (ap (λ texts. map (λ t. t.now) texts.now) c.unwrap_or.ensures ∙ (texts_or c.get_strs.result _ ∙ ap (λ texts. unwrap_or texts []) (c.get_strs.ensures ∙ raw_values-rows found (codes "AXIS")))),
       c.get_str.ensures ∙ first_value-rows found (codes "keep"),
-      (c.get_one.result, number_read found (codes "from") c.get_one.result c.get_one.ensures.none c.get_one.ensures.value, c.unwrap_or-2.ensures),
-      number_read found (codes "rows") c.get_one-2.result c.get_one-2.ensures.none c.get_one-2.ensures.value,
+      c.start.ensures,
+      c.limit.ensures,
     )

@@ -1,11 +1,9 @@
-use Rattle.std.proofs.Common.{map, option_map, string_bytes}
+use Rattle.std.proofs.Common.{[]}
 use Rattle.fisca_commands.proofs.Endings.{counted}
 use Rattle.fisca_commands.proofs.task.run_axes.Goals as goal
 
 pub returns-clause-failures : goal.returns-clause-failures
 returns-clause-failures g c =
-    counted (map (λ word. string_bytes word) c.args.words.now) (option_map (λ text. text.now) c.args.keep) c.args.from c.args.rows
-    (g.S.RowSink.taken c.args.sink.now) (g.S.RowSink.taken c.axes_words-answer.new.sink) (g.S.RowSink.taken c.end_run.new.sink)
-    c.axes_words-answer.result c.end_run.result
+    counted [] (g.S.RowSink.taken c.axes_words-answer.new.sink) (g.S.RowSink.taken c.end_run.new.sink) c.axes_words-answer.result c.end_run.result
     (g.S.RowSink.failures c.args.sink.now) (g.S.RowSink.failures c.axes_words-answer.new.sink) (g.S.RowSink.failures c.end_run.new.sink)
-    c.axes_words-answer.ensures.answer c.end_run.ensures.ending c.axes_words-answer.ensures.failures c.end_run.ensures.failures
+    c.end_run.ensures.ending c.axes_words-answer.ensures.failures c.end_run.ensures.failures

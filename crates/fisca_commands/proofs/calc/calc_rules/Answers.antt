@@ -1,0 +1,38 @@
+use Rattle.std.proofs.Common.{◌≡◌, ◌∙◌, false, cond, inl, inr, Err, ap, sym, rules}
+use Rattle.std.proofs.lemmas.Result.{err_from_is_err_and}
+use Rattle.std.specs.Io.KnownBytes.{Keeps}
+use Rattle.fisca_calc.specs.Views.{calc}
+use Rattle.fisca_lines.specs.Sink.{one_more}
+use Rattle.fisca_commands.specs.Calc.{Calculation}
+use Rattle.fisca_refusals.specs.Refusal.{is_write}
+use Rattle.fisca_commands.proofs.Calculated.{ready}
+use Rattle.fisca_commands.proofs.Telling.{text_unwritten}
+use Rattle.fisca_commands.proofs.calc.calc_rules.Goals as goal
+
+pub returns-in_err-rules-clause-answer : goal.returns-in_err-rules-clause-answer
+returns-in_err-rules-clause-answer g c =
+    let told = err_from_is_err_and c.from_residual.result c.from_residual.ensures.1 in
+    let keeps : Keeps (g.S.RowSink.taken c.args.sink.now) (g.S.RowSink.taken c.args.sink.now) = search rules in
+    inl (c.in_err-rules.field-0.0, told.1 ∙ ap Err told.2, inl c.in_err-rules.ensures.err, keeps)
+
+pub returns-in_err-file-clause-answer : goal.returns-in_err-file-clause-answer
+returns-in_err-file-clause-answer g c =
+    let told = err_from_is_err_and c.from_residual-in_err-file.result c.from_residual-in_err-file.ensures.1 in
+    let keeps : Keeps (g.S.RowSink.taken c.args.sink.now) (g.S.RowSink.taken c.args.sink.now) = search rules in
+    inl (c.in_err-file.field-0.0, told.1 ∙ ap Err told.2, inr (c.in_ok-rules.rules, c.in_ok-rules.ensures.ok, c.in_err-file.ensures.err), keeps)
+
+pub returns-in_err-file-clause-failures : goal.returns-in_err-file-clause-failures
+returns-in_err-file-clause-failures g c =
+    let told = err_from_is_err_and c.from_residual-in_err-file.result c.from_residual-in_err-file.ensures.1 in
+    let unwritten : is_write c.from_residual-in_err-file.result ≡ false = ap is_write (told.1 ∙ ap Err told.2) ∙ text_unwritten c.in_ok-rules.rules c.args.text.now c.in_err-file.field-0.0 c.in_err-file.ensures.err in
+    ap (λ failed. cond failed (one_more (g.S.RowSink.failures c.args.sink.now)) (g.S.RowSink.failures c.args.sink.now)) (sym unwritten)
+
+pub write_values-requires : goal.write_values-requires
+write_values-requires g c =
+    let asked : Calculation = record { rules = c.in_ok-rules.rules; asked = calc c.in_ok-file.file } in
+    ready c.args.files.now c.args.text.now asked c.rule_sets_are_safe.ensures c.calc_inputs_fit.ensures c.in_ok-rules.ensures.ok c.in_ok-file.ensures.ok
+
+pub returns-clause-answer : goal.returns-clause-answer
+returns-clause-answer g c =
+    let asked : Calculation = record { rules = c.in_ok-rules.rules; asked = calc c.in_ok-file.file } in
+    inr (asked, (c.in_ok-rules.ensures.ok, c.in_ok-file.ensures.ok), c.write_values.ensures.answer)

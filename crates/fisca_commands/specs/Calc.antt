@@ -1,0 +1,101 @@
+-- What `fisca calc` answers and writes.
+use Rattle.std.specs.Prelude.{◌≡◌, ◌≢◌, ◌⊎◌, ℕ, ◌++◌, List, [], length, Option, Some, None, Result, Ok, Err}
+use Rattle.std.specs.Io.KnownBytes.{Appends, Keeps}
+use Rattle.fisca_calc.specs.Calc.{Calc, calc_of}
+use Rattle.fisca_calc.specs.Lines.{column_row}
+use Rattle.fisca_calc.specs.declared.fault.RunFileFault.{RunFileFault}
+use Rattle.fisca_calc.specs.declared.fault.RunFileKind.TheVariants as file
+use Rattle.fisca_eval.specs.Told.{told_in}
+use Rattle.fisca_eval.specs.declared.fault.EvalFault.{EvalFault}
+use Rattle.fisca_lines.specs.Lines.{lines}
+use Rattle.fisca_lines.specs.Row.{Row}
+use Rattle.fisca_lines.specs.Run.{IsRun, texts}
+use Rattle.fisca_lines.specs.declared.fault.RunEnd.{RunEnd}
+use Rattle.fisca_lines.specs.declared.fault.RunEnd.TheVariants.{End}
+use Rattle.fisca_lines.specs.declared.fault.RunFault.{RunFault}
+use Rattle.fisca_lines.specs.declared.fault.RunFault.TheVariants as run
+use Rattle.fisca_members.specs.declared.entity_members.EntityMembers.{EntityMembers}
+use Rattle.fisca_params.specs.Source.{Source}
+use Rattle.fisca_rules.specs.Views.{rule_set}
+use Rattle.fisca_rules.specs.declared.rule_set.RuleSet.{RuleSet}
+use Rattle.fisca_sources.specs.Simulations.{Simulation}
+use Rattle.fisca_tables.specs.Known.{tables as known}
+use Rattle.fisca_yaml.specs.Grouping.{document}
+use Rattle.fisca_yaml.specs.Node.{Node}
+use Rattle.fisca_yaml.specs.declared.fault.Kind.TheVariants as yaml
+use Rattle.fisca_yaml.specs.declared.fault.YamlFault.{YamlFault}
+use Rattle.fisca_rule_files.specs.RuleFiles.{IsAccepted, RefusesFiles}
+use Rattle.fisca_commands.specs.Unanswered.{IsUnanswered}
+use Rattle.fisca_refusals.specs.declared.refusal.Refusal.{Refusal}
+use Rattle.fisca_refusals.specs.declared.refusal.Refusal.TheVariants.{Yaml, RunFile, Eval, Write, Memory}
+use Rattle.fisca_refusals.specs.declared.refusal.Unanswered.{Unanswered}
+
+-- a rule set, as it stands in memory, and what a file asks for under it
+pub record Calculation : Type 0 where
+  pub rules : RuleSet
+  pub asked : Calc
+
+-- the text is YAML, and a file that asks for this under the rule set
+abbrev pub IsAsked : RuleSet → List ℕ → Calc → Type 0
+IsAsked rules text asked = (n : Node) × (document text ≡ Some n) × (calc_of rules.tables n ≡ Ok asked)
+
+-- the files make the rule set, and the text asks for this under it
+abbrev pub IsCalculation : List Source → List ℕ → Calculation → Type 0
+IsCalculation files text c = IsAccepted files (rule_set c.rules) × IsAsked c.rules text c.asked
+
+-- where values are worked out; no variable is neutralised
+abbrev pub simulation_of : Calculation → Simulation
+simulation_of c = record { rules = rule_set c.rules; situation = c.asked.situation; neutral = [] }
+
+-- what stands at the place of a column: the line of its key with the value that the rules define, or why it has none
+abbrev pub row_of : Calculation → ℕ → Row EvalFault
+row_of c = column_row (known c.rules.tables) c.asked.situation.members (told_in (simulation_of c)) c.asked.columns
+
+-- the lines of the columns in order, up to the first that has no value
+abbrev pub lines_of : Calculation → List (ℕ × List ℕ)
+lines_of c = lines (row_of c) (length c.asked.columns) 0 None
+
+-- the run over all columns answers this, where a sink held `old` and then holds `new`
+abbrev pub IsColumnsRun : Calculation → Option (List ℕ) → Option (List ℕ) → Result RunEnd (RunFault EvalFault) → Type 0
+IsColumnsRun c = IsRun (row_of c) (length c.asked.columns) 0 None
+
+-- the refusal tells the fault with its key, or that memory was refused
+abbrev pub IsKeyTold : RuleSet → List EntityMembers → EvalFault → Refusal → Type 0
+IsKeyTold rules members fault refusal = (refusal ≡ Memory) ⊎ ((u : Unanswered) × (refusal ≡ Eval u) × IsUnanswered rules members fault u)
+
+-- the first of the lines are written, each whole
+abbrev pub WritesFirst : List (ℕ × List ℕ) → Option (List ℕ) → Option (List ℕ) → Type 0
+WritesFirst all old new = (first : List (ℕ × List ℕ)) × ((rest : List (ℕ × List ℕ)) × (all ≡ first ++ rest)) × Appends old new (texts first)
+
+-- why the run over the columns is refused: the sink failed, a column has no value, or memory was refused
+abbrev pub IsStopped : Calculation → Option (List ℕ) → Option (List ℕ) → Refusal → Type 0
+IsStopped c old new refusal =
+    ((refusal ≡ Write) × ((position : ℕ) × IsColumnsRun c old new (Err (run.Write position))))
+    ⊎ (((fault : EvalFault) × (u : Unanswered) × (refusal ≡ Eval u) × IsUnanswered c.rules c.asked.situation.members fault u × ((position : ℕ) × IsColumnsRun c old new (Err (run.Eval position fault))))
+    ⊎ ((refusal ≡ Memory) × WritesFirst (lines_of c) old new))
+
+-- what is answered once it is known what the text asks for
+abbrev pub IsCalculated : Calculation → Option (List ℕ) → Option (List ℕ) → Result Unit Refusal → Type 0
+IsCalculated c old new (Ok done) = IsColumnsRun c old new (Ok End)
+IsCalculated c old new (Err refusal) = IsStopped c old new refusal
+
+-- the text is refused as YAML, or memory was refused
+abbrev pub IsYamlRefused : List ℕ → Refusal → Type 0
+IsYamlRefused text refusal = (refusal ≡ Memory) ⊎ ((fault : YamlFault) × (refusal ≡ Yaml fault) × (fault.kind ≢ yaml.Memory) × (document text ≡ None))
+
+-- the text is refused under a rule set: it is no YAML, else no file of `calc`; or memory was refused
+abbrev pub RefusesText : RuleSet → List ℕ → Refusal → Type 0
+RefusesText rules text refusal =
+    IsYamlRefused text refusal
+    ⊎ ((n : Node) × (fault : RunFileFault) × (refusal ≡ RunFile fault) × (fault.kind ≢ file.Memory) × (document text ≡ Some n) × (calc_of rules.tables n ≡ Err fault))
+
+-- the first reason for which nothing is worked out is told: the files are refused, else the text
+abbrev pub RefusesCalculation : List Source → List ℕ → Refusal → Type 0
+RefusesCalculation files text refusal = RefusesFiles files refusal ⊎ ((rules : RuleSet) × IsAccepted files (rule_set rules) × RefusesText rules text refusal)
+
+-- what `calc` answers for these files and this text, and what a sink that held `old` then holds: they are refused and nothing is written, or
+-- the lines of the columns are written in order, up to the first that has no value
+abbrev pub IsCalc : List Source → List ℕ → Option (List ℕ) → Option (List ℕ) → Result Unit Refusal → Type 0
+IsCalc files text old new answer =
+    ((refusal : Refusal) × (answer ≡ Err refusal) × RefusesCalculation files text refusal × Keeps old new)
+    ⊎ ((c : Calculation) × IsCalculation files text c × IsCalculated c old new answer)

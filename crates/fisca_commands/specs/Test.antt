@@ -1,0 +1,73 @@
+-- What `fisca test` answers and writes.
+use Rattle.std.specs.Prelude.{◌≡◌, ◌≢◌, ◌⊎◌, ℕ, List, [], Option, Some, Result, Ok, Err}
+use Rattle.std.specs.Io.KnownBytes.{Keeps}
+use Rattle.fisca_eval.specs.Faults.{name_of}
+use Rattle.fisca_eval.specs.Told.{told_in}
+use Rattle.fisca_eval.specs.declared.fault.EvalFault.{EvalFault}
+use Rattle.fisca_params.specs.Source.{Source}
+use Rattle.fisca_refusals.specs.declared.refusal.Refusal.{Refusal}
+use Rattle.fisca_refusals.specs.declared.refusal.Refusal.TheVariants.{Tests, Write, Memory}
+use Rattle.fisca_rule_files.specs.RuleFiles.{IsAccepted, RefusesFiles}
+use Rattle.fisca_rules.specs.Views.{rule_set}
+use Rattle.fisca_rules.specs.declared.rule_set.RuleSet.{RuleSet}
+use Rattle.fisca_situations.specs.Situations.{Situation}
+use Rattle.fisca_sources.specs.Simulations.{Simulation}
+use Rattle.fisca_tables.specs.Known.{tables as known}
+use Rattle.fisca_verdicts.specs.KeyFaults.{key_told}
+use Rattle.fisca_verdicts.specs.Report.{IsReport, Scene, scene_of}
+use Rattle.fisca_verdicts.specs.Tests.{Test, tests_of}
+use Rattle.fisca_verdicts.specs.declared.all.Verdict.{Verdict}
+use Rattle.fisca_verdicts.specs.declared.fault.TestFault.{TestFault}
+use Rattle.fisca_verdicts.specs.declared.fault.TestKind.TheVariants as kind
+use Rattle.fisca_verdicts.specs.declared.fault.VerdictFault.TheVariants as report
+use Rattle.fisca_yaml.specs.Grouping.{document}
+use Rattle.fisca_yaml.specs.Node.{Node}
+use Rattle.fisca_commands.specs.Calc.{IsYamlRefused}
+
+-- a rule set, as it stands in memory, and the tests that a file says under it
+pub record Testing : Type 0 where
+  pub rules : RuleSet
+  pub tests : List Test
+
+-- the text is YAML, and a file that says these tests under the rule set
+abbrev pub SaysTests : RuleSet → List ℕ → List Test → Type 0
+SaysTests rules text tests = (n : Node) × (document text ≡ Some n) × (tests_of rules.tables n ≡ Ok tests)
+
+-- the files make the rule set, and the text says the tests under it
+abbrev pub IsTesting : List Source → List ℕ → Testing → Type 0
+IsTesting files text t = IsAccepted files (rule_set t.rules) × SaysTests t.rules text t.tests
+
+-- where the values of a test are worked out; no variable is neutralised
+abbrev pub simulation_in : RuleSet → Situation → Simulation
+simulation_in rules s = record { rules = rule_set rules; situation = s; neutral = [] }
+
+-- each key of a test has the value that the rules define in the test's situation, or the fault for which it has none
+abbrev pub scene_in : RuleSet → Test → Scene EvalFault
+scene_in rules = scene_of (known rules.tables) (λ s. told_in (simulation_in rules s)) name_of key_told
+
+-- What is answered once it is known which tests there are: how many pass and fail, and their report is written; or the sink failed, and has a
+-- proper beginning of it; or memory was refused, and the sink has what is told of the first tests.
+abbrev pub IsTested : Testing → Option (List ℕ) → Option (List ℕ) → Result Verdict Refusal → Type 0
+IsTested t old new (Ok verdict) = IsReport (scene_in t.rules) t.tests old new (Ok verdict)
+IsTested t old new (Err refusal) =
+    ((refusal ≡ Write) × IsReport (scene_in t.rules) t.tests old new (Err report.Write))
+    ⊎ ((refusal ≡ Memory) × IsReport (scene_in t.rules) t.tests old new (Err report.Memory))
+
+-- the tree is refused as a file of tests, or memory was refused
+abbrev pub RefusesTree : RuleSet → Node → Refusal → Type 0
+RefusesTree rules n refusal = (refusal ≡ Memory) ⊎ ((fault : TestFault) × (refusal ≡ Tests fault) × (fault.kind ≢ kind.Memory) × (tests_of rules.tables n ≡ Err fault))
+
+-- the text is refused under a rule set: it is no YAML, else no file of tests; or memory was refused
+abbrev pub RefusesTests : RuleSet → List ℕ → Refusal → Type 0
+RefusesTests rules text refusal = IsYamlRefused text refusal ⊎ ((n : Node) × (document text ≡ Some n) × RefusesTree rules n refusal)
+
+-- the first reason for which nothing is worked out is told: the files are refused, else the text
+abbrev pub RefusesTesting : List Source → List ℕ → Refusal → Type 0
+RefusesTesting files text refusal = RefusesFiles files refusal ⊎ ((rules : RuleSet) × IsAccepted files (rule_set rules) × RefusesTests rules text refusal)
+
+-- what `test` answers for these files and this text, and what a sink that held `old` then holds: they are refused and nothing is written, or
+-- the tests are worked out in order
+abbrev pub IsTest : List Source → List ℕ → Option (List ℕ) → Option (List ℕ) → Result Verdict Refusal → Type 0
+IsTest files text old new answer =
+    ((refusal : Refusal) × (answer ≡ Err refusal) × RefusesTesting files text refusal × Keeps old new)
+    ⊎ ((t : Testing) × IsTesting files text t × IsTested t old new answer)

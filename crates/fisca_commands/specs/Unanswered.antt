@@ -1,0 +1,19 @@
+-- What is told of a key that has no value.
+use Rattle.std.specs.Prelude.{◌≡◌, ℕ, List, codes, string_bytes, Option, Some, option_map}
+use Rattle.fisca_columns.specs.Texts.{key_text}
+use Rattle.fisca_eval.specs.Faults.{told}
+use Rattle.fisca_eval.specs.declared.fault.EvalFault.{EvalFault}
+use Rattle.fisca_inputs.specs.Seen.{key_of}
+use Rattle.fisca_members.specs.declared.entity_members.EntityMembers.{EntityMembers}
+use Rattle.fisca_refusals.specs.declared.refusal.Unanswered.{Unanswered}
+use Rattle.fisca_rules.specs.declared.rule_set.RuleSet.{RuleSet}
+use Rattle.fisca_tables.specs.Known.{tables as known}
+
+-- the text of the key that a fault is told of, among these members
+abbrev pub key_told : RuleSet → List EntityMembers → EvalFault → Option (List ℕ)
+key_told rules members fault = option_map (λ f. key_text (codes " ") (known rules.tables) members (key_of f.key)) (told fault)
+
+-- the fault, and the text of its key
+pub record IsUnanswered (rules : RuleSet) (members : List EntityMembers) (fault : EvalFault) (u : Unanswered) : Type 0 where
+  pub fault : u.fault ≡ fault
+  pub key : key_told rules members fault ≡ Some (string_bytes u.key)

@@ -1,0 +1,114 @@
+//! `fisca run`: the lines of a run file over its grid.
+
+ghost use Rattle.std.specs.Prelude.{◌≡◌, IfOk, IfErr, Ok};
+ghost use Rattle.fisca_commands.specs.Run.{IsRunAnswer, IsRunTold, IsStopTold, RefusesRunTree};
+ghost use Rattle.fisca_lines.specs.Sink.{CountsFailure};
+ghost use Rattle.fisca_refusals.specs.Refusal.{is_write};
+ghost use Rattle.fisca_run.specs.Runs.{IsAsked};
+ghost use Rattle.fisca_run_file.specs.RunFiles.{run_file_of};
+ghost use Rattle.fisca_run_file.specs.Views.{run_file as run_file_view};
+ghost use Rattle.fisca_yaml.specs.Views.{node};
+
+use super::calc::read_tree;
+use super::unanswered::unanswered;
+use fisca_calc::RunFileKind;
+use fisca_eval::{EvalFault, rule_sets_are_safe};
+use fisca_lines::{RowSink, RunEnd, RunFault};
+use fisca_params::SourceFile;
+use fisca_refusals::Refusal;
+use fisca_rule_files::rules_of;
+use fisca_rules::RuleSet;
+use fisca_run::run_grid;
+use fisca_run_file::RunFile;
+use fisca_yaml::Tree;
+use std::alloc::Global;
+
+/// The run file that a tree says under a rule set.
+fn read_run(alloc: Global, rules: &RuleSet<'_>, tree: &Tree<'_>) -> Result<RunFile, Refusal>
+    ensures ok { IfOk result (λ run. run_file_of rules.now.tables (node tree.now) ≡ Ok (run_file_view run)) }
+    ensures err { IfErr result (RefusesRunTree rules.now (node tree.now)) }
+{
+    match RunFile::read(alloc, &rules.tables, tree) {
+        Ok(run) => Ok(run),
+        Err(fault) if fault.kind == RunFileKind::Memory => Err(Refusal::Memory),
+        Err(fault) => Err(Refusal::RunFile(fault)),
+    }
+}
+
+/// The refusal of a run that this fault stopped, with the text of the key that a fault of an evaluation is told of.
+fn tell_stop(
+    alloc: Global,
+    rules: &RuleSet<'_>,
+    run: &RunFile,
+    fault: RunFault<EvalFault>,
+) -> Refusal
+    ensures { IsStopTold (record { rules = rules.now; run = run_file_view run.now }) fault result }
+{
+    match fault {
+        RunFault::BadPosition => Refusal::Run(RunFault::BadPosition),
+        RunFault::Eval { position, fault } => {
+            match unanswered(alloc, rules, run.situation(), fault) {
+                Ok(fault) => Refusal::Run(RunFault::Eval { position, fault }),
+                Err(_) => Refusal::Run(RunFault::Memory { position }),
+            }
+        }
+        RunFault::Write { position } => Refusal::Run(RunFault::Write { position }),
+        RunFault::Memory { position } => Refusal::Run(RunFault::Memory { position }),
+    }
+}
+
+/// Writes the lines of a run file under a rule set.
+fn write_run<S: RowSink>(
+    alloc: Global,
+    rules: &RuleSet<'_>,
+    tree: &Tree<'_>,
+    run: &RunFile,
+    from: u64,
+    rows: Option<u64>,
+    sink: &mut S,
+) -> Result<RunEnd, Refusal>
+    requires { IsAsked rules.now (node tree.now) (run_file_view run.now) }
+    ensures answer { IsRunTold (record { rules = rules.now; run = run_file_view run.now }) from rows (S.taken sink.old) (S.taken sink.new) result }
+    ensures failures { CountsFailure (is_write result) (S.failures sink.old) (S.failures sink.new) }
+{
+    match run_grid(alloc, rules, tree, run, from, rows, sink) {
+        Ok(end) => Ok(end),
+        Err(fault) => Err(tell_stop(alloc, rules, run, fault)),
+    }
+}
+
+/// Writes the lines of a run file under a rule set: from the position `from` of its grid on, in order, one line for each position at which all
+/// conditions of the filter hold, up to `rows` lines, and answers how the run ends: `End`, or `More` with the position from which a further run
+/// writes exactly the remaining lines. A line is the position, the values of the axes and those of the columns, with tabs between them, and a line
+/// feed. The text is a map of `axes`, and perhaps `period`, `input`, `filter`, `columns` and `neutralize`, as of [`RunFile::read`].
+///
+/// The first refusal in this order is told, and nothing is written before the run:
+///
+/// - `TooManyFiles`, `Params` and `Formula` as of `check_rules`: the files make no rule set.
+/// - `Yaml` exactly where the text has no tree, with the line and the kind of its first fault.
+/// - `RunFile` exactly where the tree is no run file under the rule set, with the line and the kind of its first fault.
+/// - `Run` with `BadPosition` where `from` is above the number of positions.
+/// - `Run` with `Eval` exactly where a condition or a column that is worked out has no value before the limit is reached: the first such position,
+///   its fault, and the text of the key that the fault names, with single spaces. The sink has the lines before it.
+/// - `Run` with `Write` only where the sink failed in this call: it has the lines before the position that is named, and a proper beginning of the
+///   line there.
+/// - `Run` with `Memory`, or `Memory`, only where memory was refused: the sink has the lines before the position.
+///
+/// The values are those of OpenFisca's rules by exact fractions; the file and the lines are this project's own.
+pub fn run_rules<S: RowSink>(
+    alloc: Global,
+    files: &[SourceFile],
+    text: &str,
+    from: u64,
+    rows: Option<u64>,
+    sink: &mut S,
+) -> Result<RunEnd, Refusal>
+    ensures answer { IsRunAnswer files.now text.now from rows (S.taken sink.old) (S.taken sink.new) result }
+    ensures failures { CountsFailure (is_write result) (S.failures sink.old) (S.failures sink.new) }
+{
+    let rules = rules_of(alloc, files)?;
+    let tree = read_tree(alloc, text)?;
+    let run = read_run(alloc, &rules, &tree)?;
+    rule_sets_are_safe();
+    write_run(alloc, &rules, &tree, &run, from, rows, sink)
+}

@@ -1,0 +1,30 @@
+//! What is told of a key that has no value.
+
+ghost use Rattle.std.specs.Prelude.{IfOk};
+ghost use Rattle.fisca_commands.specs.Unanswered.{IsUnanswered};
+ghost use Rattle.fisca_situations.specs.Views.{situation as situation_view};
+
+use fisca_columns::key_text;
+use fisca_eval::EvalFault;
+use fisca_refusals::Unanswered;
+use fisca_rules::RuleSet;
+use fisca_situations::Situation;
+use std::alloc::{AllocError, Global};
+
+/// A fault, with the text of the key that it names. Want of memory names none, and is the error, as is that of the text.
+pub(crate) fn unanswered(
+    alloc: Global,
+    rules: &RuleSet<'_>,
+    situation: &Situation,
+    fault: EvalFault,
+) -> Result<Unanswered, AllocError>
+    ensures { IfOk result (IsUnanswered rules.now (situation_view situation.now).members fault) }
+{
+    match fault.key() {
+        Some(key) => {
+            let key = key_text(alloc, &rules.tables, situation, &key)?;
+            Ok(Unanswered { fault, key })
+        }
+        None => Err(AllocError),
+    }
+}

@@ -1,0 +1,133 @@
+-- The formula of the last of the keys, question by question.
+use Rattle.std.proofs.Common.{◌≡◌, ◌⊎◌, ℕ, ◌+◌, ◌<◌, max, List, [], ◌∷◌, ◌++◌, length, map, Option, Some, None, Result, Err, sym, ap, subst}
+use Rattle.fisca_answers.specs.Answers.{Sources, value_within}
+use Rattle.fisca_answers.specs.Chains.{AsksFor, asked}
+use Rattle.fisca_answers.specs.Inquiry.{Fault, Inquiry, asks, named, of_key}
+use Rattle.fisca_answers.specs.Stacks.{left_below}
+use Rattle.fisca_formula.specs.Formulas.{formula_view}
+use Rattle.fisca_formula.specs.declared.formula.Formula.{Formula}
+use Rattle.fisca_heights.specs.Gathered.{IsGathered}
+use Rattle.fisca_heights.specs.Work.{IsWork, Covered, PassedPath}
+use Rattle.fisca_heights.proofs.Gathering.{gathered_none, gathered_asks}
+use Rattle.fisca_heights.proofs.Steps.{worked_value, worked_all, worked_fault, fault_stopped, needed_stack, needed_fault, needed_more, needed_less, needs_work, needs_stopped, needs_passed}
+use Rattle.fisca_inputs.specs.Seen.{key_seen, value_seen}
+use Rattle.fisca_inputs.specs.Typed.{IsValueOf}
+use Rattle.fisca_inputs.specs.declared.given.Value.{Value as Given}
+use Rattle.fisca_inputs.specs.declared.key.Key.{Key}
+use Rattle.fisca_machine.specs.Running.{before}
+use Rattle.fisca_machine.specs.World.{tables, groups}
+use Rattle.fisca_meaning.specs.Dialogues as meaning
+use Rattle.fisca_meaning.specs.Dialogues.{Value, Dialogue}
+use Rattle.fisca_meaning.specs.Meaning.{formula_means}
+use Rattle.fisca_meaning.specs.Questions.{variable_type}
+use Rattle.fisca_recall.specs.declared.known.Known.{Known}
+use Rattle.fisca_sources.specs.Simulations.{start_point}
+use Rattle.fisca_sources.specs.Sound.{GivesOnly, AreSound}
+use Rattle.fisca_sources.proofs.Casts.{typed_is_of}
+use Rattle.fisca_sources.proofs.Sources.{sources_sound}
+use Rattle.fisca_sources.proofs.Values.{values_fit}
+use Rattle.fisca_tables.specs.declared.variable.Variable.{Variable}
+use Rattle.fisca_values.specs.Casts.{cast}
+use Rattle.fisca_variables.specs.VariableForms.{written}
+use Rattle.fisca_eval.specs.Faults.{IsTold}
+use Rattle.fisca_eval.proofs.Steps.{is_told}
+use Rattle.fisca_memo.proofs.Apart.{apart}
+use Rattle.fisca_memo.specs.Recalled.{IfTold, IsKnownAt, IsKnownBelow, IsStack, IsWorking, work_at, work_below}
+use Rattle.fisca_memo.specs.Scenes.{IsScene, known_in, seen, sources_in, wanted, wanted_of_work, work}
+use Rattle.fisca_memo.specs.Scenes as scenes
+use Rattle.fisca_memo.specs.declared.scene.Scene.{Scene}
+
+-- what is told of one answer is told of another that has the same fault
+told_on : (o : Option Fault) (one other : Result Value Fault) → ((f : Fault) → one ≡ Err f → other ≡ Err f) → IsTold o one → IsTold o other
+told_on None one other h t = tt
+told_on (Some f) one other h t = h f t
+
+-- a formula, where it begins
+module _ (s : Scene) (v : Variable) (f : Formula) (key : Key) where
+  pub begins : IsScene s → before (formula_means (tables s.world) (groups s.world) (formula_view f) (start_point (written v) (key_seen key))) (cast v.value_type) ≡ work s v f key
+  begins is = λ i. before (formula_means (is.tables i) (is.groups i) (formula_view f) (start_point (written v) (key_seen key))) (cast v.value_type)
+
+  pub nothing_asked : (n : ℕ) (r : Dialogue) (P : meaning.Key → Type 0) → r ≡ work s v f key → IsGathered (sources_in s) n (of_key (key_seen key) (work s v f key)) (of_key (key_seen key) r) 0 P
+  nothing_asked n r P e = gathered_none (sources_in s) n (of_key (key_seen key) (work s v f key)) (of_key (key_seen key) r) P (ap (of_key (key_seen key)) (sym e))
+
+-- of the formula's dialogue r is left
+module _ (s : Scene) (v : Variable) (f : Formula) (key : Key) (keys : List Key) (r : Dialogue) (tallest : ℕ) (M : meaning.Key → Type 0) (is : scenes.IsWork s v f key)
+    (g : IsGathered (sources_in s) (left_below (map key_seen keys)) (of_key (key_seen key) (work s v f key)) (of_key (key_seen key) r) tallest (Covered (sources_in s) M)) where
+  abbrev src : Sources
+  src = sources_in s
+
+  abbrev stack : List meaning.Key
+  stack = map key_seen keys
+
+  abbrev k : meaning.Key
+  k = key_seen key
+
+  abbrev q : Inquiry
+  q = of_key k (work s v f key)
+
+  abbrev now : Inquiry
+  now = of_key k r
+
+  -- it gives a value
+  module _ (x : Given) (e : r ≡ meaning.gives (value_seen x)) where
+    pub done_known : IsKnownAt (sources_in s) keys key (record { value = x; height = tallest + 1; reads = 0 })
+    done_known = worked_value src stack k q now tallest M is.source g (value_seen x) (ap (of_key k) e)
+
+    pub done_all : (n : ℕ) (i : meaning.Key) → IsWork (sources_in s) n (key_seen key) i → (i ≡ key_seen key) ⊎ M i
+    done_all = worked_all src stack k q now tallest M is.source g (value_seen x) (ap (of_key k) e)
+
+  -- it fails
+  module _ (x : meaning.Fault) (e : r ≡ meaning.fails x) where
+    pub failed_fault : (o : Option Fault) → o ≡ Some (named (key_seen key) x) → IsTold o (wanted_of_work s keys v f key)
+    failed_fault o t = is_told o (named k x) _ t (worked_fault src stack k q now tallest M is.source g (named k x) (ap (of_key k) e))
+
+    pub failed_done : (o : Option Fault) → IfTold o ((i : meaning.Key) → work_at (sources_in s) keys key i → M i)
+    failed_done None = tt
+    failed_done (Some y) = fault_stopped src stack k q now tallest M is.source g (named k x) (ap (of_key k) e)
+
+  -- it asks for j
+  module _ (j : Key) (go : Value → Dialogue) (e : r ≡ meaning.asks (key_seen j) go) where
+    abbrev then_left : Value → Inquiry
+    then_left = λ x. of_key k (go x)
+
+    asks_so : now ≡ asks (key_seen j) then_left
+    asks_so = ap (of_key k) e
+
+    asks_for : AsksFor src k (key_seen j)
+    asks_for = record { fuel = left_below stack; inquiry = q; is_formula = is.source; asks = gathered_asks src (left_below stack) q now tallest (Covered src M) g (key_seen j) then_left asks_so }
+
+    pub next_stack : IsWorking (sources_in s) keys key → IsStack (sources_in s) keys j
+    next_stack w = needed_stack src stack k q now tallest M is.source g (key_seen j) then_left asks_so w
+
+    pub next_passed : IsWorking (sources_in s) keys key → PassedPath (sources_in s) M (map key_seen keys) → PassedPath (sources_in s) M (map key_seen keys ++ key_seen j ∷ [])
+    next_passed w p = needs_passed src stack k q now tallest M is.source g (key_seen j) then_left asks_so w p
+
+    pub next_fault : IsWorking (sources_in s) keys key → (o : Option Fault) → IsTold o (wanted s keys j) → IsTold o (wanted_of_work s keys v f key)
+    next_fault w o t = told_on o (wanted s keys j) (wanted_of_work s keys v f key) (needed_fault src stack k q now tallest M is.source g (key_seen j) then_left asks_so w) t
+
+    pub next_work : (i : meaning.Key) → work_below (sources_in s) keys j i → work_at (sources_in s) keys key i
+    next_work i w = needs_work src stack k q now tallest M is.source g (key_seen j) then_left asks_so i w
+
+    pub next_apart : work_below (sources_in s) keys j (key_seen key) → ⊥
+    next_apart w = apart src (left_below stack) k (key_seen j) asks_for w
+
+    pub next_done : (o : Option Fault) → IsTold o (wanted s keys j) → IfTold o ((i : meaning.Key) → work_below (sources_in s) keys j i → M i) → IfTold o ((i : meaning.Key) → work_at (sources_in s) keys key i → M i)
+    next_done None t d = tt
+    next_done (Some x) t d = needs_stopped src stack k q now tallest M is.source g (key_seen j) then_left asks_so x t d
+
+    -- one more answer
+    module _ (x : Known) (known : IsKnownBelow (sources_in s) keys j x) where
+      pub next_more : (M' : meaning.Key → Type 0) → ((i : meaning.Key) → M i → M' i) → Covered (sources_in s) M' (key_seen j)
+          → IsGathered (sources_in s) (left_below (map key_seen keys)) (of_key (key_seen key) (work s v f key)) (of_key (key_seen key) (go (value_seen x.value))) (max tallest x.height) (Covered (sources_in s) M')
+      next_more M' up c = needed_more src stack k q now tallest M is.source g (key_seen j) then_left asks_so M' up (value_seen x.value) x.height known c
+
+      pub next_less : length (asked (value_within (sources_in s) (left_below (map key_seen keys))) (of_key (key_seen key) (go (value_seen x.value))))
+          < length (asked (value_within (sources_in s) (left_below (map key_seen keys))) (of_key (key_seen key) r))
+      next_less = needed_less src stack k q now tallest M is.source g (key_seen j) then_left asks_so (value_seen x.value) x.height known
+
+      pub next_sound : IsScene s → GivesOnly (known_in s) (IsValueOf (known_in s) key.variable) r → GivesOnly (known_in s) (IsValueOf (known_in s) key.variable) (go (value_seen x.value))
+      next_sound scene h =
+          let c = known_in s in
+          let asked_so : GivesOnly c (IsValueOf c key.variable) (meaning.asks (key_seen j) go) = subst (GivesOnly c (IsValueOf c key.variable)) e h in
+          let sound : AreSound c (sources_in s) = sources_sound (seen s) scene.safe scene.fit in
+          asked_so.2 (value_seen x.value) (typed_is_of c (variable_type c j.variable) asked_so.0 (value_seen x.value) asked_so.1 (values_fit c (sources_in s) sound (left_below stack) (key_seen j) (value_seen x.value) known.answers))

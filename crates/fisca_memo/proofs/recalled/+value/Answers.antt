@@ -1,0 +1,391 @@
+use Rattle.std.proofs.Common.{◌≡◌, ◌+◌, ◌<◌, ◌∷◌, [], length, length-append, map, None, Err, false, refl, arith, rules, sym, ap, subst, ◌∙◌, ⊎_elim}
+use Rattle.std.proofs.lemmas.Result.{err_from_is_err_and}
+use Rattle.fisca_answers.specs.Inquiry.{fault_at, too_deep}
+use Rattle.fisca_answers.specs.Keys.{has}
+use Rattle.fisca_answers.specs.Stacks.{IsAskable}
+use Rattle.fisca_answers.proofs.Below.{below_refused}
+use Rattle.fisca_formula.specs.Formulas.{formula_view}
+use Rattle.fisca_heights.specs.Entries.{Remembered}
+use Rattle.fisca_heights.specs.Work.{Covered, IsWork}
+use Rattle.fisca_heights.proofs.Gathering.{gathered_wider}
+use Rattle.fisca_heights.proofs.Growing.{grows_on, grows_wider}
+use Rattle.fisca_heights.proofs.Steps.{covered_wider}
+use Rattle.fisca_heights.proofs.WorkDone.{covered_known, passed_path_more, work_refused}
+use Rattle.fisca_inputs.specs.Seen.{key_seen, value_seen}
+use Rattle.fisca_inputs.specs.Typed.{IsValueOf}
+use Rattle.fisca_machine.specs.Running.{rest, resume}
+use Rattle.fisca_sources.specs.Sound.{GivesOnly}
+use Rattle.fisca_sources.proofs.Origins.{of_none, of_input, of_formula, of_default, of_nothing}
+use Rattle.fisca_sources.proofs.Sources.{works_soundly}
+use Rattle.fisca_variables.specs.VariableForms.{written}
+use Rattle.fisca_memo.proofs.Memories.{none_there}
+use Rattle.fisca_memo.proofs.Outcomes.{on_ok_any, told_any}
+use Rattle.fisca_memo.proofs.Recalls.{full_below, full_done}
+use Rattle.fisca_memo.proofs.Remembering.{grows_none, pushed_working, pushed_passed, popped_known, popped_grows, popped_done, popped_fault, own_known, own_work, kept_grows, kept_covered, kept_counted, lost_counted}
+use Rattle.fisca_memo.proofs.Risen.{counted_none, counted_on}
+use Rattle.fisca_memo.proofs.Working.{begins, nothing_asked, done_known, done_all, failed_fault, failed_done, next_stack, next_passed, next_fault, next_work, next_apart, next_done, next_more, next_sound}
+use Rattle.fisca_memo.specs.Recalled.{HasPassedTo, IsStack, work_at, work_below}
+use Rattle.fisca_memo.specs.Scenes.{known_in, seen, sources_in, work}
+use Rattle.fisca_memo.specs.Scenes as scenes
+use Rattle.fisca_memo.proofs.recalled.+value.Goals as goal
+
+-- work_out
+
+pub work_out-loop-value-init : goal.work_out-loop-value-init
+work_out-loop-value-init g t c =
+    let s = c.args.scene.now in
+    let begun = (rw c.as_slice-locals.ensures.value at c.in-Ok.ensures.begun) ∙ begins s c.args.variable.now c.args.formula.now c.args.key.now c.requires.scene in
+    record {
+      gathered = nothing_asked s c.args.variable.now c.args.formula.now c.args.key.now _ _ _ begun;
+      sound = subst (GivesOnly (known_in s) (IsValueOf (known_in s) c.args.key.now.variable)) (sym begun) c.requires.work.sound;
+      waits = c.in-Ok.ensures.waits;
+      memory = c.requires.memory;
+      keys = refl;
+      grows = grows_none _ _;
+      apart = λ x. x;
+      counted = counted_none _ _;
+      lost = refl;
+    }
+
+pub work_out-returns-in-Done-clause-known : goal.work_out-returns-in-Done-clause-known
+work_out-returns-in-Done-clause-known g t c =
+    let s = c.args.scene.now in
+    let i = c.loop-value.invariant in
+    let r = resume s.world c.loop-value.machine c.loop-value.control in
+    let M = Remembered (g.R.Recall.find c.loop-value.store.recall) in
+    done_known s c.args.variable.now c.args.formula.now c.args.key.now c.args.keys.now.items r c.loop-value.tallest M c.requires.work i.gathered c.in-Done.value c.in-Done.ensures.told.0
+
+pub work_out-returns-in-Done-clause-worked : goal.work_out-returns-in-Done-clause-worked
+work_out-returns-in-Done-clause-worked g t c =
+    let s = c.args.scene.now in
+    let i = c.loop-value.invariant in
+    let r = resume s.world c.loop-value.machine c.loop-value.control in
+    let M = Remembered (g.R.Recall.find c.loop-value.store.recall) in
+    done_all s c.args.variable.now c.args.formula.now c.args.key.now c.args.keys.now.items r c.loop-value.tallest M c.requires.work i.gathered c.in-Done.value c.in-Done.ensures.told.0
+
+pub work_out-returns-in-Failed-clause-fault : goal.work_out-returns-in-Failed-clause-fault
+work_out-returns-in-Failed-clause-fault g t c =
+    let s = c.args.scene.now in
+    let i = c.loop-value.invariant in
+    let r = resume s.world c.loop-value.machine c.loop-value.control in
+    let M = Remembered (g.R.Recall.find c.loop-value.store.recall) in
+    failed_fault s c.args.variable.now c.args.formula.now c.args.key.now c.args.keys.now.items r c.loop-value.tallest M c.requires.work i.gathered _ c.in-Failed.ensures.told _ c.told_of.ensures
+
+pub work_out-returns-in-Failed-clause-stopped : goal.work_out-returns-in-Failed-clause-stopped
+work_out-returns-in-Failed-clause-stopped g t c =
+    let s = c.args.scene.now in
+    let i = c.loop-value.invariant in
+    let r = resume s.world c.loop-value.machine c.loop-value.control in
+    let M = Remembered (g.R.Recall.find c.loop-value.store.recall) in
+    failed_done s c.args.variable.now c.args.formula.now c.args.key.now c.args.keys.now.items r c.loop-value.tallest M c.requires.work i.gathered _ c.in-Failed.ensures.told _
+
+pub work_out-value_below-requires : goal.work_out-value_below-requires
+work_out-value_below-requires g t c κs within =
+    let s = c.args.scene.now in
+    let i = c.loop-value.invariant in
+    let keys = c.args.keys.now.items in
+    let r = resume s.world c.loop-value.machine c.loop-value.control in
+    let M = Remembered (g.R.Recall.find c.loop-value.store.recall) in
+    let told = c.in-Needs.ensures.told in
+    let j = c.in-Needs.asked in
+    let go = rest s.world c.run.new.self in
+    let stack = next_stack s c.args.variable.now c.args.formula.now c.args.key.now keys r c.loop-value.tallest M c.requires.work i.gathered j go told.0 c.requires.stack in
+    let before = passed_path_more (sources_in s) (Remembered (g.R.Recall.find c.args.store.now.recall)) M i.grows.kept (map key_seen keys) c.requires.passed in
+    let passed = next_passed s c.args.variable.now c.args.formula.now c.args.key.now keys r c.loop-value.tallest M c.requires.work i.gathered j go told.0 c.requires.stack before in
+    let long : length c.loop-value.keys.items ≡ length keys = ap length i.keys in
+    (omega arith, (within, (c.requires.scene, (rw i.keys c.requires.depth, (subst (λ ks. IsStack (sources_in s) ks j) (sym i.keys) stack, (i.memory, subst (λ ks. HasPassedTo (sources_in s) (g.R.Recall.find c.loop-value.store.recall) ks j) (sym i.keys) passed))))))
+
+pub work_out-returns-in_err-known-in-Needs-clause-fault : goal.work_out-returns-in_err-known-in-Needs-clause-fault
+work_out-returns-in_err-known-in-Needs-clause-fault g t c =
+    let s = c.args.scene.now in
+    let i = c.loop-value.invariant in
+    let keys = c.args.keys.now.items in
+    let r = resume s.world c.loop-value.machine c.loop-value.control in
+    let M = Remembered (g.R.Recall.find c.loop-value.store.recall) in
+    let told = c.in-Needs.ensures.told in
+    let p = err_from_is_err_and c.from_residual.result c.from_residual.ensures.1 in
+    let h = rw i.keys at c.in_err-known-in-Needs.ensures.fault in
+    rw (p.1, p.2) (next_fault s c.args.variable.now c.args.formula.now c.args.key.now keys r c.loop-value.tallest M c.requires.work i.gathered c.in-Needs.asked (rest s.world c.run.new.self) told.0 c.requires.stack _ h)
+
+pub work_out-returns-in_err-known-in-Needs-clause-stopped : goal.work_out-returns-in_err-known-in-Needs-clause-stopped
+work_out-returns-in_err-known-in-Needs-clause-stopped g t c =
+    let s = c.args.scene.now in
+    let i = c.loop-value.invariant in
+    let keys = c.args.keys.now.items in
+    let src = sources_in s in
+    let r = resume s.world c.loop-value.machine c.loop-value.control in
+    let M = Remembered (g.R.Recall.find c.loop-value.store.recall) in
+    let new = Remembered (g.R.Recall.find c.value_below.new.store.recall) in
+    let told = c.in-Needs.ensures.told in
+    let p = err_from_is_err_and c.from_residual.result c.from_residual.ensures.1 in
+    let h = rw i.keys at c.in_err-known-in-Needs.ensures.fault in
+    let below = rw i.keys at c.in_err-known-in-Needs.ensures.stopped in
+    let wide = gathered_wider src _ _ _ c.loop-value.tallest (Covered src M) (Covered src new) (covered_wider src M new c.in_err-known-in-Needs.ensures.grows.kept) i.gathered in
+    rw (p.1, p.2) (next_done s c.args.variable.now c.args.formula.now c.args.key.now keys r c.loop-value.tallest new c.requires.work wide c.in-Needs.asked (rest s.world c.run.new.self) told.0 _ h below)
+
+pub work_out-returns-in_err-known-in-Needs-clause-grows : goal.work_out-returns-in_err-known-in-Needs-clause-grows
+work_out-returns-in_err-known-in-Needs-clause-grows g t c =
+    let s = c.args.scene.now in
+    let i = c.loop-value.invariant in
+    let keys = c.args.keys.now.items in
+    let r = resume s.world c.loop-value.machine c.loop-value.control in
+    let M = Remembered (g.R.Recall.find c.loop-value.store.recall) in
+    let told = c.in-Needs.ensures.told in
+    let h = rw i.keys at c.in_err-known-in-Needs.ensures.grows in
+    grows_on _ _ _ (work_at (sources_in s) keys c.args.key.now) i.grows (grows_wider _ _ _ _ h (next_work s c.args.variable.now c.args.formula.now c.args.key.now keys r c.loop-value.tallest M c.requires.work i.gathered c.in-Needs.asked (rest s.world c.run.new.self) told.0))
+
+pub work_out-returns-in_err-known-in-Needs-clause-apart : goal.work_out-returns-in_err-known-in-Needs-clause-apart
+work_out-returns-in_err-known-in-Needs-clause-apart g t c =
+    let s = c.args.scene.now in
+    let i = c.loop-value.invariant in
+    let keys = c.args.keys.now.items in
+    let r = resume s.world c.loop-value.machine c.loop-value.control in
+    let M = Remembered (g.R.Recall.find c.loop-value.store.recall) in
+    let told = c.in-Needs.ensures.told in
+    let h = rw i.keys at c.in_err-known-in-Needs.ensures.grows in
+    λ x. ⊎_elim (λ (a : M (key_seen c.args.key.now)). i.apart a)
+    (λ (b : work_below (sources_in s) keys c.in-Needs.asked (key_seen c.args.key.now)). absurd (next_apart s c.args.variable.now c.args.formula.now c.args.key.now keys r c.loop-value.tallest M c.requires.work i.gathered c.in-Needs.asked (rest s.world c.run.new.self) told.0 b))
+    (h.only (key_seen c.args.key.now) x)
+
+pub work_out-returns-in_err-known-in-Needs-clause-counted : goal.work_out-returns-in_err-known-in-Needs-clause-counted
+work_out-returns-in_err-known-in-Needs-clause-counted g t c = counted_on _ _ _ _ _ _ c.loop-value.invariant.counted c.in_err-known-in-Needs.ensures.counted
+
+pub work_out-loop-value-preserved : goal.work_out-loop-value-preserved
+work_out-loop-value-preserved g t c =
+    let s = c.args.scene.now in
+    let i = c.loop-value.invariant in
+    let keys = c.args.keys.now.items in
+    let src = sources_in s in
+    let r = resume s.world c.loop-value.machine c.loop-value.control in
+    let M = Remembered (g.R.Recall.find c.loop-value.store.recall) in
+    let new = Remembered (g.R.Recall.find c.value_below.new.store.recall) in
+    let told = c.in-Needs.ensures.told in
+    let j = c.in-Needs.asked in
+    let go = rest s.world c.run.new.self in
+    let below = c.in_ok-known-in-Needs.ensures in
+    let x = c.in_ok-known-in-Needs.known in
+    let known = rw i.keys at below.known in
+    let grown = rw i.keys at below.grows in
+    record {
+      gathered = rw (c.give-control.ensures.machine, c.give-control.ensures.control, below.rest, c.max-tallest.ensures) (next_more s c.args.variable.now c.args.formula.now c.args.key.now keys r c.loop-value.tallest M c.requires.work i.gathered j go told.0 x known new grown.kept below.covered);
+      sound = rw (c.give-control.ensures.machine, c.give-control.ensures.control, below.rest) (next_sound s c.args.variable.now c.args.formula.now c.args.key.now keys r c.loop-value.tallest M c.requires.work i.gathered j go told.0 x known c.requires.scene i.sound);
+      waits = rw c.give-control.ensures.machine (below.waits ∙ sym told.1 ∙ i.waits);
+      memory = below.memory;
+      keys = below.keys ∙ i.keys;
+      grows = grows_on _ _ _ (work_at src keys c.args.key.now) i.grows (grows_wider _ _ _ _ grown (next_work s c.args.variable.now c.args.formula.now c.args.key.now keys r c.loop-value.tallest M c.requires.work i.gathered j go told.0));
+      apart = λ y. ⊎_elim (λ (a : M (key_seen c.args.key.now)). i.apart a)
+          (λ (b : work_below src keys j (key_seen c.args.key.now)). absurd (next_apart s c.args.variable.now c.args.formula.now c.args.key.now keys r c.loop-value.tallest M c.requires.work i.gathered j go told.0 b))
+          (grown.only (key_seen c.args.key.now) y);
+      counted = counted_on _ _ _ _ _ _ i.counted below.counted;
+      lost = below.lost ∙ i.lost;
+    }
+
+-- by_formula
+
+pub by_formula-returns-then-len-ge-MOST_KEYS-clause-fault : goal.by_formula-returns-then-len-ge-MOST_KEYS-clause-fault
+by_formula-returns-then-len-ge-MOST_KEYS-clause-fault g t c =
+    let long : length c.args.keys.now.items ≡ 100 = omega (arith, c.requires.depth) in
+    let first = rw c.as_slice.ensures.value at c.first_of.ensures in
+    full_below c.args.scene.now c.args.keys.now.items c.args.key.now c.requires.stack c.requires.away (subst IsAskable (sym c.requires.work.source) tt) long
+    ∙ ap (λ k. Err (fault_at too_deep k)) (sym first)
+
+pub by_formula-returns-then-len-ge-MOST_KEYS-clause-stopped : goal.by_formula-returns-then-len-ge-MOST_KEYS-clause-stopped
+by_formula-returns-then-len-ge-MOST_KEYS-clause-stopped g t c =
+    let long : length c.args.keys.now.items ≡ 100 = omega (arith, c.requires.depth) in
+    full_done c.args.scene.now c.args.keys.now.items c.args.key.now _ long
+
+pub by_formula-returns-then-len-ge-MOST_KEYS-clause-counted : goal.by_formula-returns-then-len-ge-MOST_KEYS-clause-counted
+by_formula-returns-then-len-ge-MOST_KEYS-clause-counted g t c = counted_none _ _
+
+pub by_formula-returns-in-Err-clause-counted : goal.by_formula-returns-in-Err-clause-counted
+by_formula-returns-in-Err-clause-counted g t c = counted_none _ _
+
+pub by_formula-work_out-worked-requires : goal.by_formula-work_out-worked-requires
+by_formula-work_out-worked-requires g t c κs within =
+    let s = c.args.scene.now in
+    let keys = c.args.keys.now.items in
+    let room : length keys < 100 = omega arith in
+    let pushed = c.in-Ok.ensures.items in
+    let longer : length c.push.new.self.items ≡ length keys + 1 = rw pushed (length-append keys (c.args.key.now ∷ [])) in (
+      omega arith,
+      (
+        within,
+        (
+          c.requires.scene,
+          (
+            c.requires.work,
+            (
+              omega arith,
+              (rw pushed (pushed_working s keys c.args.key.now c.requires.stack c.requires.away room), (c.requires.memory, rw pushed (pushed_passed s keys c.args.key.now _ c.requires.passed))),
+            ),
+          ),
+        ),
+      ),
+    )
+
+pub by_formula-returns-in_err-known-in-Ok-clause-fault : goal.by_formula-returns-in_err-known-in-Ok-clause-fault
+by_formula-returns-in_err-known-in-Ok-clause-fault g t c =
+    let keys = c.args.keys.now.items in
+    let room : length keys < 100 = omega arith in
+    let p = err_from_is_err_and c.from_residual.result c.from_residual.ensures.1 in
+    let h = rw c.in-Ok.ensures.items at c.in_err-known-in-Ok.ensures.fault in
+    rw (p.1, p.2) (popped_fault c.args.scene.now keys c.args.key.now room c.args.variable.now c.args.formula.now c.requires.work _ h)
+
+pub by_formula-returns-in_err-known-in-Ok-clause-grows : goal.by_formula-returns-in_err-known-in-Ok-clause-grows
+by_formula-returns-in_err-known-in-Ok-clause-grows g t c =
+    let keys = c.args.keys.now.items in
+    let room : length keys < 100 = omega arith in
+    let h = rw c.in-Ok.ensures.items at c.work_out-worked.ensures.grows in
+    popped_grows c.args.scene.now keys c.args.key.now room _ _ h
+
+pub by_formula-returns-in_err-known-in-Ok-clause-stopped : goal.by_formula-returns-in_err-known-in-Ok-clause-stopped
+by_formula-returns-in_err-known-in-Ok-clause-stopped g t c =
+    let keys = c.args.keys.now.items in
+    let room : length keys < 100 = omega arith in
+    let p = err_from_is_err_and c.from_residual.result c.from_residual.ensures.1 in
+    let h = rw c.in-Ok.ensures.items at c.in_err-known-in-Ok.ensures.stopped in
+    rw (p.1, p.2) (popped_done c.args.scene.now keys c.args.key.now room _ _ h)
+
+pub by_formula-remember-requires : goal.by_formula-remember-requires
+by_formula-remember-requires g t c =
+    let s = c.args.scene.now in
+    let keys = c.args.keys.now.items in
+    record {
+      known = own_known s c.push.new.self.items c.args.key.now c.in_ok-known-in-Ok.known c.in_ok-known-in-Ok.ensures.known;
+      read = c.in_ok-known-in-Ok.ensures.read;
+      memory = c.work_out-worked.ensures.memory;
+      formula = (_, c.requires.work.source);
+      work = c.in_ok-known-in-Ok.ensures.worked;
+    }
+
+pub by_formula-returns-in_ok-remember-in-Ok-clause-known : goal.by_formula-returns-in_ok-remember-in-Ok-clause-known
+by_formula-returns-in_ok-remember-in-Ok-clause-known g t c =
+    let keys = c.args.keys.now.items in
+    let room : length keys < 100 = omega arith in
+    let h = rw c.in-Ok.ensures.items at c.in_ok-known-in-Ok.ensures.known in
+    popped_known c.args.scene.now keys c.args.key.now room c.in_ok-known-in-Ok.known h
+
+pub by_formula-returns-in_ok-remember-in-Ok-clause-grows : goal.by_formula-returns-in_ok-remember-in-Ok-clause-grows
+by_formula-returns-in_ok-remember-in-Ok-clause-grows g t c =
+    let s = c.args.scene.now in
+    let keys = c.args.keys.now.items in
+    let k = c.in_ok-known-in-Ok.known in
+    let room : length keys < 100 = omega arith in
+    let known = popped_known s keys c.args.key.now room k (rw c.in-Ok.ensures.items at c.in_ok-known-in-Ok.ensures.known) in
+    let grown = popped_grows s keys c.args.key.now room _ _ (rw c.in-Ok.ensures.items at c.in_ok-known-in-Ok.ensures.grows) in
+    kept_grows (sources_in s) c.args.key.now k _ _ _ c.in_ok-remember-in-Ok.ensures.ok _ (own_work s keys c.args.key.now k (_, c.requires.work.source) known) grown
+
+pub by_formula-returns-in_ok-remember-in-Ok-clause-covered : goal.by_formula-returns-in_ok-remember-in-Ok-clause-covered
+by_formula-returns-in_ok-remember-in-Ok-clause-covered g t c =
+    kept_covered (sources_in c.args.scene.now) c.args.key.now c.in_ok-known-in-Ok.known (g.R.Recall.find c.args.store.now.recall) _ _ c.in_ok-remember-in-Ok.ensures.ok c.remember.ensures.memory
+
+pub by_formula-returns-in_ok-remember-in-Ok-clause-counted : goal.by_formula-returns-in_ok-remember-in-Ok-clause-counted
+by_formula-returns-in_ok-remember-in-Ok-clause-counted g t c =
+    let k = c.in_ok-known-in-Ok.known in
+    kept_counted (sources_in c.args.scene.now) c.args.key.now k _ _ _ c.in_ok-remember-in-Ok.ensures.ok _ _ _ c.work_out-worked.ensures.counted c.in_ok-remember-in-Ok.ensures.kept c.in_ok-known-in-Ok.ensures.read
+    (λ r. none_there (g.R.Recall.find c.args.store.now.recall) (key_seen c.args.key.now) c.requires.miss (c.work_out-worked.ensures.apart r))
+
+pub by_formula-returns-in_err-remember-in-Ok-clause-grows : goal.by_formula-returns-in_err-remember-in-Ok-clause-grows
+by_formula-returns-in_err-remember-in-Ok-clause-grows g t c =
+    let s = c.args.scene.now in
+    let keys = c.args.keys.now.items in
+    let room : length keys < 100 = omega arith in
+    let grown = popped_grows s keys c.args.key.now room _ _ (rw c.in-Ok.ensures.items at c.work_out-worked.ensures.grows) in
+    rw c.in_err-remember-in-Ok.ensures.err grown
+
+pub by_formula-returns-in_err-remember-in-Ok-clause-counted : goal.by_formula-returns-in_err-remember-in-Ok-clause-counted
+by_formula-returns-in_err-remember-in-Ok-clause-counted g t c =
+    lost_counted _ _ _ _ _ _ c.in_err-remember-in-Ok.ensures.err c.in_err-remember-in-Ok.ensures.lost c.work_out-worked.ensures.counted
+
+pub work_out-returns-in-Err-clause-counted : goal.work_out-returns-in-Err-clause-counted
+work_out-returns-in-Err-clause-counted g t c = counted_none _ _
+
+-- value_below
+
+pub value_below-returns-in_default-clause-fault : goal.value_below-returns-in_default-clause-fault
+value_below-returns-in_default-clause-fault g t c =
+    let s = c.args.scene.now in
+    let k = key_seen c.args.key.now in
+    below_refused (sources_in s) (map key_seen c.args.keys.now.items) k (of_none (seen s) k (sym c.in_default.ensures))
+
+pub value_below-returns-in_default-clause-stopped : goal.value_below-returns-in_default-clause-stopped
+value_below-returns-in_default-clause-stopped g t c =
+    let s = c.args.scene.now in
+    let k = key_seen c.args.key.now in
+    λ i w. absurd (work_refused (sources_in s) (Remembered (g.R.Recall.find c.args.store.now.recall)) k (of_none (seen s) k (sym c.in_default.ensures)) _ i w)
+
+pub value_below-returns-in_default-clause-counted : goal.value_below-returns-in_default-clause-counted
+value_below-returns-in_default-clause-counted g t c = counted_none _ _
+
+pub value_below-returns-in_err-known-clause-counted : goal.value_below-returns-in_err-known-clause-counted
+value_below-returns-in_err-known-clause-counted g t c = counted_none _ _
+
+pub value_below-returns-in-Some-2-clause-counted : goal.value_below-returns-in-Some-2-clause-counted
+value_below-returns-in-Some-2-clause-counted g t c = counted_none _ _
+
+pub value_below-returns-in-Some-input-clause-covered : goal.value_below-returns-in-Some-input-clause-covered
+value_below-returns-in-Some-input-clause-covered g t c =
+    let s = c.args.scene.now in
+    let k = key_seen c.args.key.now in
+    let e = of_input (seen s) k (written c.in-Some.variable.now) (sym c.in-Some.ensures) c.in-Some-input.value (sym c.in-Some-input.ensures) in
+    on_ok_any c.at_hand.result _ (covered_known (sources_in s) (Remembered (g.R.Recall.find c.args.store.now.recall)) k (value_seen c.in-Some-input.value) e)
+
+pub value_below-returns-in-Some-input-clause-stopped : goal.value_below-returns-in-Some-input-clause-stopped
+value_below-returns-in-Some-input-clause-stopped g t c =
+    let s = c.args.scene.now in
+    let k = key_seen c.args.key.now in
+    let e = of_input (seen s) k (written c.in-Some.variable.now) (sym c.in-Some.ensures) c.in-Some-input.value (sym c.in-Some-input.ensures) in
+    told_any c.at_hand.result _ (λ i w. covered_known (sources_in s) (Remembered (g.R.Recall.find c.args.store.now.recall)) k (value_seen c.in-Some-input.value) e _ i w)
+
+pub value_below-returns-in-Some-input-clause-counted : goal.value_below-returns-in-Some-input-clause-counted
+value_below-returns-in-Some-input-clause-counted g t c = counted_none _ _
+
+pub value_below-by_formula-requires : goal.value_below-by_formula-requires
+value_below-by_formula-requires g t c κs within =
+    let s = c.args.scene.now in
+    let k = key_seen c.args.key.now in
+    let w = written c.in-Some.variable.now in
+    let f = formula_view c.in-Some-formula.formula.now in
+    let e = sym (c.in-Some.ensures) in
+    let h = sym (c.in-Some-formula.ensures) in
+    let work : scenes.IsWork s c.in-Some.variable.now c.in-Some-formula.formula.now c.args.key.now = record {
+      source = of_formula (seen s) k w e (sym (c.in_default-input.ensures)) f h;
+      sound = works_soundly (seen s) c.requires.scene.safe k w e f h;
+    } in
+    let away : has (map key_seen c.args.keys.now.items) k ≡ false = search rules in
+    let miss : g.R.Recall.find c.args.store.now.recall k ≡ None = search rules in
+    (omega arith, (within, (c.requires.scene, (work, (c.requires.depth, (c.requires.stack, (away, (c.requires.memory, (miss, c.requires.passed)))))))))
+
+pub value_below-returns-in-Some-default_of-clause-covered : goal.value_below-returns-in-Some-default_of-clause-covered
+value_below-returns-in-Some-default_of-clause-covered g t c =
+    let s = c.args.scene.now in
+    let k = key_seen c.args.key.now in
+    let e = of_default (seen s) k (written c.in-Some.variable.now) (sym c.in-Some.ensures) (sym c.in_default-input.ensures) (sym c.in-None.ensures) c.in-Some-default_of.value (sym c.in-Some-default_of.ensures) in
+    on_ok_any c.at_hand-in-Some-default_of.result _ (covered_known (sources_in s) (Remembered (g.R.Recall.find c.args.store.now.recall)) k (value_seen c.in-Some-default_of.value) e)
+
+pub value_below-returns-in-Some-default_of-clause-stopped : goal.value_below-returns-in-Some-default_of-clause-stopped
+value_below-returns-in-Some-default_of-clause-stopped g t c =
+    let s = c.args.scene.now in
+    let k = key_seen c.args.key.now in
+    let e = of_default (seen s) k (written c.in-Some.variable.now) (sym c.in-Some.ensures) (sym c.in_default-input.ensures) (sym c.in-None.ensures) c.in-Some-default_of.value (sym c.in-Some-default_of.ensures) in
+    told_any c.at_hand-in-Some-default_of.result _ (λ i w. covered_known (sources_in s) (Remembered (g.R.Recall.find c.args.store.now.recall)) k (value_seen c.in-Some-default_of.value) e _ i w)
+
+pub value_below-returns-in-Some-default_of-clause-counted : goal.value_below-returns-in-Some-default_of-clause-counted
+value_below-returns-in-Some-default_of-clause-counted g t c = counted_none _ _
+
+pub value_below-returns-in-None-default_of-clause-fault : goal.value_below-returns-in-None-default_of-clause-fault
+value_below-returns-in-None-default_of-clause-fault g t c =
+    let s = c.args.scene.now in
+    let k = key_seen c.args.key.now in
+    below_refused (sources_in s) (map key_seen c.args.keys.now.items) k
+    (of_nothing (seen s) k (written c.in-Some.variable.now) (sym c.in-Some.ensures) (sym c.in_default-input.ensures) (sym c.in-None.ensures) (sym c.in-None-default_of.ensures))
+
+pub value_below-returns-in-None-default_of-clause-stopped : goal.value_below-returns-in-None-default_of-clause-stopped
+value_below-returns-in-None-default_of-clause-stopped g t c =
+    let s = c.args.scene.now in
+    let k = key_seen c.args.key.now in
+    let e = of_nothing (seen s) k (written c.in-Some.variable.now) (sym c.in-Some.ensures) (sym c.in_default-input.ensures) (sym c.in-None.ensures) (sym c.in-None-default_of.ensures) in
+    λ i w. absurd (work_refused (sources_in s) (Remembered (g.R.Recall.find c.args.store.now.recall)) k e _ i w)
+
+pub value_below-returns-in-None-default_of-clause-counted : goal.value_below-returns-in-None-default_of-clause-counted
+value_below-returns-in-None-default_of-clause-counted g t c = counted_none _ _

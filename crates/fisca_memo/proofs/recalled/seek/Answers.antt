@@ -1,0 +1,28 @@
+use Rattle.std.proofs.Common.{Err, map, sym, ap, ◌∙◌, arith}
+use Rattle.fisca_answers.specs.Inquiry.{fault_at, too_deep}
+use Rattle.fisca_answers.proofs.Paths.{In-has}
+use Rattle.fisca_heights.specs.Entries.{Remembered}
+use Rattle.fisca_heights.proofs.Settled.{cycle_answer}
+use Rattle.fisca_heights.proofs.WorkDone.{stack_work}
+use Rattle.fisca_inputs.specs.Seen.{key_seen}
+use Rattle.fisca_memo.proofs.Recalls.{hit_below, hit_tall}
+use Rattle.fisca_memo.specs.Scenes.{sources_in}
+use Rattle.fisca_memo.proofs.recalled.seek.Goals as goal
+
+pub returns-then-known-keys-clause-fault : goal.returns-then-known-keys-clause-fault
+returns-then-known-keys-clause-fault g c =
+    hit_tall c.args.scene.now c.args.keys.now c.args.key.now (g.R.Recall.find c.args.recall.now) c.look.result c.in-Some.known c.requires.memory c.in-Some.is c.look.ensures c.requires.stack (omega (arith, c.if-known-keys.true))
+    ∙ ap (λ k. Err (fault_at too_deep k)) (sym c.first_of.ensures)
+
+pub returns-in-Some-clause-known : goal.returns-in-Some-clause-known
+returns-in-Some-clause-known g c =
+    hit_below c.args.scene.now c.args.keys.now c.args.key.now (g.R.Recall.find c.args.recall.now) c.look.result c.in-Some.known c.requires.memory c.in-Some.is c.look.ensures (omega (arith, c.if-known-keys.false))
+
+pub returns-then-stands_in-clause-fault : goal.returns-then-stands_in-clause-fault
+returns-then-stands_in-clause-fault g c =
+    cycle_answer (sources_in c.args.scene.now) (map key_seen c.args.keys.now) (key_seen c.args.key.now) c.requires.stack (sym c.stands_in.ensures ∙ c.if-stands_in.true)
+
+pub returns-then-stands_in-clause-stopped : goal.returns-then-stands_in-clause-stopped
+returns-then-stands_in-clause-stopped g c =
+    stack_work (sources_in c.args.scene.now) (Remembered (g.R.Recall.find c.args.recall.now)) (map key_seen c.args.keys.now) _ (key_seen c.args.key.now) c.requires.stack.path c.requires.passed
+    (In-has (map key_seen c.args.keys.now) (key_seen c.args.key.now) (sym c.stands_in.ensures ∙ c.if-stands_in.true))

@@ -1,0 +1,31 @@
+-- How counts rise with what is remembered.
+use Rattle.std.specs.Prelude.{◌≡◌, ◌⊎◌, ℕ, zero, suc, Option, Some, None, Result, Ok, Err}
+use Rattle.fisca_answers.specs.Inquiry.{Fault}
+use Rattle.fisca_eval.specs.Faults.{told}
+use Rattle.fisca_eval.specs.declared.fault.EvalFault.{EvalFault}
+use Rattle.fisca_heights.specs.Added.{AreAdded}
+use Rattle.fisca_heights.specs.Entries.{Entries}
+use Rattle.fisca_recall.specs.Counted.{one_more}
+use Rattle.fisca_recall.specs.declared.counts.Counts.{Counts}
+
+-- a count, so many counted more
+abbrev pub raised : ℕ → ℕ → ℕ
+raised count zero = count
+raised count (suc more) = one_more (raised count more)
+
+-- So many keys are remembered that were not, and each is counted. As no key reads a wheel, `bound` stays.
+pub record IsCounted (old new : Entries) (before after : Counts) : Type 0 where
+  pub count : ℕ
+  pub added : AreAdded old new count
+  pub free : after.free ≡ raised before.free count
+  pub bound : after.bound ≡ before.bound
+
+-- a fault of a key loses no value, and want of memory one at most
+abbrev pub IsLost : Option Fault → ℕ → ℕ → Type 0
+IsLost None before after = (after ≡ before) ⊎ (after ≡ one_more before)
+IsLost (Some f) before after = after ≡ before
+
+-- how many values found no memory, by what is answered
+abbrev pub AreLost : {X : Type 0} → Result X EvalFault → ℕ → ℕ → Type 0
+AreLost (Ok x) before after = after ≡ before
+AreLost (Err e) before after = IsLost (told e) before after

@@ -1,0 +1,39 @@
+-- What an evaluator that remembers answers.
+use Rattle.std.specs.Prelude.{Result}
+use Rattle.fisca_answers.specs.Answers.{answer, most_keys}
+use Rattle.fisca_answers.specs.Inquiry.{Fault}
+use Rattle.fisca_eval.specs.Told.{IsReady}
+use Rattle.fisca_heights.specs.Entries.{Entries}
+use Rattle.fisca_heights.specs.Work.{IsWork}
+use Rattle.fisca_inputs.specs.Seen.{key_seen}
+use Rattle.fisca_inputs.specs.declared.key.Key.{Key}
+use Rattle.fisca_meaning.specs.Dialogues as meaning
+use Rattle.fisca_rules.specs.Views.{rule_set}
+use Rattle.fisca_situations.specs.Views.{situation}
+use Rattle.fisca_sources.specs.Simulations.{Simulation, normal_key, sources}
+use Rattle.fisca_memo.specs.Recalled.{IsMemory}
+use Rattle.fisca_memo.specs.declared.evaluator.Evaluator.{Evaluator}
+
+abbrev pub simulation_of : {R : Type 0} → Evaluator R → Simulation
+simulation_of e = record { rules = rule_set e.rules.now; situation = situation e.situation; neutral = e.neutral.now }
+
+-- that of an eternal variable has the eternal period, whatever period is handed in
+abbrev pub own_key : {R : Type 0} → Evaluator R → Key → meaning.Key
+own_key e key = normal_key (simulation_of e).rules (key_seen key)
+
+-- the answer of a key, whatever is remembered
+abbrev pub answer_in : {R : Type 0} → Evaluator R → Key → Result meaning.Value Fault
+answer_in e key = answer (sources (simulation_of e)) (own_key e key)
+
+-- the work for a key within a hundred keys that are asked for below one another
+abbrev pub work_in : {R : Type 0} → Evaluator R → Key → meaning.Key → Type 0
+work_in e key = IsWork (sources (simulation_of e)) most_keys (own_key e key)
+
+-- what an evaluator remembers is so in its situation
+abbrev pub IsMemoryOf : Simulation → Entries → Type 0
+IsMemoryOf m entries = IsMemory (sources m) entries
+
+-- the rule set is safe, the inputs are of their types, and what is remembered is so
+pub record CanAnswer (m : Simulation) (entries : Entries) : Type 0 where
+  pub ready : IsReady m
+  pub memory : IsMemoryOf m entries

@@ -1,0 +1,4 @@
+pub mod Counting
+pub mod Evaluators
+pub mod Recalled
+pub mod Scenes

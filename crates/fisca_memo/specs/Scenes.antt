@@ -1,0 +1,54 @@
+-- What keys are worked out over, and their answers below others.
+use Rattle.std.specs.Prelude.{◌≡◌, List, map, Result}
+use Rattle.fisca_answers.specs.Answers.{Sources, formula}
+use Rattle.fisca_answers.specs.Inquiry.{Fault, of_key}
+use Rattle.fisca_answers.specs.Stacks.{answer_below, ends_below}
+use Rattle.fisca_formula.specs.Formulas.{formula_view}
+use Rattle.fisca_formula.specs.declared.formula.Formula.{Formula}
+use Rattle.fisca_inputs.specs.Seen.{key_seen}
+use Rattle.fisca_inputs.specs.Typed.{IsValueOf}
+use Rattle.fisca_inputs.specs.declared.key.Key.{Key}
+use Rattle.fisca_machine.specs.World.{groups, tables}
+use Rattle.fisca_meaning.specs.Dialogues.{Dialogue, Value}
+use Rattle.fisca_members.specs.Grouped.{grouped}
+use Rattle.fisca_rules.specs.Rules.{known_by}
+use Rattle.fisca_sources.specs.Simulations as simulations
+use Rattle.fisca_sources.specs.Sound.{GivesOnly, InputsFit, IsSafeRules}
+use Rattle.fisca_sources.specs.Views.{simulation}
+use Rattle.fisca_tables.specs.declared.variable.Variable.{Variable}
+use Rattle.fisca_typing.specs.Tables.{Tables}
+use Rattle.fisca_variables.specs.VariableForms.{written}
+use Rattle.fisca_memo.specs.declared.scene.Scene.{Scene}
+
+abbrev pub seen : Scene → simulations.Simulation
+seen s = simulation s.simulation
+
+abbrev pub known_in : Scene → Tables
+known_in s = known_by (seen s).rules
+
+abbrev pub sources_in : Scene → Sources
+sources_in s = simulations.sources (seen s)
+
+-- the world is that of the rule set and the situation, and values are of their types
+pub record IsScene (s : Scene) : Type 0 where
+  pub tables : tables s.world ≡ known_in s
+  pub groups : groups s.world ≡ grouped (seen s).situation.members
+  pub safe : IsSafeRules (seen s).rules
+  pub fit : InputsFit (seen s).rules (seen s).situation
+
+-- what the formula of a key gives
+abbrev pub work : Scene → Variable → Formula → Key → Dialogue
+work s v f key = simulations.worked_out (seen s).rules (grouped (seen s).situation.members) (written v) (key_seen key) (formula_view f)
+
+-- the variable's formula is what the key's value comes from
+pub record IsWork (s : Scene) (v : Variable) (f : Formula) (key : Key) : Type 0 where
+  pub source : sources_in s (key_seen key) ≡ formula (of_key (key_seen key) (work s v f key))
+  pub sound : GivesOnly (known_in s) (IsValueOf (known_in s) key.variable) (work s v f key)
+
+-- the answer of a key below others
+abbrev pub wanted : Scene → List Key → Key → Result Value Fault
+wanted s keys key = answer_below (sources_in s) (map key_seen keys) (key_seen key)
+
+-- that of the last of these keys, by its formula
+abbrev pub wanted_of_work : Scene → List Key → Variable → Formula → Key → Result Value Fault
+wanted_of_work s keys v f key = ends_below (sources_in s) (map key_seen keys) (key_seen key) (of_key (key_seen key) (work s v f key))

@@ -1,0 +1,54 @@
+//! An evaluator that remembers as what answers the values of columns.
+
+ghost use Rattle.std.specs.Prelude.{◌≡◌};
+ghost use Rattle.fisca_eval.specs.Told as spec;
+
+use crate::evaluator::Evaluator;
+use fisca_calc::Answers;
+use fisca_eval::EvalFault;
+use fisca_inputs::{Key, Value};
+use fisca_lines::RowFault;
+use fisca_recall::Recall;
+use fisca_situations::Situation;
+
+impl<'r, 't, R: Recall> Answers for Evaluator<'r, 't, R> {
+    ghost use Rattle.fisca_eval.specs.Told.{told_in};
+    ghost use Rattle.fisca_memo.specs.Evaluators.{CanAnswer, simulation_of};
+
+    type Fault = EvalFault;
+
+    ghost answer = { λ e. told_in (simulation_of e) };
+
+    ghost members = { λ e. (simulation_of e).situation.members };
+
+    ghost ready = { λ e. CanAnswer (simulation_of e) (R.find e.store.recall) };
+
+    fn value(&mut self, key: Key) -> Result<Value, RowFault<EvalFault>> {
+        match Evaluator::value(self, key) {
+            Ok(value) => Ok(value),
+            Err(fault) => Err(row_fault(fault)),
+        }
+    }
+
+    fn situation(&self) -> &Situation {
+        Evaluator::situation(self)
+    }
+}
+
+/// The fault of a row whose key has no value: `Memory` where there was none, and else the fault of the key.
+fn row_fault(fault: EvalFault) -> RowFault<EvalFault>
+    ensures { result ≡ spec.row_fault fault }
+{
+    match fault {
+        EvalFault::ZeroDivisor(_)
+        | EvalFault::TooWide(_)
+        | EvalFault::ParameterUndefined(_)
+        | EvalFault::BadScale(_)
+        | EvalFault::NoMember(_)
+        | EvalFault::PeriodMismatch(_)
+        | EvalFault::PeriodOutOfRange(_)
+        | EvalFault::Cycle(_)
+        | EvalFault::TooDeep(_) => RowFault::Eval(fault),
+        EvalFault::Memory => RowFault::Memory,
+    }
+}

@@ -1,0 +1,40 @@
+//! Chains of keys, each of which asks for the next.
+
+ghost use Rattle.std.specs.Prelude.{◌≡◌, map};
+ghost use Rattle.fisca_answers.specs.Keys as keys_spec;
+ghost use Rattle.fisca_answers.specs.Stacks.{first_of as first_key};
+ghost use Rattle.fisca_inputs.specs.Seen.{key_seen};
+
+use fisca_inputs::Key;
+
+/// Whether two keys are the same.
+#[tactic(auto, using(fisca_answers::proofs::KeyFacts::same_period))]
+fn same(left: &Key, right: &Key) -> bool
+    ensures { result ≡ keys_spec.same_key (key_seen left.now) (key_seen right.now) }
+{
+    // what the units say of the periods: each lies in the calendar
+    let _units = (left.period.unit(), right.period.unit());
+    left == right
+}
+
+/// Whether the key stands among these.
+pub(crate) fn stands_in(keys: &[Key], key: &Key) -> bool
+    ensures { result ≡ keys_spec.has (map key_seen keys.now) (key_seen key.now) }
+{
+    for one in keys {
+        if same(one, key) {
+            return true;
+        }
+    }
+    false
+}
+
+/// The key that was asked for first.
+pub(crate) fn first_of(keys: &[Key], key: &Key) -> Key
+    ensures { key_seen result ≡ first_key (map key_seen keys.now) (key_seen key.now) }
+{
+    match keys {
+        [] => *key,
+        [first, ..] => *first,
+    }
+}

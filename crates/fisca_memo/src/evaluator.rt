@@ -1,0 +1,18 @@
+//! The evaluator.
+
+use crate::store::Store;
+use fisca_inputs::Key;
+use fisca_machine::Machine;
+use fisca_rules::RuleSet;
+use fisca_situations::Situation;
+
+/// Works out the values of keys in a situation under a rule set, and remembers what formulas gave.
+#[derive(Drop)]
+pub struct Evaluator<'r, 't, R> {
+    pub(crate) rules: &'r RuleSet<'t>,
+    pub(crate) neutral: &'r [bool],
+    pub(crate) situation: Situation,
+    pub(crate) machine: Machine<'r>,
+    pub(crate) keys: Vec<Key>,
+    pub(crate) store: Store<R>,
+}

@@ -1,0 +1,26 @@
+//! Faults of formulas.
+
+ghost use Rattle.std.specs.Prelude.{◌≡◌, Some};
+ghost use Rattle.fisca_answers.specs.Inquiry.{named};
+ghost use Rattle.fisca_eval.specs.Faults.{told};
+ghost use Rattle.fisca_inputs.specs.Seen.{key_seen};
+ghost use Rattle.fisca_values.specs.Ended.{fault_seen};
+
+use fisca_eval::EvalFault;
+use fisca_inputs::Key;
+use fisca_values::Fault;
+
+/// The fault of the formula of a key.
+pub(crate) fn told_of(fault: Fault, key: Key) -> EvalFault
+    ensures { told result ≡ Some (named (key_seen key) (fault_seen fault)) }
+{
+    match fault {
+        Fault::ZeroDivisor => EvalFault::ZeroDivisor(key),
+        Fault::TooWide => EvalFault::TooWide(key),
+        Fault::ParameterUndefined => EvalFault::ParameterUndefined(key),
+        Fault::BadScale => EvalFault::BadScale(key),
+        Fault::NoMember => EvalFault::NoMember(key),
+        Fault::PeriodMismatch(asked) => EvalFault::PeriodMismatch(asked),
+        Fault::PeriodOutOfRange => EvalFault::PeriodOutOfRange(key),
+    }
+}

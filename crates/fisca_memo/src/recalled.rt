@@ -1,0 +1,243 @@
+//! Values of keys, worked out below one another, each once.
+
+ghost use Rattle.std.specs.Prelude.{◌≡◌, ◌≤◌, ◌<◌, false, None, length, OnOk, OnErr, IfOk, IfErr, IfSome, IfNone, map};
+ghost use Rattle.fisca_answers.specs.Answers.{known as from_known};
+ghost use Rattle.fisca_answers.specs.Keys.{has};
+ghost use Rattle.fisca_eval.specs.Faults.{IsTold, told};
+ghost use Rattle.fisca_heights.specs.Entries.{Remembered};
+ghost use Rattle.fisca_heights.specs.Work.{Covered, Grows};
+ghost use Rattle.fisca_inputs.specs.Seen.{key_seen, value_seen};
+ghost use Rattle.fisca_machine.specs.Running.{rest, waiting};
+ghost use Rattle.fisca_memo.specs.Counting.{AreLost, IsCounted};
+ghost use Rattle.fisca_memo.specs.Recalled as spec;
+ghost use Rattle.fisca_memo.specs.Scenes as scenes;
+
+use crate::chains::{first_of, stands_in};
+use crate::fault::told_of;
+use crate::scene::Scene;
+use crate::store::{Store, remember};
+use fisca_eval::EvalFault;
+use fisca_formula::Formula;
+use fisca_inputs::{Key, Value};
+use fisca_machine::{Frame, Machine, Step};
+use fisca_recall::{Known, Recall};
+use fisca_sources::default_of;
+use fisca_tables::Variable;
+
+/// How many keys are asked for below one another at most.
+const MOST_KEYS: usize = 100;
+
+/// What is remembered of a key that is asked for below others, if it is not too high for the fuel that is left. A key of which nothing is
+/// remembered and that stands among those above it is a cycle.
+fn seek<R: Recall>(
+    scene: &Scene<'_, '_, '_>,
+    recall: &R,
+    keys: &[Key],
+    key: &Key,
+) -> Result<Option<Known>, EvalFault>
+    requires depth { length keys.now ≤ 100 }
+    requires stack { spec.IsStack (scenes.sources_in scene.now) keys.now key.now }
+    requires memory { spec.IsMemory (scenes.sources_in scene.now) (R.find recall.now) }
+    requires passed { spec.HasPassedTo (scenes.sources_in scene.now) (R.find recall.now) keys.now key.now }
+    ensures known { IfOk result (λ o. IfSome o (λ k. spec.IsKnownBelow (scenes.sources_in scene.now) keys.now key.now k)) }
+    ensures hit { IfOk result (λ o. IfSome o (λ k. Remembered (R.find recall.now) (key_seen key.now))) }
+    ensures miss { IfOk result (λ o. IfNone o (R.find recall.now (key_seen key.now) ≡ None)) }
+    ensures away { IfOk result (λ o. IfNone o (has (map key_seen keys.now) (key_seen key.now) ≡ false)) }
+    ensures fault { IfErr result (λ e. IsTold (told e) (scenes.wanted scene.now keys.now key.now)) }
+    ensures stopped { OnErr result (spec.IsDoneBelow (scenes.sources_in scene.now) (R.find recall.now) keys.now key.now) }
+{
+    if let Some(known) = recall.look(key) {
+        if known.height as usize > MOST_KEYS - keys.len() {
+            return Err(EvalFault::TooDeep(first_of(keys, key)));
+        }
+        return Ok(Some(known));
+    }
+    if stands_in(keys, key) {
+        return Err(EvalFault::Cycle(*key));
+    }
+    Ok(None)
+}
+
+/// A value that is at hand, for a key below others. It is not remembered.
+fn at_hand(
+    scene: &Scene<'_, '_, '_>,
+    keys: &[Key],
+    key: &Key,
+    value: Value,
+) -> Result<Known, EvalFault>
+    requires depth { length keys.now ≤ 100 }
+    requires stack { spec.IsStack (scenes.sources_in scene.now) keys.now key.now }
+    requires away { has (map key_seen keys.now) (key_seen key.now) ≡ false }
+    requires known { scenes.sources_in scene.now (key_seen key.now) ≡ from_known (value_seen value) }
+    ensures known { IfOk result (λ k. spec.IsKnownBelow (scenes.sources_in scene.now) keys.now key.now k) }
+    ensures fault { IfErr result (λ e. IsTold (told e) (scenes.wanted scene.now keys.now key.now)) }
+{
+    if keys.len() >= MOST_KEYS {
+        return Err(EvalFault::TooDeep(first_of(keys, key)));
+    }
+    Ok(Known {
+        value,
+        height: 1,
+        reads: 0,
+    })
+}
+
+/// The value of a key that is asked for below others, with its height: what is remembered of it, its input, what its formula gives, or its
+/// variable's default.
+#[cycle(value)]
+pub(crate) fn value_below<'r, R: Recall>(
+    scene: &Scene<'r, '_, '_>,
+    store: &mut Store<R>,
+    machine: &mut Machine<'r>,
+    keys: &mut Vec<Key>,
+    key: &Key,
+) -> Result<Known, EvalFault>
+    requires scene { scenes.IsScene scene.now }
+    requires depth { length keys.old.items ≤ 100 }
+    requires stack { spec.IsStack (scenes.sources_in scene.now) keys.old.items key.now }
+    requires memory { spec.IsMemory (scenes.sources_in scene.now) (R.find store.old.recall) }
+    requires passed { spec.HasPassedTo (scenes.sources_in scene.now) (R.find store.old.recall) keys.old.items key.now }
+    ensures known { IfOk result (λ k. spec.IsKnownBelow (scenes.sources_in scene.now) keys.old.items key.now k) }
+    ensures fault { IfErr result (λ e. IsTold (told e) (scenes.wanted scene.now keys.old.items key.now)) }
+    ensures memory { spec.IsMemory (scenes.sources_in scene.now) (R.find store.new.recall) }
+    ensures grows { Grows (R.find store.old.recall) (R.find store.new.recall) (spec.work_below (scenes.sources_in scene.now) keys.old.items key.now) }
+    ensures covered { OnOk result (Covered (scenes.sources_in scene.now) (Remembered (R.find store.new.recall)) (key_seen key.now)) }
+    ensures stopped { IfErr result (λ e. spec.IfTold (told e) (spec.IsDoneBelow (scenes.sources_in scene.now) (R.find store.new.recall) keys.old.items key.now)) }
+    ensures counted { IsCounted (R.find store.old.recall) (R.find store.new.recall) store.old.counts store.new.counts }
+    ensures lost { AreLost result store.old.counts.lost store.new.counts.lost }
+    ensures keys { keys.new.items ≡ keys.old.items }
+    ensures rest { OnOk result (rest scene.now.world machine.new ≡ rest scene.now.world machine.old) }
+    ensures waits { OnOk result (waiting scene.now.world machine.new ≡ waiting scene.now.world machine.old) }
+{
+    let Some(variable) = scene.simulation.variable(*key) else {
+        return Err(EvalFault::PeriodMismatch(*key));
+    };
+    if let Some(known) = seek(scene, &store.recall, keys.as_slice(), key)? {
+        return Ok(known);
+    }
+    if let Some(value) = scene.simulation.situation.input(key) {
+        return at_hand(scene, keys.as_slice(), key, value);
+    }
+    match scene.simulation.formula(variable, *key) {
+        Some(formula) => by_formula(scene, store, machine, keys, variable, formula, key),
+        None => match default_of(variable) {
+            Some(value) => at_hand(scene, keys.as_slice(), key, value),
+            None => Err(EvalFault::PeriodMismatch(*key)),
+        },
+    }
+}
+
+/// The value of a key of which nothing is remembered, by its formula, below others. It is remembered.
+#[cycle(value)]
+fn by_formula<'r, R: Recall>(
+    scene: &Scene<'r, '_, '_>,
+    store: &mut Store<R>,
+    machine: &mut Machine<'r>,
+    keys: &mut Vec<Key>,
+    variable: &Variable<'_>,
+    formula: &'r Formula,
+    key: &Key,
+) -> Result<Known, EvalFault>
+    requires scene { scenes.IsScene scene.now }
+    requires work { scenes.IsWork scene.now variable.now formula.now key.now }
+    requires depth { length keys.old.items ≤ 100 }
+    requires stack { spec.IsStack (scenes.sources_in scene.now) keys.old.items key.now }
+    requires away { has (map key_seen keys.old.items) (key_seen key.now) ≡ false }
+    requires memory { spec.IsMemory (scenes.sources_in scene.now) (R.find store.old.recall) }
+    requires miss { R.find store.old.recall (key_seen key.now) ≡ None }
+    requires passed { spec.HasPassedTo (scenes.sources_in scene.now) (R.find store.old.recall) keys.old.items key.now }
+    ensures known { IfOk result (λ k. spec.IsKnownBelow (scenes.sources_in scene.now) keys.old.items key.now k) }
+    ensures fault { IfErr result (λ e. IsTold (told e) (scenes.wanted scene.now keys.old.items key.now)) }
+    ensures memory { spec.IsMemory (scenes.sources_in scene.now) (R.find store.new.recall) }
+    ensures grows { Grows (R.find store.old.recall) (R.find store.new.recall) (spec.work_below (scenes.sources_in scene.now) keys.old.items key.now) }
+    ensures covered { OnOk result (Covered (scenes.sources_in scene.now) (Remembered (R.find store.new.recall)) (key_seen key.now)) }
+    ensures stopped { IfErr result (λ e. spec.IfTold (told e) (spec.IsDoneBelow (scenes.sources_in scene.now) (R.find store.new.recall) keys.old.items key.now)) }
+    ensures counted { IsCounted (R.find store.old.recall) (R.find store.new.recall) store.old.counts store.new.counts }
+    ensures lost { AreLost result store.old.counts.lost store.new.counts.lost }
+    ensures keys { keys.new.items ≡ keys.old.items }
+    ensures rest { OnOk result (rest scene.now.world machine.new ≡ rest scene.now.world machine.old) }
+    ensures waits { OnOk result (waiting scene.now.world machine.new ≡ waiting scene.now.world machine.old) }
+{
+    if keys.len() >= MOST_KEYS {
+        return Err(EvalFault::TooDeep(first_of(keys.as_slice(), key)));
+    }
+    match keys.push(*key) {
+        Ok(()) => {
+            let worked = work_out(scene, store, machine, keys, variable, formula, key);
+            let _ = keys.pop();
+            let known = worked?;
+            remember(scene, store, key, &known)?;
+            Ok(known)
+        }
+        Err(_) => Err(EvalFault::Memory),
+    }
+}
+
+/// Works out the formula of the last of the keys. Its height is one more than the greatest height of what it asks for.
+#[cycle(value)]
+fn work_out<'r, R: Recall>(
+    scene: &Scene<'r, '_, '_>,
+    store: &mut Store<R>,
+    machine: &mut Machine<'r>,
+    keys: &mut Vec<Key>,
+    variable: &Variable<'_>,
+    formula: &'r Formula,
+    key: &Key,
+) -> Result<Known, EvalFault>
+    requires scene { scenes.IsScene scene.now }
+    requires work { scenes.IsWork scene.now variable.now formula.now key.now }
+    requires depth { length keys.old.items ≤ 100 }
+    requires stack { spec.IsWorking (scenes.sources_in scene.now) keys.old.items key.now }
+    requires memory { spec.IsMemory (scenes.sources_in scene.now) (R.find store.old.recall) }
+    requires passed { spec.HasPassed (scenes.sources_in scene.now) (R.find store.old.recall) keys.old.items }
+    ensures known { IfOk result (λ k. spec.IsKnownAt (scenes.sources_in scene.now) keys.old.items key.now k) }
+    ensures read { IfOk result (λ k. k.reads ≡ 0) }
+    ensures fault { IfErr result (λ e. IsTold (told e) (scenes.wanted_of_work scene.now keys.old.items variable.now formula.now key.now)) }
+    ensures memory { spec.IsMemory (scenes.sources_in scene.now) (R.find store.new.recall) }
+    ensures grows { Grows (R.find store.old.recall) (R.find store.new.recall) (spec.work_at (scenes.sources_in scene.now) keys.old.items key.now) }
+    ensures worked { OnOk result (spec.IsAllButItself (scenes.sources_in scene.now) (R.find store.new.recall) key.now) }
+    ensures stopped { IfErr result (λ e. spec.IfTold (told e) (spec.IsDoneAt (scenes.sources_in scene.now) (R.find store.new.recall) keys.old.items key.now)) }
+    ensures apart { Remembered (R.find store.new.recall) (key_seen key.now) → Remembered (R.find store.old.recall) (key_seen key.now) }
+    ensures counted { IsCounted (R.find store.old.recall) (R.find store.new.recall) store.old.counts store.new.counts }
+    ensures lost { AreLost result store.old.counts.lost store.new.counts.lost }
+    ensures keys { keys.new.items ≡ keys.old.items }
+    ensures rest { OnOk result (rest scene.now.world machine.new ≡ rest scene.now.world machine.old) }
+    ensures waits { OnOk result (waiting scene.now.world machine.new ≡ waiting scene.now.world machine.old) }
+{
+    let frame = Frame {
+        entity: variable.entity,
+        member: key.member,
+        period: key.period,
+    };
+    let locals = formula.values.as_slice();
+    let begun = machine.begin(
+        &scene.world,
+        locals,
+        &formula.result,
+        variable.value_type,
+        frame,
+    );
+    let mut control = match begun {
+        Ok(control) => control,
+        Err(_) => return Err(EvalFault::Memory),
+    };
+    let mut tallest = 0;
+    loop {
+        match machine.run(&scene.world, control) {
+            Step::Done(value) => {
+                return Ok(Known {
+                    value,
+                    height: tallest + 1,
+                    reads: 0,
+                });
+            }
+            Step::Failed(fault) => return Err(told_of(fault, *key)),
+            Step::Memory => return Err(EvalFault::Memory),
+            Step::Needs(asked) => {
+                let known = value_below(scene, store, machine, keys, &asked)?;
+                tallest = tallest.max(known.height);
+                control = machine.give(known.value);
+            }
+        }
+    }
+}

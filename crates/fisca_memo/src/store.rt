@@ -1,0 +1,55 @@
+//! What is remembered, and counts of it.
+
+ghost use Rattle.std.specs.Prelude.{◌≡◌, OnOk, OnErr, IfErr};
+ghost use Rattle.fisca_heights.specs.Entries.{with_entry};
+ghost use Rattle.fisca_heights.specs.Memory.{HasFormula};
+ghost use Rattle.fisca_inputs.specs.Seen.{key_seen};
+ghost use Rattle.fisca_memo.specs.Recalled as spec;
+ghost use Rattle.fisca_memo.specs.Scenes as scenes;
+ghost use Rattle.fisca_recall.specs.Counted.{with_kept, with_lost};
+ghost use Rattle.fisca_recall.specs.Found.{entry_seen};
+
+use crate::scene::Scene;
+use fisca_eval::EvalFault;
+use fisca_inputs::Key;
+use fisca_recall::{Counts, Known, Recall};
+
+/// What is remembered, and how many formulas gave values.
+#[derive(Drop)]
+pub(crate) struct Store<R> {
+    pub(crate) recall: R,
+    pub(crate) counts: Counts,
+}
+
+/// Remembers the value of a key that its formula gave, and counts it. Nothing else remembers or counts.
+pub(crate) fn remember<R: Recall>(
+    scene: &Scene<'_, '_, '_>,
+    store: &mut Store<R>,
+    key: &Key,
+    known: &Known,
+) -> Result<(), EvalFault>
+    requires known { spec.IsKnownOf (scenes.sources_in scene.now) key.now known.now }
+    requires read { known.now.reads ≡ 0 }
+    requires memory { spec.IsMemory (scenes.sources_in scene.now) (R.find store.old.recall) }
+    requires formula { HasFormula (scenes.sources_in scene.now) (key_seen key.now) }
+    requires work { spec.IsAllButItself (scenes.sources_in scene.now) (R.find store.old.recall) key.now }
+    ensures fault { IfErr result (λ e. e ≡ EvalFault.Memory) }
+    ensures memory { spec.IsMemory (scenes.sources_in scene.now) (R.find store.new.recall) }
+    ensures ok { OnOk result (R.find store.new.recall ≡ with_entry (R.find store.old.recall) (key_seen key.now) (entry_seen known.now)) }
+    ensures err { OnErr result (R.find store.new.recall ≡ R.find store.old.recall) }
+    ensures kept { OnOk result (store.new.counts ≡ with_kept known.now.reads store.old.counts) }
+    ensures lost { OnErr result (store.new.counts ≡ with_lost store.old.counts) }
+{
+    let kept = *known;
+    let reads = known.reads;
+    match store.recall.keep(*key, kept) {
+        Ok(()) => {
+            store.counts.count_kept(reads);
+            Ok(())
+        }
+        Err(_) => {
+            store.counts.count_lost();
+            Err(EvalFault::Memory)
+        }
+    }
+}

@@ -1,0 +1,428 @@
+-- The definition of expected values, worked out on small tests.
+use Rattle.std.proofs.Common.{◌≡◌, ℕ, ◌+◌, ◌-◌, ◌*◌, List, [], ◌∷◌, map, codes, refl, sym, lit<}
+use Rattle.std.specs.Prelude.{ℤ, pos, Bool, true, false, Option, Some, None, Result, Ok, Err}
+use Rattle.fisca_inputs.specs.declared.given.Value.{Value}
+use Rattle.fisca_inputs.specs.declared.given.Value.TheVariants as v
+use Rattle.fisca_members.specs.declared.entity_members.EntityMembers.{EntityMembers}
+use Rattle.fisca_num.specs.Literal.{number_of_literal, number_of_parts, digits_ratio}
+use Rattle.fisca_num.specs.Number.{Number, whole_number, zero_number}
+use Rattle.fisca_num.specs.Operations.{only_number_of}
+use Rattle.fisca_num.specs.declared.faults.NumFault.TheVariants as number_fault
+use Rattle.std.proofs.Math.Nat.{eq-one_of_dvd-one}
+use Rattle.fisca_tables.specs.declared.entity.Entity.{Entity}
+use Rattle.fisca_tables.specs.declared.role.Role.{Role}
+use Rattle.fisca_tables.specs.declared.tables.Tables.{Tables}
+use Rattle.fisca_tables.specs.declared.variable.DeclaredType.{DeclaredType}
+use Rattle.fisca_tables.specs.declared.variable.DeclaredType.TheVariants as type
+use Rattle.fisca_tables.specs.declared.variable.DefaultValue.{DefaultValue}
+use Rattle.fisca_tables.specs.declared.variable.DefaultValue.TheVariants as default
+use Rattle.fisca_tables.specs.declared.variable.SetInput.{SetInput}
+use Rattle.fisca_tables.specs.declared.variable.SetInput.TheVariants as shared
+use Rattle.fisca_tables.specs.declared.variable.Variable.{Variable}
+use Rattle.fisca_time.specs.Period.{Span, eternity, months}
+use Rattle.fisca_time.specs.declared.unit.Unit.{Unit}
+use Rattle.fisca_time.specs.declared.unit.Unit.TheVariants as unit
+use Rattle.fisca_yaml.specs.Flow.{flow_value, series}
+use Rattle.fisca_yaml.specs.Grouping.{document, block}
+use Rattle.fisca_yaml.specs.Node.{Node}
+use Rattle.fisca_outputs.specs.Faults.{bad_at}
+use Rattle.fisca_outputs.specs.Outputs.{Output}
+use Rattle.fisca_outputs.specs.Reading.{dated_read, entry_read, member_read, named_read, outputs_in, outputs_of, section_by, section_read, value_in, values_read, variable_read}
+use Rattle.fisca_outputs.specs.declared.fault.OutputFault.{OutputFault}
+
+-- Persons in households, and some variables
+
+abbrev parent : Role
+parent = record {
+  key = codes "parent";
+  plural = Some (codes "parents");
+  label = None;
+  doc = None;
+  max = None;
+  subroles = codes "first_parent" ∷ codes "second_parent" ∷ [];
+}
+
+abbrev child : Role
+child = record { key = codes "child"; plural = Some (codes "children"); label = None; doc = None; max = None; subroles = [] }
+
+abbrev household : Entity
+household = record {
+  constant = codes "Household";
+  key = codes "household";
+  plural = codes "households";
+  label = None;
+  doc = None;
+  is_person = false;
+  roles = parent ∷ child ∷ [];
+}
+
+abbrev person : Entity
+person = record { constant = codes "Person"; key = codes "person"; plural = codes "persons"; label = None; doc = None; is_person = true; roles = [] }
+
+abbrev variable : List ℕ → ℕ → DeclaredType → DefaultValue → Unit → Option SetInput → Variable
+variable name entity t d u s = record {
+  «module» = 0;
+  line = 1;
+  name = name;
+  entity = entity;
+  value_type = t;
+  definition_period = u;
+  default_value = d;
+  end = None;
+  set_input = s;
+  label = None;
+  documentation = None;
+  unit = None;
+  reference = [];
+  formulas = [];
+}
+
+abbrev none : DefaultValue
+none = default.Number zero_number
+
+abbrev country : Tables
+country = record {
+  entities = household ∷ person ∷ [];
+  enums = record { name = codes "Occupancy"; members = (codes "tenant", codes "Tenant") ∷ (codes "owner", codes "Owner") ∷ [] } ∷ [];
+  variables =
+      variable (codes "salary") 1 type.Float none unit.Month (Some shared.DivideByPeriod)
+      ∷ variable (codes "age") 1 type.Int none unit.Month (Some shared.DispatchByPeriod)
+      ∷ variable (codes "insured") 1 type.Bool (default.Bool false) unit.Month None
+      ∷ variable (codes "occupancy") 0 (type.Enum 0) (default.Member 0) unit.Month None
+      ∷ variable (codes "yearly_tax") 0 type.Float none unit.Year None
+      ∷ variable (codes "born") 1 type.Date (default.Date None) unit.Eternity None
+      ∷ variable (codes "height") 1 type.Float none unit.Eternity None
+      ∷ variable (codes "nickname") 1 type.Text (default.Text None) unit.Month None
+      ∷ [];
+  parameters = [];
+}
+
+-- two persons of one name and a third, who live together
+
+abbrev people : List EntityMembers
+people = record { names = codes "home" ∷ []; homes = [] } ∷ record { names = codes "Ann" ∷ codes "Bob" ∷ codes "Ann" ∷ []; homes = [] } ∷ []
+
+-- one person, of a group of its own
+abbrev alone : List EntityMembers
+alone = record { names = codes "person" ∷ []; homes = [] } ∷ record { names = codes "person" ∷ []; homes = [] } ∷ []
+
+-- what is expected: of a variable, of a member, at a period, which value
+data Shown : Type 0 where
+  number : ℤ → ℕ → Shown
+  bool : Bool → Shown
+  member : ℕ → Shown
+
+abbrev shown : Value → Shown
+shown (v.Number n) = number n.numerator n.denominator
+shown (v.Bool b) = bool b
+shown (v.Member i) = member i
+
+record Row : Type 0 where
+  variable : ℕ
+  member : ℕ
+  period : Span
+  value : Shown
+
+abbrev row_of : Output → Row
+row_of o = record { variable = o.0.variable; member = o.0.member; period = o.0.period; value = shown o.1 }
+
+abbrev rows : Result (List Output) OutputFault → Result (List Row) OutputFault
+rows (Ok os) = Ok (map row_of os)
+rows (Err f) = Err f
+
+-- the key `output` stands on the ninth line
+abbrev of_node : List EntityMembers → Option Span → Option Node → Option (Result (List Row) OutputFault)
+of_node ms p None = None
+of_node ms p (Some n) = Some (rows (outputs_of country ms p 9 n))
+
+-- what is expected of members at a default period, or without one
+abbrev read_at : List EntityMembers → Option Span → List ℕ → Option (Result (List Row) OutputFault)
+read_at ms p text = of_node ms p (document text)
+
+abbrev month : ℕ → ℕ → Span
+month year m = months unit.Month (12 * year + (m - 1)) 1
+
+abbrev january : Span
+january = month 2017 1
+
+abbrev read : List ℕ → Option (Result (List Row) OutputFault)
+read = read_at alone (Some january)
+
+abbrev read_of_people : List ℕ → Option (Result (List Row) OutputFault)
+read_of_people = read_at people (Some january)
+
+abbrev row : ℕ → ℕ → Span → Shown → Row
+row x m p w = record { variable = x; member = m; period = p; value = w }
+
+abbrev bad : ℕ → Option (Result (List Row) OutputFault)
+bad line = Some (bad_at line)
+
+-- Literals, by their only number
+
+abbrev half : Number
+half = record {
+  numerator = pos 1;
+  denominator = 2;
+  lowest = record { positive = lit< tt; coprime = λ k p q. eq-one_of_dvd-one p };
+  within = record { above = lit< tt; below = lit< tt };
+}
+
+foo : number_of_literal (codes "foo") ≡ Err number_fault.NotANumber
+unfolding number_of_literal number_of_parts
+foo = refl
+
+true_word : number_of_literal (codes "true") ≡ Err number_fault.NotANumber
+unfolding number_of_literal number_of_parts
+true_word = refl
+
+five : number_of_literal (codes "5") ≡ Ok (whole_number (pos 5) (lit< tt))
+unfolding number_of_literal number_of_parts
+five = sym (only_number_of (digits_ratio false (codes "5") []) (Ok (whole_number (pos 5) (lit< tt))) (record { some = lit< tt; same = refl; lowest = (whole_number (pos 5) (lit< tt)).lowest }))
+
+seven : number_of_literal (codes "7") ≡ Ok (whole_number (pos 7) (lit< tt))
+unfolding number_of_literal number_of_parts
+seven = sym (only_number_of (digits_ratio false (codes "7") []) (Ok (whole_number (pos 7) (lit< tt))) (record { some = lit< tt; same = refl; lowest = (whole_number (pos 7) (lit< tt)).lowest }))
+
+thirty : number_of_literal (codes "30") ≡ Ok (whole_number (pos 30) (lit< tt))
+unfolding number_of_literal number_of_parts
+thirty = sym (only_number_of (digits_ratio false (codes "30") []) (Ok (whole_number (pos 30) (lit< tt))) (record { some = lit< tt; same = refl; lowest = (whole_number (pos 30) (lit< tt)).lowest }))
+
+hundred : number_of_literal (codes "100") ≡ Ok (whole_number (pos 100) (lit< tt))
+unfolding number_of_literal number_of_parts
+hundred = sym (only_number_of (digits_ratio false (codes "100") []) (Ok (whole_number (pos 100) (lit< tt))) (record { some = lit< tt; same = refl; lowest = (whole_number (pos 100) (lit< tt)).lowest }))
+
+two_hundred : number_of_literal (codes "200") ≡ Ok (whole_number (pos 200) (lit< tt))
+unfolding number_of_literal number_of_parts
+two_hundred = sym (only_number_of (digits_ratio false (codes "200") []) (Ok (whole_number (pos 200) (lit< tt))) (record { some = lit< tt; same = refl; lowest = (whole_number (pos 200) (lit< tt)).lowest }))
+
+half_literal : number_of_literal (codes "0.5") ≡ Ok (half)
+unfolding number_of_literal number_of_parts
+half_literal = sym (only_number_of (digits_ratio false (codes "0") (codes "5")) (Ok (half)) (record { some = lit< tt; same = refl; lowest = (half).lowest }))
+
+-- Variables of all members
+
+scalar_of_one : read (codes "salary: 100") ≡ Some (Ok (row 0 0 january (number (pos 100) 1) ∷ []))
+unfolding document block flow_value series value_in values_read dated_read variable_read named_read entry_read member_read section_by section_read outputs_in outputs_of
+scalar_of_one = rw hundred refl
+
+scalar_of_each : read_of_people (codes "salary: 100") ≡ Some (Ok (row 0 0 january (number (pos 100) 1) ∷ row 0 1 january (number (pos 100) 1) ∷ row 0 2 january (number (pos 100) 1) ∷ []))
+unfolding document block flow_value series value_in values_read dated_read variable_read named_read entry_read member_read section_by section_read outputs_in outputs_of
+scalar_of_each = rw hundred refl
+
+list_of_each : read_of_people (codes "salary: [5, 7, 0.5]") ≡ Some (Ok (row 0 0 january (number (pos 5) 1) ∷ row 0 1 january (number (pos 7) 1) ∷ row 0 2 january (number (pos 1) 2) ∷ []))
+unfolding document block flow_value series value_in values_read dated_read variable_read named_read entry_read member_read section_by section_read outputs_in outputs_of
+list_of_each = rw (five, seven, half_literal) refl
+
+of_their_only_group : read_of_people (codes "{occupancy: owner, salary: [5, 7, 5]}") ≡ Some (Ok (row 3 0 january (member 1) ∷ row 0 0 january (number (pos 5) 1) ∷ row 0 1 january (number (pos 7) 1) ∷ row 0 2 january (number (pos 5) 1) ∷ []))
+unfolding document block flow_value series value_in values_read dated_read variable_read named_read entry_read member_read section_by section_read outputs_in outputs_of
+of_their_only_group = rw (five, seven) refl
+
+dated : read (codes "{salary: {2016-11: 5, 2016-12: [7]}, yearly_tax: {2017: 200}}") ≡ Some (Ok (row 0 0 (month 2016 11) (number (pos 5) 1) ∷ row 0 0 (month 2016 12) (number (pos 7) 1) ∷ row 4 0 (months unit.Year (12 * 2017) 1) (number (pos 200) 1) ∷ []))
+unfolding document block flow_value series value_in values_read dated_read variable_read named_read entry_read member_read section_by section_read outputs_in outputs_of
+dated = rw (five, seven, two_hundred) refl
+
+-- two values may be expected of one key
+same_key_twice : read (codes "{salary: {2017-01: 5, \"month:2017-01\": 7}}") ≡ Some (Ok (row 0 0 january (number (pos 5) 1) ∷ row 0 0 january (number (pos 7) 1) ∷ []))
+unfolding document block flow_value series value_in values_read dated_read variable_read named_read entry_read member_read section_by section_read outputs_in outputs_of
+same_key_twice = rw (five, seven) refl
+
+nothing_expected : read (codes "{}") ≡ Some (Ok [])
+unfolding document block flow_value series value_in values_read dated_read variable_read named_read entry_read member_read section_by section_read outputs_in outputs_of
+nothing_expected = refl
+
+no_periods : read (codes "{salary: {}}") ≡ Some (Ok [])
+unfolding document block flow_value series value_in values_read dated_read variable_read named_read entry_read member_read section_by section_read outputs_in outputs_of
+no_periods = refl
+
+-- Values are read as inputs are
+
+-- any number is expected of a variable of whole numbers
+fraction_of_an_int : read (codes "age: 0.5") ≡ Some (Ok (row 1 0 january (number (pos 1) 2) ∷ []))
+unfolding document block flow_value series value_in values_read dated_read variable_read named_read entry_read member_read section_by section_read outputs_in outputs_of
+fraction_of_an_int = rw half_literal refl
+
+bools : read (codes "{insured: {2017-01: yes, 2017-02: false}}") ≡ Some (Ok (row 2 0 january (bool true) ∷ row 2 0 (month 2017 2) (bool false) ∷ []))
+unfolding document block flow_value series value_in values_read dated_read variable_read named_read entry_read member_read section_by section_read outputs_in outputs_of
+bools = refl
+
+member_in_quotes : read (codes "occupancy: \"owner\"") ≡ Some (Ok (row 3 0 january (member 1) ∷ []))
+unfolding document block flow_value series value_in values_read dated_read variable_read named_read entry_read member_read section_by section_read outputs_in outputs_of
+member_in_quotes = refl
+
+number_in_quotes : read (codes "salary: \"5\"") ≡ bad 1
+unfolding document block flow_value series value_in values_read dated_read variable_read named_read entry_read member_read section_by section_read outputs_in outputs_of
+number_in_quotes = refl
+
+no_such_member : read (codes "occupancy: castle") ≡ bad 1
+unfolding document block flow_value series value_in values_read dated_read variable_read named_read entry_read member_read section_by section_read outputs_in outputs_of
+no_such_member = refl
+
+bool_for_a_number : read (codes "salary: true") ≡ bad 1
+unfolding document block flow_value series value_in values_read dated_read variable_read named_read entry_read member_read section_by section_read outputs_in outputs_of
+bool_for_a_number = rw true_word refl
+
+value_on_its_line : read (codes "salary:\n  2017-01: 5\n  2017-02: foo") ≡ bad 3
+unfolding document block flow_value series value_in values_read dated_read variable_read named_read entry_read member_read section_by section_read outputs_in outputs_of
+value_on_its_line = rw (five, foo) refl
+
+map_for_a_value : read (codes "salary:\n  2017-01:\n    foo: 5") ≡ bad 3
+unfolding document block flow_value series value_in values_read dated_read variable_read named_read entry_read member_read section_by section_read outputs_in outputs_of
+map_for_a_value = refl
+
+empty_map_for_a_value : read (codes "salary:\n  2017-01: {}") ≡ bad 2
+unfolding document block flow_value series value_in values_read dated_read variable_read named_read entry_read member_read section_by section_read outputs_in outputs_of
+empty_map_for_a_value = refl
+
+-- Nothing is no value
+
+null_of_a_variable : read (codes "age: 5\nsalary:") ≡ bad 2
+unfolding document block flow_value series value_in values_read dated_read variable_read named_read entry_read member_read section_by section_read outputs_in outputs_of
+null_of_a_variable = rw five refl
+
+null_at_a_period : read (codes "salary:\n  2017-01: 5\n  2017-02:") ≡ bad 3
+unfolding document block flow_value series value_in values_read dated_read variable_read named_read entry_read member_read section_by section_read outputs_in outputs_of
+null_at_a_period = rw five refl
+
+null_in_a_list : read_of_people (codes "salary:\n- 5\n- null\n- 7") ≡ bad 3
+unfolding document block flow_value series value_in values_read dated_read variable_read named_read entry_read member_read section_by section_read outputs_in outputs_of
+null_in_a_list = rw five refl
+
+null_for_all : read (codes "") ≡ bad 9
+unfolding document block flow_value series value_in values_read dated_read variable_read named_read entry_read member_read section_by section_read outputs_in outputs_of
+null_for_all = refl
+
+-- Lists
+
+-- the length of a list comes before its values
+list_too_short : read_of_people (codes "salary:\n- 5\n- foo") ≡ bad 2
+unfolding document block flow_value series value_in values_read dated_read variable_read named_read entry_read member_read section_by section_read outputs_in outputs_of
+list_too_short = refl
+
+list_too_long : read (codes "salary: [5, 7]") ≡ bad 1
+unfolding document block flow_value series value_in values_read dated_read variable_read named_read entry_read member_read section_by section_read outputs_in outputs_of
+list_too_long = refl
+
+empty_list : read (codes "age: 5\nsalary: []") ≡ bad 2
+unfolding document block flow_value series value_in values_read dated_read variable_read named_read entry_read member_read section_by section_read outputs_in outputs_of
+empty_list = rw five refl
+
+value_in_a_list : read_of_people (codes "salary:\n- 5\n- foo\n- 7") ≡ bad 3
+unfolding document block flow_value series value_in values_read dated_read variable_read named_read entry_read member_read section_by section_read outputs_in outputs_of
+value_in_a_list = rw (five, foo) refl
+
+list_of_one_member : read_of_people (codes "persons:\n  Bob:\n    salary: [5]") ≡ bad 3
+unfolding document block flow_value series value_in values_read dated_read variable_read named_read entry_read member_read section_by section_read outputs_in outputs_of
+list_of_one_member = refl
+
+list_of_the_only_member : read (codes "person:\n  salary:\n  - 5") ≡ bad 3
+unfolding document block flow_value series value_in values_read dated_read variable_read named_read entry_read member_read section_by section_read outputs_in outputs_of
+list_of_the_only_member = refl
+
+-- Periods
+
+unreadable_period : read (codes "salary:\n  foo: 5") ≡ bad 2
+unfolding document block flow_value series value_in values_read dated_read variable_read named_read entry_read member_read section_by section_read outputs_in outputs_of
+unreadable_period = refl
+
+-- what can be shared as an input can't be asked for; the period comes before the value
+period_too_long : read (codes "salary:\n  2017: foo") ≡ bad 2
+unfolding document block flow_value series value_in values_read dated_read variable_read named_read entry_read member_read section_by section_read outputs_in outputs_of
+period_too_long = refl
+
+default_too_short : read (codes "age: 5\nyearly_tax: 5") ≡ bad 2
+unfolding document block flow_value series value_in values_read dated_read variable_read named_read entry_read member_read section_by section_read outputs_in outputs_of
+default_too_short = rw five refl
+
+no_default : read_at alone None (codes "salary: 5") ≡ bad 1
+unfolding document block flow_value series value_in values_read dated_read variable_read named_read entry_read member_read section_by section_read outputs_in outputs_of
+no_default = refl
+
+needs_no_default : read_at alone None (codes "height: 5") ≡ Some (Ok (row 6 0 eternity (number (pos 5) 1) ∷ []))
+unfolding document block flow_value series value_in values_read dated_read variable_read named_read entry_read member_read section_by section_read outputs_in outputs_of
+needs_no_default = rw five refl
+
+any_period_for_ever : read (codes "height: {2017: 5}") ≡ Some (Ok (row 6 0 eternity (number (pos 5) 1) ∷ []))
+unfolding document block flow_value series value_in values_read dated_read variable_read named_read entry_read member_read section_by section_read outputs_in outputs_of
+any_period_for_ever = rw five refl
+
+-- Names
+
+unknown_variable : read (codes "age: 5\nfoo: 5") ≡ bad 2
+unfolding document block flow_value series value_in values_read dated_read variable_read named_read entry_read member_read section_by section_read outputs_in outputs_of
+unknown_variable = rw five refl
+
+a_day : read (codes "born: 2017-01-01") ≡ bad 1
+unfolding document block flow_value series value_in values_read dated_read variable_read named_read entry_read member_read section_by section_read outputs_in outputs_of
+a_day = refl
+
+a_text : read (codes "nickname: foo") ≡ bad 1
+unfolding document block flow_value series value_in values_read dated_read variable_read named_read entry_read member_read section_by section_read outputs_in outputs_of
+a_text = refl
+
+-- Members of entities
+
+by_plural : read_of_people (codes "{persons: {Bob: {salary: 5, age: 7}}, households: {home: {occupancy: owner}}}") ≡ Some (Ok (row 0 1 january (number (pos 5) 1) ∷ row 1 1 january (number (pos 7) 1) ∷ row 3 0 january (member 1) ∷ []))
+unfolding document block flow_value series value_in values_read dated_read variable_read named_read entry_read member_read section_by section_read outputs_in outputs_of
+by_plural = rw (five, seven) refl
+
+-- the first member that has the name is meant
+first_of_the_name : read_of_people (codes "{persons: {Ann: {salary: 5}}}") ≡ Some (Ok (row 0 0 january (number (pos 5) 1) ∷ []))
+unfolding document block flow_value series value_in values_read dated_read variable_read named_read entry_read member_read section_by section_read outputs_in outputs_of
+first_of_the_name = rw five refl
+
+by_singular : read_of_people (codes "{household: {occupancy: owner, yearly_tax: {2017: 200}}}") ≡ Some (Ok (row 3 0 january (member 1) ∷ row 4 0 (months unit.Year (12 * 2017) 1) (number (pos 200) 1) ∷ []))
+unfolding document block flow_value series value_in values_read dated_read variable_read named_read entry_read member_read section_by section_read outputs_in outputs_of
+by_singular = rw two_hundred refl
+
+singular_of_several : read_of_people (codes "household: {}\nperson: {}") ≡ bad 2
+unfolding document block flow_value series value_in values_read dated_read variable_read named_read entry_read member_read section_by section_read outputs_in outputs_of
+singular_of_several = refl
+
+unknown_name : read_of_people (codes "persons:\n  Bob: {}\n  Eve: {}") ≡ bad 3
+unfolding document block flow_value series value_in values_read dated_read variable_read named_read entry_read member_read section_by section_read outputs_in outputs_of
+unknown_name = refl
+
+of_another_entity : read_of_people (codes "persons:\n  Bob:\n    occupancy: owner") ≡ bad 3
+unfolding document block flow_value series value_in values_read dated_read variable_read named_read entry_read member_read section_by section_read outputs_in outputs_of
+of_another_entity = refl
+
+a_role : read_of_people (codes "households:\n  home:\n    parents: Bob") ≡ bad 3
+unfolding document block flow_value series value_in values_read dated_read variable_read named_read entry_read member_read section_by section_read outputs_in outputs_of
+a_role = refl
+
+a_role_of_all : read_of_people (codes "parents: Bob") ≡ bad 1
+unfolding document block flow_value series value_in values_read dated_read variable_read named_read entry_read member_read section_by section_read outputs_in outputs_of
+a_role_of_all = refl
+
+no_map_of_a_member : read_of_people (codes "persons:\n  Bob: 5") ≡ bad 2
+unfolding document block flow_value series value_in values_read dated_read variable_read named_read entry_read member_read section_by section_read outputs_in outputs_of
+no_map_of_a_member = refl
+
+null_of_a_member : read_of_people (codes "persons:\n  Bob:") ≡ bad 2
+unfolding document block flow_value series value_in values_read dated_read variable_read named_read entry_read member_read section_by section_read outputs_in outputs_of
+null_of_a_member = refl
+
+list_of_members : read_of_people (codes "persons:\n- Bob") ≡ bad 2
+unfolding document block flow_value series value_in values_read dated_read variable_read named_read entry_read member_read section_by section_read outputs_in outputs_of
+list_of_members = refl
+
+null_of_an_entity : read_of_people (codes "persons:") ≡ bad 1
+unfolding document block flow_value series value_in values_read dated_read variable_read named_read entry_read member_read section_by section_read outputs_in outputs_of
+null_of_an_entity = refl
+
+-- all keys that name entities come before what stands there
+keys_come_first : read_of_people (codes "persons: 5\nfoo: 5") ≡ bad 2
+unfolding document block flow_value series value_in values_read dated_read variable_read named_read entry_read member_read section_by section_read outputs_in outputs_of
+keys_come_first = refl
+
+entity_twice : read_of_people (codes "household: {}\nhouseholds: 5") ≡ bad 2
+unfolding document block flow_value series value_in values_read dated_read variable_read named_read entry_read member_read section_by section_read outputs_in outputs_of
+entity_twice = refl
+
+no_map : read (codes "foo") ≡ bad 1
+unfolding document block flow_value series value_in values_read dated_read variable_read named_read entry_read member_read section_by section_read outputs_in outputs_of
+no_map = refl
+
+a_list : read (codes "- foo") ≡ bad 1
+unfolding document block flow_value series value_in values_read dated_read variable_read named_read entry_read member_read section_by section_read outputs_in outputs_of
+a_list = refl

@@ -1,0 +1,5 @@
+pub mod Faults
+pub mod Outcomes
+pub mod Outputs
+pub mod Reading
+pub mod Views

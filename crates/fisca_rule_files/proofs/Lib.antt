@@ -1,0 +1,3 @@
+mod FirstModule
+mod Telling
+pub mod Built

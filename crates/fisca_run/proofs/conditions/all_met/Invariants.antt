@@ -1,0 +1,14 @@
+use Rattle.std.proofs.Common.{◌≡◌, drop}
+use Rattle.fisca_run.specs.Conditions.{all_met}
+use Rattle.fisca_run.proofs.conditions.all_met.Given as goal
+
+-- those that are left decide
+abbrev pub invariant-loop-condition : goal.invariant-loop-condition
+invariant-loop-condition g l =
+    let answer = g.A.Answers.answer l.initial.answers in
+    record {
+      ready : g.A.Answers.ready l.answers;
+      same : g.A.Answers.answer l.answers ≡ answer;
+      members : g.A.Answers.members l.answers ≡ g.A.Answers.members l.initial.answers;
+      met : all_met answer l.conditions ≡ all_met answer (drop l.condition-index l.conditions);
+    }

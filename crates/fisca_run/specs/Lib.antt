@@ -1,0 +1,4 @@
+pub mod Conditions
+pub mod Lines
+pub mod Outcomes
+pub mod Runs

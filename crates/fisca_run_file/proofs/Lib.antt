@@ -1,0 +1,9 @@
+pub mod Counted
+pub mod Days
+pub mod Lefts
+pub mod Puts
+pub mod Spaces
+pub mod Valued
+pub mod Wholes
+mod Worked
+mod WorkedOverlaps

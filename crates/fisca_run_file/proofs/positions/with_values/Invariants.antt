@@ -1,0 +1,7 @@
+use Rattle.std.proofs.Common.{◌≡◌, ◌++◌, drop}
+use Rattle.fisca_run_file.specs.Positions.{with_values}
+use Rattle.fisca_run_file.proofs.positions.with_values.Given as goal
+
+-- those so far, and those that are left
+abbrev pub invariant-loop-i : goal.invariant-loop-i
+invariant-loop-i l = with_values l.tables l.moved l.values ≡ l.found.items ++ with_values l.tables (drop l.i l.moved) (drop l.i l.values)

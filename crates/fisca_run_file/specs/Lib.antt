@@ -1,0 +1,10 @@
+pub mod Conditions
+pub mod Grids
+pub mod Keys
+pub mod Moved
+pub mod Neutral
+pub mod Overlaps
+pub mod Positions
+pub mod RunFiles
+pub mod SaidAxes
+pub mod Views

@@ -1,0 +1,103 @@
+-- The inputs that axes move: of which variable, member and period each is.
+use Rattle.std.specs.Prelude.{ℕ, List, [], ◌∷◌, ◌++◌, map, Bool, true, false, ◌||◌, nat_lt, if◌then◌else◌, Option, Some, None, option_and_then, Result, Ok, Err, slice_get}
+use Rattle.fisca_calc.specs.Faults.{fault_at}
+use Rattle.fisca_calc.specs.declared.fault.RunFileFault.{RunFileFault}
+use Rattle.fisca_calc.specs.declared.fault.RunFileKind.TheVariants as kind
+use Rattle.fisca_grid.specs.declared.axes.AxesFault.TheVariants.{UnknownVariable, BadIndex, AxisOverlap, PeriodMismatch}
+use Rattle.fisca_inputs.specs.Entries.{Entries, same_key}
+use Rattle.fisca_inputs.specs.Inputs.{inputs_of, key_given}
+use Rattle.fisca_inputs.specs.Rules.{rule_of, is_accepted}
+use Rattle.fisca_inputs.specs.declared.fault.SituationFault.{SituationFault}
+use Rattle.fisca_inputs.specs.declared.given.Given.{Given}
+use Rattle.fisca_inputs.specs.declared.given.Value.TheVariants.{Number}
+use Rattle.fisca_inputs.specs.declared.key.Key.{Key}
+use Rattle.fisca_meaning.specs.Questions.{is_eternity, key_period}
+use Rattle.fisca_members.specs.Lookup.{count_at, counts_of}
+use Rattle.fisca_members.specs.declared.entity_members.EntityMembers.{EntityMembers}
+use Rattle.fisca_num.specs.Number.{zero_number}
+use Rattle.fisca_params.specs.Results.{and_then}
+use Rattle.fisca_situations.specs.Reading.{variable_of}
+use Rattle.fisca_tables.specs.declared.tables.Tables.{Tables}
+use Rattle.fisca_tables.specs.declared.variable.DeclaredType.{DeclaredType}
+use Rattle.fisca_tables.specs.declared.variable.DeclaredType.TheVariants as type
+use Rattle.fisca_tables.specs.declared.variable.Variable.{Variable}
+use Rattle.fisca_time.specs.Period.{Span, eternity}
+use Rattle.fisca_typing.specs.Tables.{otherwise}
+use Rattle.fisca_run_file.specs.Overlaps.{meets, overlaps}
+use Rattle.fisca_run_file.specs.SaidAxes.{SaidAxis}
+
+-- What an axis moves
+
+abbrev pub has_numbers : DeclaredType → Bool
+has_numbers type.Float = true
+has_numbers type.Int = true
+has_numbers type.Bool = false
+has_numbers type.Date = false
+has_numbers type.Text = false
+has_numbers (type.Enum e) = false
+
+abbrev pub if_numbers : ℕ → Variable → Option (ℕ × Variable)
+if_numbers place x = if has_numbers x.value_type then Some (place, x) else None
+
+-- the variable of this name, with its place, where its values are numbers
+abbrev pub variable_moved : Tables → List ℕ → Option (ℕ × Variable)
+variable_moved c name = option_and_then (λ place. option_and_then (if_numbers place) (slice_get c.variables place)) (variable_of c name)
+
+-- an input is given for such periods; an eternal variable needs none
+abbrev pub period_moved : Variable → Option Span → Option Span
+period_moved x None = if is_eternity x.definition_period then Some eternity else None
+period_moved x (Some p) = if is_accepted (rule_of x) p then Some (key_period x.definition_period p) else None
+
+-- the value stands for that of any step
+abbrev pub moved_at : SaidAxis → ℕ → Span → Given
+moved_at a place p = record { variable = place; member = a.index; period = p; value = Number zero_number; line = a.line }
+
+abbrev pub moved_or_fault : SaidAxis → ℕ → Option Span → Result Given RunFileFault
+moved_or_fault a place None = fault_at a.line (kind.Axes PeriodMismatch)
+moved_or_fault a place (Some p) = Ok (moved_at a place p)
+
+-- the period is that of the axis, or else that of the file
+abbrev pub moved_of : List EntityMembers → Option Span → SaidAxis → Option (ℕ × Variable) → Result Given RunFileFault
+moved_of ms default a None = fault_at a.line (kind.Axes UnknownVariable)
+moved_of ms default a (Some x) =
+    if nat_lt a.index (count_at ms x.1.entity) then moved_or_fault a x.0 (period_moved x.1 (otherwise a.period default))
+    else fault_at a.line (kind.Axes BadIndex)
+
+abbrev pub moved_by : Tables → List EntityMembers → Option Span → SaidAxis → Result Given RunFileFault
+moved_by c ms default a = moved_of ms default a (variable_moved c a.name)
+
+-- the inputs so far and those of more axes
+abbrev pub with_moved : Tables → List EntityMembers → Option Span → List Given → List SaidAxis → Result (List Given) RunFileFault
+with_moved c ms default gs [] = Ok gs
+with_moved c ms default gs (a ∷ rest) = and_then (moved_by c ms default a) (λ g. with_moved c ms default (gs ++ g ∷ []) rest)
+
+-- Overlaps
+
+-- It moves what an earlier axis moves, or what an input says for another period. An input of just this period is replaced.
+abbrev pub is_overlap : List Given → List Given → Given → Bool
+is_overlap given before g = meets before g.variable g.member g.period || overlaps given g.variable g.member g.period
+
+-- the later of two is told of
+abbrev pub apart_from : List Given → List Given → List Given → Result (List Key) RunFileFault
+apart_from given before [] = Ok []
+apart_from given before (g ∷ gs) =
+    if is_overlap given before g then fault_at g.line (kind.Axes AxisOverlap) else apart_from given (before ++ g ∷ []) gs
+
+-- The inputs with those of axes
+
+-- one input put in, or in the place of that of just this variable, member and period
+abbrev pub put_in : List Given → Given → List Given
+put_in [] g = g ∷ []
+put_in (h ∷ hs) g = if same_key (key_given h) (key_given g) then g ∷ hs else h ∷ put_in hs g
+
+abbrev pub put_all_in : List Given → List Given → List Given
+put_all_in given [] = given
+put_all_in given (g ∷ gs) = put_all_in (put_in given g) gs
+
+-- what the sharing of inputs with those of axes refuses is told of the line of `axes`
+abbrev pub shared_or_fault : ℕ → Result Entries SituationFault → Result (List Key) RunFileFault
+shared_or_fault key (Ok es) = Ok []
+shared_or_fault key (Err f) = fault_at key (kind.Situation f.kind)
+
+abbrev pub sharing_checked : Tables → ℕ → List EntityMembers → List Given → List Given → Result (List Key) RunFileFault
+sharing_checked c key ms given moved = shared_or_fault key (inputs_of (map rule_of c.variables) (counts_of ms) (put_all_in given moved))

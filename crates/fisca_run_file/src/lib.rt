@@ -1,0 +1,24 @@
+//! Files of `fisca run`: a situation, the axes that move some of its inputs, columns, and the conditions of a filter.
+#![tactic(auto)]
+
+mod across;
+mod condition;
+mod conditions;
+mod grids;
+mod keys;
+mod moved;
+mod movement;
+mod neutral;
+mod positions;
+mod run_file;
+mod said;
+mod said_axes;
+mod said_axis;
+mod setting;
+mod sharing;
+
+pub use across::overlaps;
+pub use condition::{Condition, read_condition};
+pub use conditions::Conditions;
+pub use moved::MovedInputs;
+pub use run_file::RunFile;

@@ -1,0 +1,156 @@
+//! The situation of a run file at a position of its grid.
+
+ghost use Rattle.std.specs.Prelude.{◌≡◌, ◌<◌, ◌++◌, ◌∷◌, [], Some, IfOk, OnOk, slice_get};
+ghost use Rattle.fisca_grid.specs.AxesRow.{values_of};
+ghost use Rattle.fisca_grid.specs.Grid.{axes_at, size_of};
+ghost use Rattle.fisca_inputs.specs.Outcomes.{Tells};
+ghost use Rattle.fisca_run_file.specs.Positions as spec;
+ghost use Rattle.fisca_run_file.specs.Views.{run_file as run_file_view};
+ghost use Rattle.fisca_situations.specs.Views.{situation as situation_view};
+
+use crate::moved::push_input;
+use crate::run_file::RunFile;
+use crate::sharing::put_all_in;
+use fisca_grid::Axes;
+use fisca_inputs::{Given, Inputs, SituationFault, Value};
+use fisca_members::Members;
+use fisca_num::Fraction;
+use fisca_situations::Situation;
+use fisca_tables::{DeclaredType, Tables};
+use std::alloc::{AllocError, Global};
+
+/// A number cut towards zero.
+fn whole_part(value: Fraction) -> Fraction
+    ensures { result ≡ spec.whole_part value }
+{
+    match Fraction::new(value.trunc(), 1) {
+        Ok(whole) => whole,
+        Err(_) => unreachable!(),
+    }
+}
+
+/// The value of an axis for a variable of this type: whole numbers are cut.
+fn cut_for(value_type: DeclaredType, value: Fraction) -> Fraction
+    ensures { result ≡ spec.cut_for value_type value }
+{
+    match value_type {
+        DeclaredType::Int => whole_part(value),
+        DeclaredType::Float
+        | DeclaredType::Bool
+        | DeclaredType::Date
+        | DeclaredType::Text
+        | DeclaredType::Enum(_) => value,
+    }
+}
+
+/// The same for the variable at a place.
+fn cut_by(tables: &Tables<'_>, variable: usize, value: Fraction) -> Fraction
+    ensures { result ≡ spec.cut_by (slice_get tables.now.variables variable) value }
+{
+    match tables.variables.as_slice().get(variable) {
+        Some(declared) => cut_for(declared.value_type, value),
+        None => value,
+    }
+}
+
+/// An input with the value of its axis.
+fn given_with(tables: &Tables<'_>, given: &Given, value: Fraction) -> Given
+    ensures { result ≡ spec.given_with tables.now given.now value }
+{
+    Given {
+        variable: given.variable,
+        member: given.member,
+        period: given.period,
+        value: Value::Number(cut_by(tables, given.variable, value)),
+        line: given.line,
+    }
+}
+
+/// Puts a number behind these.
+fn push_number(items: &mut Vec<Fraction>, number: Fraction) -> Result<(), AllocError>
+    ensures { OnOk result (items.new.items ≡ items.old.items ++ number ∷ []) }
+{
+    items.push(number).map_err(AllocError::from)
+}
+
+/// The values of the axes of a grid at a position.
+fn steps_at(alloc: Global, axes: &Axes, position: u64) -> Result<Vec<Fraction>, AllocError>
+    requires { position < size_of axes.now }
+    ensures { IfOk result (λ v. values_of (axes_at axes.now position) ≡ Some v.items) }
+{
+    let count = axes.count();
+    let mut steps = Vec::with_capacity(alloc, count)?;
+    for axis in 0..count {
+        push_number(&mut steps, axes.step(axis, position))?;
+    }
+    Ok(steps)
+}
+
+/// Inputs, each with the value of its axis.
+fn with_values(
+    alloc: Global,
+    tables: &Tables<'_>,
+    moved: &[Given],
+    values: &[Fraction],
+) -> Result<Vec<Given>, AllocError>
+    ensures { IfOk result (λ v. v.items ≡ spec.with_values tables.now moved.now values.now) }
+{
+    let mut found = Vec::with_capacity(alloc, moved.len())?;
+    for i in 0..moved.len() {
+        if i >= values.len() {
+            return Ok(found);
+        }
+        push_input(&mut found, given_with(tables, &moved[i], values[i]))?;
+    }
+    Ok(found)
+}
+
+impl RunFile {
+    /// The inputs that the axes move, in the order of the axes, with the values that these have at a position: those of a variable of whole
+    /// numbers are cut towards zero. `AllocError` only where memory was refused. This project's own rule.
+    pub fn moved_at(
+        &self,
+        alloc: Global,
+        tables: &Tables<'_>,
+        position: u64,
+    ) -> Result<Vec<Given>, AllocError>
+        requires { position < size_of (run_file_view self.now).groups }
+        ensures { IfOk result (λ v. spec.moved_at tables.now (run_file_view self.now) position ≡ Some v.items) }
+    {
+        let values = steps_at(alloc, &self.axes, position)?;
+        with_values(alloc, tables, self.moved.as_slice(), values.as_slice())
+    }
+
+    /// The inputs by keys, where these are put in or replace those of just their variables, members and periods: shared anew, and without
+    /// those of neutralised variables. Else as `Inputs::share` tells.
+    pub fn inputs_with(
+        &self,
+        alloc: Global,
+        tables: &Tables<'_>,
+        moved: &[Given],
+    ) -> Result<Inputs, SituationFault>
+        ensures { Tells (λ i. i) (spec.inputs_with tables.now (run_file_view self.now) moved.now) result }
+    {
+        let all = put_all_in(alloc, self.given.as_slice(), moved)?;
+        let counts = self.situation.members.counts(alloc)?;
+        let variables = tables.variables.as_slice();
+        let mut inputs = Inputs::share(alloc, variables, counts.as_slice(), all.as_slice())?;
+        inputs.neutralize(self.neutral.as_slice());
+        Ok(inputs)
+    }
+
+    /// The situation with these members, which are those of the file, and these inputs put in, as `inputs_with` does.
+    pub fn situation_with(
+        &self,
+        alloc: Global,
+        tables: &Tables<'_>,
+        members: Members,
+        moved: &[Given],
+    ) -> Result<Situation, SituationFault>
+        requires { members ≡ (run_file_view self.now).situation.members }
+        ensures { Tells situation_view (spec.situation_with tables.now (run_file_view self.now) moved.now) result }
+    {
+        let inputs = self.inputs_with(alloc, tables, moved)?;
+        Ok(Situation { members, inputs })
+    }
+}

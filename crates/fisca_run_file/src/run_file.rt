@@ -1,0 +1,137 @@
+//! Files of `fisca run`.
+
+ghost use Rattle.std.specs.Prelude.{◌≡◌};
+ghost use Rattle.fisca_calc.specs.Outcomes.{Tells};
+ghost use Rattle.fisca_run_file.specs.Overlaps.{overlaps as overlaps_spec};
+ghost use Rattle.fisca_run_file.specs.RunFiles as spec;
+ghost use Rattle.fisca_run_file.specs.Views.{movement as movement_view, run_file as run_file_view, setting as setting_view};
+ghost use Rattle.fisca_situations.specs.Views.{situation as situation_view};
+ghost use Rattle.fisca_yaml.specs.Views.{node};
+
+use crate::across::overlaps;
+use crate::conditions::{Conditions, conditions_in};
+use crate::keys::check_file;
+use crate::moved::MovedInputs;
+use crate::movement::{Movement, movement_in};
+use crate::setting::{Setting, setting_in};
+use fisca_calc::{Columns, RunFileFault, columns_in};
+use fisca_grid::Axes;
+use fisca_inputs::GivenInputs;
+use fisca_situations::Situation;
+use fisca_tables::Tables;
+use fisca_time::Period;
+use fisca_yaml::Tree;
+use std::alloc::Global;
+
+/// What `fisca run` works out: at each position of a grid the columns of a situation, where conditions hold.
+#[derive(Drop)]
+pub struct RunFile {
+    /// The situation without the axes, in which neutralised variables have no inputs.
+    pub situation: Situation,
+    /// The inputs as they are given.
+    pub given: GivenInputs,
+    /// A mark for each variable that is neutralised, by its place.
+    pub neutral: Vec<bool>,
+    /// The grid.
+    pub axes: Axes,
+    /// The inputs that the axes move, in the order of the axes.
+    pub moved: MovedInputs,
+    /// The keys of the columns in order.
+    pub columns: Columns,
+    /// The conditions of the filter in order.
+    pub conditions: Conditions,
+}
+
+/// The columns and the conditions of the file.
+#[tactic(auto, unfolding(crate::specs::RunFiles::asked_of))]
+fn asked_of(
+    alloc: Global,
+    tables: &Tables<'_>,
+    tree: &Tree<'_>,
+    setting: Setting,
+    movement: Movement,
+) -> Result<RunFile, RunFileFault>
+    ensures { Tells run_file_view (spec.asked_of tables.now (node tree.now) (setting_view setting) (movement_view movement)) result }
+{
+    let Setting {
+        given,
+        neutral,
+        situation,
+    } = setting;
+    let Movement { axes, moved } = movement;
+    let columns = columns_in(alloc, tables, &situation, tree)?;
+    let conditions = conditions_in(alloc, tables, &situation, tree)?;
+    Ok(RunFile {
+        situation,
+        given,
+        neutral,
+        axes,
+        moved,
+        columns,
+        conditions,
+    })
+}
+
+/// The file of this situation.
+#[tactic(auto, unfolding(crate::specs::RunFiles::run_file_by))]
+fn run_file_by(
+    alloc: Global,
+    tables: &Tables<'_>,
+    tree: &Tree<'_>,
+    setting: Setting,
+) -> Result<RunFile, RunFileFault>
+    ensures { Tells run_file_view (spec.run_file_by tables.now (node tree.now) (setting_view setting)) result }
+{
+    let movement = movement_in(alloc, tables, &setting, tree)?;
+    asked_of(alloc, tables, tree, setting, movement)
+}
+
+impl RunFile {
+    /// What a file of `fisca run` says: a map of `axes`, and perhaps `period`, `input`, `filter`, `columns` and `neutralize`.
+    ///
+    /// `axes` is a list of groups, each a list of axes, each a map of `name`, `count`, `min`, `max`, and perhaps `period` and `index`. Columns,
+    /// conditions and names to neutralise are one scalar or a list of scalars. Values, axes, columns and conditions without a period have that
+    /// of the file.
+    ///
+    /// Else its first fault, in this order:
+    ///
+    /// - `BadKey` of the first key that is none of these, or has something else, at its line; of a group or an axis of another shape at the line
+    ///   of `axes`; of a key that is missing, behind those that are there, and of what is no map, at line 1;
+    /// - `BadNeutral` of the first name that is no variable's, or that of a day or a text, at its line;
+    /// - `Situation` where the input is none, as `Situation::read` tells;
+    /// - `Axes`: the faults of `Axes::build` in their order, then of each axis `UnknownVariable` where its variable is not there or has no
+    ///   numbers, `BadIndex` where there is no such member, and `PeriodMismatch` where the variable is given no values for the period; then
+    ///   `AxisOverlap` of the first axis that moves what an earlier one does, or what an input says for another period that shares a day with
+    ///   its own. The line is that of the axis's item, and for `NoAxes` and `TooLarge` that of `axes`;
+    /// - `Situation` at the line of `axes`, where the inputs with those of the axes are refused, as when they are too many;
+    /// - `BadColumn` of the first column that `read_column` refuses, at its line;
+    /// - `BadCondition` of the first condition that `read_condition` refuses, at its line.
+    ///
+    /// `Memory`, at line 0, comes only where a growth was refused. This project's own rule.
+    #[tactic(auto, unfolding(crate::specs::RunFiles::run_file_of))]
+    pub fn read(
+        alloc: Global,
+        tables: &Tables<'_>,
+        tree: &Tree<'_>,
+    ) -> Result<RunFile, RunFileFault>
+        ensures { Tells run_file_view (spec.run_file_of tables.now (node tree.now)) result }
+    {
+        check_file(alloc, tree)?;
+        let setting = setting_in(alloc, tables, tree)?;
+        run_file_by(alloc, tables, tree, setting)
+    }
+
+    /// The situation without the axes.
+    pub fn situation(&self) -> &Situation
+        ensures { situation_view result.now ≡ (run_file_view self.now).situation }
+    {
+        &self.situation
+    }
+
+    /// Whether a value is given for this variable and member, and for another period that shares a day with this one, as `overlaps` says.
+    pub fn overlaps(&self, variable: usize, member: u32, period: Period) -> bool
+        ensures { result ≡ overlaps_spec (run_file_view self.now).given variable member period }
+    {
+        overlaps(self.given.as_slice(), variable, member, period)
+    }
+}

@@ -1,0 +1,125 @@
+//! The situation of a run file without its axes.
+
+ghost use Rattle.std.specs.Prelude.{◌≡◌, map};
+ghost use Rattle.fisca_calc.specs.Faults.{told};
+ghost use Rattle.fisca_calc.specs.Outcomes.{Tells};
+ghost use Rattle.fisca_inputs.specs.Inputs.{inputs_of};
+ghost use Rattle.fisca_inputs.specs.Rules.{rule_of};
+ghost use Rattle.fisca_members.specs.Lookup.{counts_of};
+ghost use Rattle.fisca_run_file.specs.RunFiles as spec;
+ghost use Rattle.fisca_run_file.specs.Views.{setting as setting_view};
+ghost use Rattle.fisca_situations.specs.Situations.{reading_of as reading_spec};
+ghost use Rattle.fisca_yaml.specs.Views.{node};
+
+use crate::neutral::marks_in;
+use fisca_calc::{RunFileFault, RunFileKind, default_in};
+use fisca_inputs::{GivenInputs, Inputs, SituationKind};
+use fisca_members::Members;
+use fisca_situations::{Reading, Situation, reading_of};
+use fisca_tables::Tables;
+use fisca_time::Period;
+use fisca_yaml::Tree;
+use std::alloc::Global;
+
+/// The inputs as they are given, the variables that are neutralised, and the situation in which these have no inputs.
+#[derive(Drop)]
+pub(crate) struct Setting {
+    /// The inputs as they are given.
+    pub(crate) given: GivenInputs,
+    /// A mark for each variable that is neutralised, by its place.
+    pub(crate) neutral: Vec<bool>,
+    /// The situation.
+    pub(crate) situation: Situation,
+}
+
+/// What an input says, whose key stands on `line`; a fault is told as one of the file.
+fn reading_at(
+    alloc: Global,
+    tables: &Tables<'_>,
+    default: Option<Period>,
+    line: usize,
+    tree: &Tree<'_>,
+) -> Result<Reading, RunFileFault>
+    ensures { Tells (λ r. r) (told (reading_spec tables.now default line (node tree.now))) result }
+{
+    match reading_of(alloc, tables, default, line, tree) {
+        Ok(reading) => Ok(reading),
+        Err(fault) if fault.kind == SituationKind::Memory => Err(RunFileFault {
+            line: fault.line,
+            kind: RunFileKind::Memory,
+        }),
+        Err(fault) => Err(RunFileFault {
+            line: fault.line,
+            kind: RunFileKind::Situation(fault.kind),
+        }),
+    }
+}
+
+/// What the file's input says.
+fn reading_in(alloc: Global, tables: &Tables<'_>, tree: &Tree<'_>) -> Result<Reading, RunFileFault>
+    ensures { Tells (λ r. r) (spec.reading_in tables.now (node tree.now)) result }
+{
+    let default = default_in(tree);
+    match tree.entry("input") {
+        Some(entry) => reading_at(alloc, tables, default, entry.line, &entry.value),
+        None => reading_at(alloc, tables, default, 1, &Tree::Null),
+    }
+}
+
+/// The inputs of what is read, after sharing; a fault is told as one of the file.
+fn inputs_by(
+    alloc: Global,
+    tables: &Tables<'_>,
+    members: &Members,
+    given: &GivenInputs,
+) -> Result<Inputs, RunFileFault>
+    ensures { Tells (λ i. i) (told (inputs_of (map rule_of tables.now.variables) (counts_of members.now) given.now)) result }
+{
+    let counts = members.counts(alloc)?;
+    let variables = tables.variables.as_slice();
+    match Inputs::share(alloc, variables, counts.as_slice(), given.as_slice()) {
+        Ok(inputs) => Ok(inputs),
+        Err(fault) if fault.kind == SituationKind::Memory => Err(RunFileFault {
+            line: fault.line,
+            kind: RunFileKind::Memory,
+        }),
+        Err(fault) => Err(RunFileFault {
+            line: fault.line,
+            kind: RunFileKind::Situation(fault.kind),
+        }),
+    }
+}
+
+/// The situation of what is read, without the inputs of the variables that have a mark.
+#[tactic(auto, unfolding(crate::specs::RunFiles::setting_of))]
+fn setting_of(
+    alloc: Global,
+    tables: &Tables<'_>,
+    neutral: Vec<bool>,
+    reading: Reading,
+) -> Result<Setting, RunFileFault>
+    ensures { Tells setting_view (spec.setting_of tables.now neutral.items reading) result }
+{
+    let Reading { members, given } = reading;
+    let mut inputs = inputs_by(alloc, tables, &members, &given)?;
+    inputs.neutralize(neutral.as_slice());
+    Ok(Setting {
+        given,
+        neutral,
+        situation: Situation { members, inputs },
+    })
+}
+
+/// What the file neutralises, and the situation of its input.
+#[tactic(auto, unfolding(crate::specs::RunFiles::setting_in))]
+pub(crate) fn setting_in(
+    alloc: Global,
+    tables: &Tables<'_>,
+    tree: &Tree<'_>,
+) -> Result<Setting, RunFileFault>
+    ensures { Tells setting_view (spec.setting_in tables.now (node tree.now)) result }
+{
+    let neutral = marks_in(alloc, tables, tree)?;
+    let reading = reading_in(alloc, tables, tree)?;
+    setting_of(alloc, tables, neutral, reading)
+}

@@ -1,0 +1,5 @@
+pub mod Parts
+pub mod ReadTests
+pub mod Reports
+mod Worked
+mod WorkedVerdicts

@@ -1,0 +1,28 @@
+//! Tests of rule sets: the files that say them, their verdicts, and what is told of these.
+#![tactic(auto)]
+
+mod all;
+mod comparing;
+mod fault;
+mod key_fault;
+mod keys;
+mod law;
+mod lines;
+mod margins;
+mod outcome;
+mod report;
+mod scenes;
+mod test;
+mod tests;
+
+pub use all::{Verdict, write_report};
+pub use comparing::passes;
+pub use fault::{TestFault, TestKind, VerdictFault};
+pub use key_fault::KeyFault;
+pub use law::situations_are_read;
+pub use margins::Margins;
+pub use outcome::Outcome;
+pub use report::{write_counts, write_verdict};
+pub use scenes::Scenes;
+pub use test::Test;
+pub use tests::Tests;

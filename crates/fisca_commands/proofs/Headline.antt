@@ -41,8 +41,8 @@ whole continues ends files text from limit old new end (inr is) =
     (r, is.1, record {
       starts = ran.0;
       written = ran.2;
-      continues = λ position e. continues (row_of r) (size_of r) from position limit ran.0 (ran.1 ∙ ap (λ x. told_end {EvalFault} x) e);
-      ended = λ e. ends (row_of r) (size_of r) from limit ran.0 (ran.1 ∙ ap (λ x. told_end {EvalFault} x) e);
+      continues = λ position e. continues (row_of r) (size_of r) from position limit ran.0 (ran.1 ∙ ap (λ x. told_end {F = EvalFault} x) e);
+      ended = λ e. ends (row_of r) (size_of r) from limit ran.0 (ran.1 ∙ ap (λ x. told_end {F = EvalFault} x) e);
     })
 
 -- which fault stopped a run that is told so
@@ -73,7 +73,7 @@ of_files files refusal fault e (inr (inl is)) = of_params is.1.2
   where
     of_params : {x : ParamFault} → IsToldOf files x refusal → ⊥
     of_params (inl is) = of_memory refusal fault e is
-    of_params (inr is) = let other = is.2.0 in cc
+    of_params (inr is) = let other = is.2 in cc
 of_files files refusal fault e (inr (inr is)) = of_file (rules_by is.0 files) refusal fault e is.2
 
 of_text : (rules : RuleSet) (text : List ℕ) (refusal : Refusal) (fault : RunFault Unanswered) → refusal ≡ Run fault → RefusesRunText rules text refusal → ⊥

@@ -14,6 +14,6 @@ abbrev pub key_told : RuleSet → List EntityMembers → EvalFault → Option (L
 key_told rules members fault = option_map (λ f. key_text (codes " ") (known rules.tables) members (key_of f.key)) (told fault)
 
 -- the fault, and the text of its key
-pub record IsUnanswered (rules : RuleSet) (members : List EntityMembers) (fault : EvalFault) (u : Unanswered) : Type 0 where
-  pub fault : u.fault ≡ fault
-  pub key : key_told rules members fault ≡ Some (string_bytes u.key)
+pub record IsUnanswered (rules : RuleSet) (members : List EntityMembers) (cause : EvalFault) (u : Unanswered) : Type 0 where
+  pub fault : u.fault ≡ cause
+  pub key : key_told rules members cause ≡ Some (string_bytes u.key)

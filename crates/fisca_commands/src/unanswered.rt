@@ -20,11 +20,9 @@ pub(crate) fn unanswered(
 ) -> Result<Unanswered, AllocError>
     ensures { IfOk result (IsUnanswered rules.now (situation_view situation.now).members fault) }
 {
-    match fault.key() {
-        Some(key) => {
-            let key = key_text(alloc, &rules.tables, situation, &key)?;
-            Ok(Unanswered { fault, key })
-        }
-        None => Err(AllocError),
-    }
+    let Some(found) = fault.key() else {
+        return Err(AllocError);
+    };
+    let key = key_text(alloc, &rules.tables, situation, &found)?;
+    Ok(Unanswered { fault, key })
 }

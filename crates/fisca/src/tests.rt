@@ -128,6 +128,33 @@ fn a_run_file_ends_with_its_status(rt: HostRuntime) -> Result<(), Fail> {
     Ok(())
 }
 
+#[test]
+fn a_file_of_tests_ends_with_its_status(rt: HostRuntime) -> Result<(), Fail> {
+    fs::create_dir_all(&rt, "rules/variables")?;
+    fs::write(&rt, "rules/entities.py", PERSON)?;
+    fs::write(&rt, "rules/variables/a.py", VARIABLES)?;
+    let table = [
+        ("passed", "input: {salary: 4}\noutput: {share: 0.25}\n", 0),
+        ("failed", "input: {salary: 4}\noutput: {share: 0.5}\n", 1),
+        ("fault", "output: {share: 0.5}\n", 1),
+        ("test", "input: {salary: 4}\n", 3),
+        ("output", "output: {nope: 1}\n", 3),
+        ("yaml", "output: [", 3),
+    ];
+    for (name, rest, status) in table {
+        let text = format!(in rt.alloc(); "period: 2017-01\n{rest}")?;
+        fs::write(&rt, name, text.as_str())?;
+        let line = format!(in rt.alloc(); "fisca test rules {name}")?;
+        let words = words_of(rt.alloc(), line.as_str())?;
+        assert_eq!(rt; run_words(&rt, words.as_slice()), status, "{name}");
+    }
+    let none = words_of(rt.alloc(), "fisca test rules none")?;
+    assert_eq!(rt; run_words(&rt, none.as_slice()), 5);
+    let check = words_of(rt.alloc(), "fisca check rules")?;
+    assert_eq!(rt; run_words(&rt, check.as_slice()), 0);
+    Ok(())
+}
+
 /// A writer that takes every byte, and cannot hand it over.
 #[derive(Drop)]
 struct Stuck;

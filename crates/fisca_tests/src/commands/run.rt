@@ -78,8 +78,14 @@ fn a_run_in_parts_has_all_lines_once(rt: HostRuntime) {
 #[test]
 fn a_run_of_no_lines_stays_where_it_is(rt: HostRuntime) -> Result<(), Fail> {
     let mut sink = MemorySink::new(rt.alloc());
-    assert_eq!(rt; run_rents(rt.alloc(), 2, Some(0), &mut sink), Ok(RunEnd::More(2)));
-    assert_eq!(rt; run_rents(rt.alloc(), 5, Some(0), &mut sink), Ok(RunEnd::End));
+    assert_eq!(rt;
+        run_rents(rt.alloc(), 2, Some(0), &mut sink),
+        Ok(RunEnd::More(2))
+    );
+    assert_eq!(rt;
+        run_rents(rt.alloc(), 5, Some(0), &mut sink),
+        Ok(RunEnd::End)
+    );
     assert!(rt; sink.bytes().is_empty());
     Ok(())
 }

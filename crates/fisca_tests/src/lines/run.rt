@@ -28,6 +28,10 @@ impl Rows for Salaries {
 
     ghost ready = { λ _. ⊤ };
 
+    ghost worked = { λ _ _ _. ⊤ };
+
+    ghost refused = { λ _ _ _. ⊤ };
+
     fn size(&self) -> u64 {
         u64::from(self.count)
     }

@@ -70,7 +70,9 @@ fn a_file_of_columns_ends_with_its_status(rt: HostRuntime) -> Result<(), Fail> {
     fs::create_dir_all(&rt, "rules/variables")?;
     fs::write(&rt, "rules/entities.py", PERSON)?;
     fs::write(&rt, "rules/variables/a.py", VARIABLES)?;
+    // a file of columns up to its first mebibyte
     let mut long = Vec::new(rt.alloc());
+    long.extend_from_slice(b"columns: []\n")?;
     for _ in 0..1025 {
         long.extend_from_slice(&[b'#'; 1024])?;
     }
@@ -96,6 +98,8 @@ fn a_file_of_columns_ends_with_its_status(rt: HostRuntime) -> Result<(), Fail> {
     }
     let none = words_of(rt.alloc(), "fisca calc rules none")?;
     assert_eq!(rt; run_words(&rt, none.as_slice()), 5);
+    let folder_first = words_of(rt.alloc(), "fisca calc none long")?;
+    assert_eq!(rt; run_words(&rt, folder_first.as_slice()), 5);
     fs::write(&rt, "rules/variables/b.py", "x = 1\n")?;
     let refused = words_of(rt.alloc(), "fisca calc rules yaml")?;
     assert_eq!(rt; run_words(&rt, refused.as_slice()), 3);

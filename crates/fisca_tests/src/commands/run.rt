@@ -7,9 +7,10 @@ use fisca_params::SourceFile;
 use std::alloc::{AllocError, Global};
 use std::test::Fail;
 
-const ENTITIES: &str = "Person = build_entity(key='person', plural='persons', is_person=True)\n";
+pub(super) const ENTITIES: &str =
+    "Person = build_entity(key='person', plural='persons', is_person=True)\n";
 
-const VARIABLES: &str = "class rent(Variable):
+pub(super) const VARIABLES: &str = "class rent(Variable):
     value_type = float
     entity = Person
     definition_period = MONTH
@@ -33,7 +34,7 @@ columns: allowance
 /// The text of all lines.
 const ALL: &[u8] = b"1\t200\t50\n2\t400\t100\n3\t600\t150\n4\t800\t200\n";
 
-fn file(alloc: Global, path: &str, text: &str) -> Result<SourceFile, AllocError> {
+pub(super) fn file(alloc: Global, path: &str, text: &str) -> Result<SourceFile, AllocError> {
     let path = String::from_str(alloc, path)?;
     let text = String::from_str(alloc, text)?;
     Ok(SourceFile::new(path, text))

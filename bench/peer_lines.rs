@@ -1,6 +1,7 @@
 // What the peers that write lines share, by `include!`: numbers read from texts, the values of axes, and the texts of numbers.
 
 /// Thousandths of a decimal text with at most three places.
+#[allow(dead_code)]
 fn thousandths(text: &str) -> i64 {
     let (sign, text) = match text.strip_prefix('-') {
         Some(rest) => (-1, rest),
@@ -50,6 +51,7 @@ impl Axis {
     }
 
     /// Whether the value at a step is at least a number of thousandths.
+    #[allow(dead_code)]
     fn is_at_least(&self, step: i64, bound: i64) -> bool {
         i128::from(self.first + step * self.rise) * 1000 >= i128::from(bound) * i128::from(self.scale)
     }

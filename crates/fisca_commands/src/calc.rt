@@ -7,7 +7,8 @@ ghost use Rattle.fisca_lines.specs.Sink.{CountsFailure};
 ghost use Rattle.fisca_situations.specs.Views.{situation as situation_view};
 ghost use Rattle.fisca_yaml.specs.Grouping.{document};
 ghost use Rattle.fisca_yaml.specs.Views.{node};
-ghost use Rattle.fisca_commands.specs.Calc.{IsAsked, IsCalc, IsCalculated, IsKeyTold, IsYamlRefused, RefusesText, simulation_of};
+ghost use Rattle.fisca_commands.specs.Calc.{IsAsked, IsCalc, IsCalculated, IsKeyTold, RefusesText, simulation_of};
+ghost use Rattle.fisca_commands.specs.Yaml.{IsYamlRefused};
 ghost use Rattle.fisca_refusals.specs.Refusal.{is_write};
 
 use super::unanswered::unanswered;

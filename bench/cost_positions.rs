@@ -1,7 +1,7 @@
 //! The cost of a position, by the number of positions: a command that takes `--from`, over the last positions of its grid, and over its last position
-//! alone, into a file. All commands and numbers take turns, round by round, so that a slower minute of the machine meets each of them. Prints for each
-//! the nanoseconds of one position, user and system time together: the time that one run in ten falls short of, less that of the last position alone,
-//! over the positions between.
+//! alone right behind it, into a file. All commands and numbers take turns, round by round, so that a slower minute of the machine meets each of them.
+//! Prints for each the nanoseconds of one position, user and system time together: the middle one of the differences between the two runs of a pair, over
+//! the positions between.
 //!
 //! Its words are the file to write, the logarithms to base 2 of the size of the grids, of the fewest and of the most positions, and the commands.
 use std::env;
@@ -45,13 +45,6 @@ fn used() -> u64 {
     (1_000_000 * (user.seconds + system.seconds) + user.microseconds + system.microseconds) as u64 * 1000
 }
 
-/// The times of the runs over so many last positions, and over the last one alone.
-#[derive(Default)]
-struct Times {
-    many: Vec<u64>,
-    one: Vec<u64>,
-}
-
 /// The time of one run from a position to the end of the grid.
 fn run(words: &str, file: &str, from: u64) -> io::Result<u64> {
     let mut parts = words.split(' ');
@@ -65,10 +58,10 @@ fn run(words: &str, file: &str, from: u64) -> io::Result<u64> {
     Ok(used() - before)
 }
 
-/// The time that one run in ten falls short of.
-fn tenth(times: &mut [u64]) -> f64 {
+/// The middle one.
+fn median(times: &mut [i64]) -> f64 {
     times.sort_unstable();
-    times[times.len() / 10] as f64
+    times[times.len() / 2] as f64
 }
 
 fn main() -> io::Result<()> {
@@ -76,18 +69,17 @@ fn main() -> io::Result<()> {
     let number = |place: usize| words[place].parse::<u64>().map_err(io::Error::other);
     let (file, size, fewest, most) = (&words[1], 1 << number(2)?, number(3)?, number(4)?);
     let counts: Vec<u64> = (fewest..=most).step_by(APART as usize).map(|power| 1 << power).collect();
-    let mut cells: Vec<(&String, u64, Times)> = Vec::new();
+    let mut cells: Vec<(&String, u64, Vec<i64>)> = Vec::new();
     for command in &words[5..] {
-        cells.extend(counts.iter().map(|count| (command, *count, Times::default())));
+        cells.extend(counts.iter().map(|count| (command, *count, Vec::new())));
     }
     let rounds = env::var("BENCH_ROUNDS").ok().and_then(|text| text.parse().ok()).unwrap_or(ROUNDS);
     for _ in 0..rounds {
-        for (command, count, times) in &mut cells {
+        for (command, count, differences) in &mut cells {
             let mut left = ROUND;
             while left > 0 {
                 let many = run(command, file, size - *count)?;
-                times.many.push(many);
-                times.one.push(run(command, file, size - 1)?);
+                differences.push(many as i64 - run(command, file, size - 1)? as i64);
                 left = left.saturating_sub(many.max(1));
             }
         }
@@ -95,10 +87,10 @@ fn main() -> io::Result<()> {
     for cells in cells.chunks_mut(counts.len()) {
         println!("{}", cells[0].0);
         let (mut least, mut greatest) = (f64::INFINITY, 0f64);
-        for (_, count, times) in cells {
-            let each = (tenth(&mut times.many) - tenth(&mut times.one)) / (*count - 1) as f64;
+        for (_, count, differences) in cells {
+            let each = median(differences) / (*count - 1) as f64;
             (least, greatest) = (least.min(each), greatest.max(each));
-            println!("  the last {count} positions: {each:.1} ns each, {} runs", times.many.len());
+            println!("  the last {count} positions: {each:.1} ns each, {} runs", differences.len());
         }
         println!("  apart {:.0} percent", 100.0 * (greatest / least - 1.0));
     }

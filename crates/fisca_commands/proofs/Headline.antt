@@ -1,5 +1,5 @@
 -- What is known of a run by what it answers.
-use Rattle.std.proofs.Common.{◌≡◌, ◌≤◌, ◌<◌, ◌∙◌, inl, inr, ℕ, List, Option, Some, None, Result, Ok, Err, ap, sym, subst, string_bytes, arith}
+use Rattle.std.proofs.Common.{◌≡◌, ◌≤◌, ◌∙◌, inl, inr, ℕ, List, Option, Some, None, Result, Ok, Err, ap, sym, subst, string_bytes, arith}
 use Rattle.fisca_eval.specs.declared.fault.EvalFault.{EvalFault}
 use Rattle.fisca_lines.specs.Continued.{IsContinued}
 use Rattle.fisca_lines.specs.Lines.{AtEnd, FaultAt, MoreFrom, lines, run_end}

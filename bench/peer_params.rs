@@ -855,7 +855,7 @@ struct Node {
 
 pub struct SourceFile {
     pub path: String,
-    text: String,
+    pub text: String,
 }
 
 pub struct ParamTree {

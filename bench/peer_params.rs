@@ -855,7 +855,7 @@ struct Node {
 
 pub struct SourceFile {
     pub path: String,
-    text: String,
+    pub text: String,
 }
 
 pub struct ParamTree {
@@ -1087,7 +1087,7 @@ impl ParamTree {
         Ok(())
     }
 
-    fn child(&self, node: usize, name: &str) -> Option<usize> {
+    pub fn child(&self, node: usize, name: &str) -> Option<usize> {
         self.nodes[node].children.get(name).copied()
     }
 

@@ -1,7 +1,8 @@
 // The peer of `fisca test` over examples/country: reads the same files of tests in plain Rust, makes each situation, works its outputs out by the rules of bench/peer_country.rs, compares them
 // within the margins and writes the same report.
 //
-// rustc -O bench/peer_tests.rs; peer_tests report RULES TESTS, or peer_tests bytes RULES TESTS, which only reads the files
+// rustc -O bench/peer_tests.rs; peer_tests report RULES TESTS, or peer_tests bytes RULES TESTS, which only reads the files, or peer_tests starts RULES TESTS PROGRAM RUNS, which times PROGRAM
+// beside that
 #[path = "peer_country.rs"]
 mod country;
 #[allow(dead_code)]
@@ -20,7 +21,8 @@ use std::collections::HashSet;
 use std::fs;
 use std::io::Write as _;
 use std::path::Path;
-use std::process::ExitCode;
+use std::process::{Command, ExitCode, Stdio};
+use std::time::Instant;
 use yaml::{Entry, Refused, Tree, read_yaml};
 
 const MOST_INPUTS: usize = 100_000;
@@ -310,19 +312,20 @@ fn situation(rules: &Rules, default: Option<Period>, line: u32, tree: &Tree<'_>)
         let length = |given: &Given| if rules.variables[given.key.variable].unit == Unit::Day { given.key.period.sub_count(Unit::Day).ok() } else { given.key.period.months() };
         givens.sort_by_key(|given| (length(given), given.key.period.start_day(), given.key.period.unit()));
     }
-    let mut inputs = Map::default();
+    let parts = |given: &Given| given.key.period.sub_count(rules.variables[given.key.variable].unit).unwrap_or(1) as usize;
+    let room = givens.iter().map(parts).sum::<usize>().min(MOST_INPUTS);
+    let mut inputs = Map::with_capacity_and_hasher(room, country::Folds);
     for given in &givens {
         share(rules, &mut inputs, given)?;
     }
-    if names[PERSON].len() > 1 || names[HOUSEHOLD].len() > 1 {
-        let rows: HashSet<(usize, Period), country::Folds> = inputs.keys().map(|key| (key.variable, key.period)).collect();
-        for (variable, period) in rows {
-            let declared = &rules.variables[variable];
-            for member in 0..names[declared.entity].len() as u32 {
-                let key = Key { variable, member, period };
-                if !inputs.contains_key(&key) {
-                    put(&mut inputs, line, key, declared.default)?;
-                }
+    let has_others = |variable: usize| names[rules.variables[variable].entity].len() > 1;
+    let rows: HashSet<(usize, Period), country::Folds> = inputs.keys().filter(|key| has_others(key.variable)).map(|key| (key.variable, key.period)).collect();
+    for (variable, period) in rows {
+        let declared = &rules.variables[variable];
+        for member in 0..names[declared.entity].len() as u32 {
+            let key = Key { variable, member, period };
+            if !inputs.contains_key(&key) {
+                put(&mut inputs, line, key, declared.default)?;
             }
         }
     }
@@ -563,8 +566,32 @@ fn files_below(folder: &Path, prefix: &str, files: &mut Vec<SourceFile>) {
     }
 }
 
+/// The nanoseconds that a program takes from its start to its end.
+fn seen(program: &str, words: &[&str]) -> u128 {
+    let start = Instant::now();
+    let mut child = Command::new(program).args(words).stdout(Stdio::null()).spawn().unwrap();
+    child.wait().unwrap();
+    start.elapsed().as_nanos()
+}
+
+/// The least time of a program that runs tests, and of this one where it only reads the files, in turns.
+fn starts(program: &str, rules: &str, tests: &str, runs: u32) {
+    let own = std::env::current_exe().unwrap();
+    let own = own.to_str().unwrap();
+    let (mut ours, mut bytes) = (u128::MAX, u128::MAX);
+    for _ in 0..runs {
+        ours = ours.min(seen(program, &["test", rules, tests]));
+        bytes = bytes.min(seen(own, &["bytes", rules, tests]));
+    }
+    println!("{ours} {bytes}");
+}
+
 fn main() -> ExitCode {
     let words: Vec<String> = std::env::args().skip(1).collect();
+    if words[0] == "starts" {
+        starts(&words[3], &words[1], &words[2], words[4].parse().unwrap());
+        return ExitCode::SUCCESS;
+    }
     let mut files = Vec::new();
     files_below(Path::new(&words[1]), "", &mut files);
     let text = fs::read_to_string(&words[2]).unwrap();

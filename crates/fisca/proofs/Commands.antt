@@ -5,7 +5,7 @@ use Rattle.std.proofs.lemmas.Slice.Eq.{bytes_eq-Decides}
 use Rattle.std.specs.Str.{bytes_eq}
 use Rattle.std.specs.List.{slice_index_or}
 use Rattle.clap.specs.Lexer.{long_of, short_of}
-use Rattle.clap.specs.Walk.{Text, Rule, Held, Names, Outcome, Step, Waiting, Walk, next, trailing, subcommand, value, idle, option, positional, done, waits, plain, refused, after_flag, after_step, arg_by_index, arg_by_long, bundle, long_met, long_or_other, nothing_held, plain_word, short_or_plain, subcommand_met, subcommand_or_other, to_positional, walk_from, walked, walked_from, word_met, stop_after}
+use Rattle.clap.specs.Walk.{Row, Text, Rule, Held, Names, Outcome, Step, Waiting, Walk, next, trailing, subcommand, value, idle, option, positional, done, waits, plain, refused, after_flag, after_step, arg_by_index, arg_by_long, bundle, long_met, long_or_other, nothing_held, plain_word, short_or_plain, subcommand_met, subcommand_or_other, to_positional, walk_from, walked, walked_from, word_met, stop_after}
 use Rattle.clap.specs.Simple.{App, Shape, argument_words, built, entered, names_of, rows_at, subcommand_of, subcommand_rows, HasMatchesOf}
 use Rattle.clap.specs.Kinds.{Kinds, or_else}
 use Rattle.std.specs.Prelude.{Box}
@@ -176,3 +176,14 @@ no_other app words m name is none matches met no_check no_calc no_test no_run no
 
     told : (name ≡ codes "check") ⊎ ((name ≡ codes "calc") ⊎ ((name ≡ codes "test") ⊎ ((name ≡ codes "run") ⊎ (name ≡ codes "axes"))))
     told = subst IsNamed (ap (option_map (λ command. command.0)) (sym (found refl).1) ∙ same_name (out-ArgMatches m).subcommand ∙ sym met) (named words faultless)
+
+both : (o : Option (Text × List Row)) (name : Text) (rows : List Row) → option_map (λ command. command.0) o ≡ Some name → option_map (λ command. command.1) o ≡ Some rows → o ≡ Some (name, rows)
+both None name rows one two = absurd (cc)
+both (Some (a, b)) name rows one two = let first : a ≡ name = cc in let second : b ≡ rows = cc in rw (first, second) refl
+
+-- the command that the words name, and its matches
+pub met : (app : App) (words : List Text) (m : ArgMatches) (name : Text) (rows : List Row) → app ≡ fisca_app → HasMatchesOf app words m → Some name ≡ subcommand_name_of m
+    → Some rows ≡ option_map (λ command. command.1) (subcommand_rows (out-ArgMatches m).subcommand) → subcommand_of fisca_app words ≡ Some (name, rows)
+met app words m name rows is matches named_so has =
+    let found : HasMatchesOf fisca_app words m = subst (λ (a : App). HasMatchesOf a words m) is matches in
+    sym (found refl).1 ∙ both (subcommand_rows (out-ArgMatches m).subcommand) name rows (same_name (out-ArgMatches m).subcommand ∙ sym named_so) (sym has)

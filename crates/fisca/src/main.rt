@@ -2,6 +2,7 @@
 #![tactic(auto)]
 
 mod folder;
+mod help;
 mod task;
 
 use clap::error::ErrorKind;

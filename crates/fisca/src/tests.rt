@@ -70,7 +70,9 @@ fn a_file_of_columns_ends_with_its_status(rt: HostRuntime) -> Result<(), Fail> {
     fs::create_dir_all(&rt, "rules/variables")?;
     fs::write(&rt, "rules/entities.py", PERSON)?;
     fs::write(&rt, "rules/variables/a.py", VARIABLES)?;
+    // a file of columns up to its first mebibyte
     let mut long = Vec::new(rt.alloc());
+    long.extend_from_slice(b"columns: []\n")?;
     for _ in 0..1025 {
         long.extend_from_slice(&[b'#'; 1024])?;
     }
@@ -96,6 +98,8 @@ fn a_file_of_columns_ends_with_its_status(rt: HostRuntime) -> Result<(), Fail> {
     }
     let none = words_of(rt.alloc(), "fisca calc rules none")?;
     assert_eq!(rt; run_words(&rt, none.as_slice()), 5);
+    let folder_first = words_of(rt.alloc(), "fisca calc none long")?;
+    assert_eq!(rt; run_words(&rt, folder_first.as_slice()), 5);
     fs::write(&rt, "rules/variables/b.py", "x = 1\n")?;
     let refused = words_of(rt.alloc(), "fisca calc rules yaml")?;
     assert_eq!(rt; run_words(&rt, refused.as_slice()), 3);
@@ -125,6 +129,33 @@ fn a_run_file_ends_with_its_status(rt: HostRuntime) -> Result<(), Fail> {
         let words = words_of(rt.alloc(), line.as_str())?;
         assert_eq!(rt; run_words(&rt, words.as_slice()), status, "{name}");
     }
+    Ok(())
+}
+
+#[test]
+fn a_file_of_tests_ends_with_its_status(rt: HostRuntime) -> Result<(), Fail> {
+    fs::create_dir_all(&rt, "rules/variables")?;
+    fs::write(&rt, "rules/entities.py", PERSON)?;
+    fs::write(&rt, "rules/variables/a.py", VARIABLES)?;
+    let table = [
+        ("passed", "input: {salary: 4}\noutput: {share: 0.25}\n", 0),
+        ("failed", "input: {salary: 4}\noutput: {share: 0.5}\n", 1),
+        ("fault", "output: {share: 0.5}\n", 1),
+        ("test", "input: {salary: 4}\n", 3),
+        ("output", "output: {nope: 1}\n", 3),
+        ("yaml", "output: [", 3),
+    ];
+    for (name, rest, status) in table {
+        let text = format!(in rt.alloc(); "period: 2017-01\n{rest}")?;
+        fs::write(&rt, name, text.as_str())?;
+        let line = format!(in rt.alloc(); "fisca test rules {name}")?;
+        let words = words_of(rt.alloc(), line.as_str())?;
+        assert_eq!(rt; run_words(&rt, words.as_slice()), status, "{name}");
+    }
+    let none = words_of(rt.alloc(), "fisca test rules none")?;
+    assert_eq!(rt; run_words(&rt, none.as_slice()), 5);
+    let check = words_of(rt.alloc(), "fisca check rules")?;
+    assert_eq!(rt; run_words(&rt, check.as_slice()), 0);
     Ok(())
 }
 

@@ -59,7 +59,7 @@ fn write_line(
 }
 
 impl<'a, 't, A: Answers + Drop, N: Names> Rows for ColumnRows<'a, 't, A, N> {
-    ghost use Rattle.std.specs.Prelude.{length};
+    ghost use Rattle.std.specs.Prelude.{⊤, length};
     ghost use Rattle.fisca_calc.specs.Lines.{column_row};
     ghost use Rattle.fisca_tables.specs.Known.{tables as known};
 
@@ -70,6 +70,11 @@ impl<'a, 't, A: Answers + Drop, N: Names> Rows for ColumnRows<'a, 't, A, N> {
     ghost size = { λ r. length r.columns.now };
 
     ghost ready = { λ r. A.ready r.answers };
+
+    // what is remembered is said by the answers alone
+    ghost worked = { λ _ _ _. ⊤ };
+
+    ghost refused = { λ _ _ _. ⊤ };
 
     fn size(&self) -> u64 {
         self.columns.len() as u64

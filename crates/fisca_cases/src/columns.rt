@@ -1,5 +1,7 @@
 //! Columns, and the files of `fisca calc`.
 
+ghost use Rattle.std.specs.Prelude.{◌≡◌, None};
+ghost use Rattle.fisca_meaning.specs.Dialogues as meaning;
 ghost use Rattle.fisca_rules.specs.Views.{rule_set};
 ghost use Rattle.fisca_sources.specs.Sound.{IsSafeRules};
 
@@ -15,7 +17,7 @@ use fisca_inputs::{Key, Value};
 use fisca_lines::{MemorySink, RunFault};
 use fisca_num::Fraction;
 use fisca_params::SourceFile;
-use fisca_recall::{IndexRecall, ListRecall};
+use fisca_recall::{Counts, IndexRecall, ListRecall, Recall};
 use fisca_rules::RuleSet;
 use fisca_situations::Situation;
 use fisca_time::Period;
@@ -93,7 +95,7 @@ fn said(words: &[String]) -> Result<Value, Fault> {
     }
 }
 
-/// The answer to a case of a file of `fisca calc`: the texts of its columns' keys, or the lines of its columns.
+/// The answer to a case of a file of `fisca calc`: the texts of its columns' keys, the lines of its columns, or how many formulas were worked out.
 pub fn calc(
     alloc: Global,
     operation: &str,
@@ -104,6 +106,7 @@ pub fn calc(
     match words {
         [text] if operation == "read" => file(alloc, &rules, text.as_str()),
         [text] if operation == "values" => values(alloc, &rules, text.as_str()),
+        [text] if operation == "counts" => counts(alloc, &rules, text.as_str()),
         _ => Err(Fault::Malformed),
     }
 }
@@ -131,16 +134,31 @@ fn values(alloc: Global, rules: &RuleSet<'_>, text: &str) -> Result<String, Faul
     requires { IsSafeRules (rule_set rules.now) }
 {
     let plain = plain_values(alloc, rules, text)?;
-    if listed_values(alloc, rules, text)? != plain {
+    let (list, _) = remembered_values(alloc, rules, text, ListRecall::new(alloc))?;
+    if list != plain {
         return Ok(String::from_str(alloc, "another answer from a list")?);
     }
-    if hashed_values(alloc, rules, text)? != plain {
+    let (table, _) = remembered_values(alloc, rules, text, IndexRecall::new(alloc))?;
+    if table != plain {
         return Ok(String::from_str(alloc, "another answer from a hash table")?);
     }
     Ok(plain)
 }
 
-/// The same by an evaluator that remembers nothing.
+/// How many formulas are worked out for the columns of a file by an evaluator that remembers: as many with a list as with a hash table.
+fn counts(alloc: Global, rules: &RuleSet<'_>, text: &str) -> Result<String, Fault>
+    requires { IsSafeRules (rule_set rules.now) }
+{
+    let (_, list) = remembered_values(alloc, rules, text, ListRecall::new(alloc))?;
+    let (_, table) = remembered_values(alloc, rules, text, IndexRecall::new(alloc))?;
+    if list != table {
+        return Ok(String::from_str(alloc, "other counts from a hash table")?);
+    }
+    let (free, bound, lost) = (table.free(), table.bound(), table.lost());
+    Ok(format!(in alloc; "free {free}, bound {bound}, lost {lost}")?)
+}
+
+/// The lines and what follows them, by an evaluator that remembers nothing.
 fn plain_values(alloc: Global, rules: &RuleSet<'_>, text: &str) -> Result<String, Fault>
     requires { IsSafeRules (rule_set rules.now) }
 {
@@ -149,42 +167,36 @@ fn plain_values(alloc: Global, rules: &RuleSet<'_>, text: &str) -> Result<String
     let file = CalcFile::read(alloc, &rules.tables, &tree)?;
     let CalcFile { situation, columns } = file;
     let evaluator = Evaluator::new(alloc, rules, &[], situation);
-    shown(alloc, rules, columns.as_slice(), evaluator)
+    let (_, shown) = shown(alloc, rules, columns.as_slice(), evaluator)?;
+    Ok(shown)
 }
 
-/// The same by one that remembers values in a list.
-fn listed_values(alloc: Global, rules: &RuleSet<'_>, text: &str) -> Result<String, Fault>
-    requires { IsSafeRules (rule_set rules.now) }
+/// The same by one that remembers values in this memory, which is empty, and its counts.
+fn remembered_values<R: Recall + Drop>(
+    alloc: Global,
+    rules: &RuleSet<'_>,
+    text: &str,
+    recall: R,
+) -> Result<(String, Counts), Fault>
+    requires safe { IsSafeRules (rule_set rules.now) }
+    requires empty { (k : meaning.Key) → R.find recall k ≡ None }
 {
     calc_inputs_fit();
     let tree = read(alloc, text)?;
     let file = CalcFile::read(alloc, &rules.tables, &tree)?;
     let CalcFile { situation, columns } = file;
-    let recall = ListRecall::new(alloc);
     let evaluator = fisca_memo::Evaluator::new(alloc, rules, &[], situation, recall);
-    shown(alloc, rules, columns.as_slice(), evaluator)
+    let (evaluator, shown) = shown(alloc, rules, columns.as_slice(), evaluator)?;
+    Ok((shown, evaluator.counts()))
 }
 
-/// The same by one that remembers them in a hash table.
-fn hashed_values(alloc: Global, rules: &RuleSet<'_>, text: &str) -> Result<String, Fault>
-    requires { IsSafeRules (rule_set rules.now) }
-{
-    calc_inputs_fit();
-    let tree = read(alloc, text)?;
-    let file = CalcFile::read(alloc, &rules.tables, &tree)?;
-    let CalcFile { situation, columns } = file;
-    let recall = IndexRecall::new(alloc);
-    let evaluator = fisca_memo::Evaluator::new(alloc, rules, &[], situation, recall);
-    shown(alloc, rules, columns.as_slice(), evaluator)
-}
-
-/// The lines of columns by what answers the values of keys, and behind them, where one has no value, the fault and its key.
+/// The lines of columns by what answers the values of keys, which is given back, and behind them, where one has no value, the fault and its key.
 fn shown<A: Answers<Fault = EvalFault> + Drop>(
     alloc: Global,
     rules: &RuleSet<'_>,
     columns: &[Key],
     evaluator: A,
-) -> Result<String, Fault>
+) -> Result<(A, String), Fault>
     requires { A.ready evaluator }
 {
     let mut sink = MemorySink::new(alloc);
@@ -198,7 +210,7 @@ fn shown<A: Answers<Fault = EvalFault> + Drop>(
             push_fault(alloc, &mut shown, rules, evaluator.situation(), fault)?;
         }
     }
-    Ok(shown.finish()?)
+    Ok((evaluator, shown.finish()?))
 }
 
 /// Appends the name of the fault of a key, and the key.

@@ -122,14 +122,7 @@ fn axes(alloc: Global, asked: &Asked<'_>) -> Result<String, Fault> {
 fn grid(alloc: Global, files: &[SourceFile], words: &[String]) -> Result<String, Fault> {
     let (from, rows, text) = three(words)?;
     let mut sink = MemorySink::new(alloc);
-    let answer = run_rules(
-        alloc,
-        files,
-        text,
-        number(from)?,
-        limit(rows)?,
-        &mut sink,
-    );
+    let answer = run_rules(alloc, files, text, number(from)?, limit(rows)?, &mut sink);
     ended(alloc, &sink, answer)
 }
 

@@ -1,5 +1,5 @@
 -- What is known of a run by what it answers.
-use Rattle.std.proofs.Common.{◌≡◌, ◌≤◌, ◌∙◌, inl, inr, ℕ, List, Option, None, Result, Ok, Err, ap, subst}
+use Rattle.std.proofs.Common.{◌≡◌, ◌≤◌, ◌∙◌, inl, inr, ℕ, List, Option, Some, None, Result, Ok, Err, ap, sym, subst, string_bytes, arith}
 use Rattle.fisca_eval.specs.declared.fault.EvalFault.{EvalFault}
 use Rattle.fisca_lines.specs.Continued.{IsContinued}
 use Rattle.fisca_lines.specs.Lines.{AtEnd, FaultAt, MoreFrom, lines, run_end}
@@ -12,8 +12,9 @@ use Rattle.fisca_params.specs.Source.{Source}
 use Rattle.fisca_refusals.specs.declared.refusal.Refusal.{Refusal}
 use Rattle.fisca_refusals.specs.declared.refusal.Refusal.TheVariants.{Run, Memory}
 use Rattle.fisca_refusals.specs.declared.refusal.Unanswered.{Unanswered}
-use Rattle.fisca_commands.proofs.Past.{starts_within}
+use Rattle.fisca_commands.proofs.First.{first_stops}
 use Rattle.fisca_commands.specs.Headline.{IsFaulted, IsWhole, row_of, size_of}
+use Rattle.fisca_commands.specs.Unanswered.{key_told}
 use Rattle.fisca_commands.specs.Run.{IsGridRun, IsRunAnswer, IsRunning, IsStopTold, RefusesRunText, RefusesRunTree, RefusesRunning, Running}
 use Rattle.fisca_params.specs.declared.fault.ParamFault.{ParamFault}
 use Rattle.fisca_rule_files.specs.Modules.{FileFault, IsRefusalOf, rules_by}
@@ -37,13 +38,16 @@ pub whole : Continues → Ends → (files : List Source) (text : List ℕ) (from
 whole continues ends files text from limit old new end (inl is) = absurd (cc)
 whole continues ends files text from limit old new end (inr is) =
     let r = is.0 in
-    let ran : IsGridRun r from limit old new (Ok end) = is.2 in
-    (r, is.1, record {
-      starts = ran.0;
-      written = ran.2;
-      continues = λ position e. continues (row_of r) (size_of r) from position limit ran.0 (ran.1 ∙ ap (λ x. told_end {F = EvalFault} x) e);
-      ended = λ e. ends (row_of r) (size_of r) from limit ran.0 (ran.1 ∙ ap (λ x. told_end {F = EvalFault} x) e);
-    })
+    let ran : IsGridRun r from limit old new (Ok end) = is.2 in (
+      r,
+      is.1,
+      record {
+        starts = ran.0;
+        written = ran.2;
+        continues = λ position e. continues (row_of r) (size_of r) from position limit ran.0 (ran.1 ∙ ap (λ x. told_end {F = EvalFault} x) e);
+        ended = λ e. ends (row_of r) (size_of r) from limit ran.0 (ran.1 ∙ ap (λ x. told_end {F = EvalFault} x) e);
+      },
+    )
 
 -- which fault stopped a run that is told so
 stopped : (r : Running) (fault : RunFault EvalFault) (position : ℕ) (u : Unanswered) → IsStopTold r fault (Run (run.Eval position u)) → fault ≡ run.Eval position u.fault
@@ -57,6 +61,14 @@ stopped r (run.Eval there x) position u (inr told) =
     cc
 stopped r (run.Write there) position u e = absurd (cc)
 stopped r (run.Memory there) position u e = absurd (cc)
+
+-- and the key that it is told with
+key_of_stop : (r : Running) (position : ℕ) (u : Unanswered) → IsStopTold r (run.Eval position u.fault) (Run (run.Eval position u)) → key_told r.rules r.run.situation.members u.fault ≡ Some (string_bytes u.key)
+key_of_stop r position u (inl e) = absurd (cc)
+key_of_stop r position u (inr told) =
+    let same : Run (run.Eval position u) ≡ Run (run.Eval position told.0) = told.1 in
+    let key : u ≡ told.0 = cc in
+    told.2.key ∙ ap (λ (v : Unanswered). Some (string_bytes v.key)) (sym key)
 
 -- nothing that is told before a run is told of a run
 of_memory : (refusal : Refusal) (fault : RunFault Unanswered) → refusal ≡ Run fault → refusal ≡ Memory → ⊥
@@ -90,7 +102,7 @@ not_run files text refusal fault e (inl is) = of_files files refusal fault e is
 not_run files text refusal fault e (inr is) = of_text is.0 text refusal fault e is.2
 
 pub faulted : Faults → (files : List Source) (text : List ℕ) (from : ℕ) (limit : Option ℕ) (old new : Option (List ℕ)) (position : ℕ) (u : Unanswered)
-    → IsRunAnswer files text from limit old new (Err (Run (run.Eval position u))) → (r : Running) × IsRunning files text r × IsFaulted r from limit old new position u.fault
+    → IsRunAnswer files text from limit old new (Err (Run (run.Eval position u))) → (r : Running) × IsRunning files text r × IsFaulted r from limit old new position u
 faulted faults files text from limit old new position u (inl is) =
     let told : Err (Run (run.Eval position u)) ≡ Err is.0 = is.1 in
     let same : is.0 ≡ Run (run.Eval position u) = cc in
@@ -98,7 +110,12 @@ faulted faults files text from limit old new position u (inl is) =
 faulted faults files text from limit old new position u (inr is) =
     let r = is.0 in
     let told = is.2 in
-    let ran : IsGridRun r from limit old new (Err (run.Eval position u.fault)) = subst (λ f. IsGridRun r from limit old new (Err f)) (stopped r told.0 position u told.2) told.1 in
-    let starts = starts_within (row_of r) (size_of r) from position limit u.fault ran.0 in
+    let fault : told.0 ≡ run.Eval position u.fault = stopped r told.0 position u told.2 in
+    let ran : IsGridRun r from limit old new (Err (run.Eval position u.fault)) = subst (λ f. IsGridRun r from limit old new (Err f)) fault told.1 in
+    let stop : IsStopTold r (run.Eval position u.fault) (Run (run.Eval position u)) = subst (λ f. IsStopTold r f (Run (run.Eval position u))) fault told.2 in
+    let first = first_stops (row_of r) (size_of r) from limit position u.fault ran.0 in
+    let low = first.0 in
+    let high = first.1 in
+    let starts : from ≤ size_of r = omega (arith, low, high) in
     let at = faults (row_of r) (size_of r) from position limit u.fault starts ran.0 in
-    (r, is.1, record { there = at.0; written = ran.1; none_left = at.1 })
+    (r, is.1, record { behind = low; within = high; there = at.0; first = first.2; stops = ran.0; key = key_of_stop r position u stop; written = ran.1; none_left = at.1 })

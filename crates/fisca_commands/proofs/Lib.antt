@@ -5,4 +5,4 @@ mod Named
 mod Telling
 mod Tested
 mod Headline
-mod Past
+mod First

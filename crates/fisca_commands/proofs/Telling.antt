@@ -9,10 +9,11 @@ use Rattle.fisca_inputs.specs.declared.key.Key.{Key}
 use Rattle.fisca_members.specs.declared.entity_members.EntityMembers.{EntityMembers}
 use Rattle.fisca_rules.specs.declared.rule_set.RuleSet.{RuleSet}
 use Rattle.fisca_tables.specs.Known.{tables as known}
-use Rattle.fisca_commands.specs.Calc.{IsYamlRefused, RefusesText}
+use Rattle.fisca_commands.specs.Calc.{RefusesText}
 use Rattle.fisca_commands.specs.Run.{RefusesRunTree}
 use Rattle.fisca_commands.specs.Test.{RefusesTree}
 use Rattle.fisca_commands.specs.Unanswered.{key_told}
+use Rattle.fisca_commands.specs.Yaml.{IsYamlRefused}
 use Rattle.fisca_yaml.specs.Node.{Node}
 use Rattle.fisca_refusals.specs.Refusal.{is_failed_write}
 use Rattle.fisca_refusals.specs.declared.refusal.Refusal.{Refusal}

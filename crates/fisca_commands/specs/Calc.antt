@@ -22,12 +22,11 @@ use Rattle.fisca_sources.specs.Simulations.{Simulation}
 use Rattle.fisca_tables.specs.Known.{tables as known}
 use Rattle.fisca_yaml.specs.Grouping.{document}
 use Rattle.fisca_yaml.specs.Node.{Node}
-use Rattle.fisca_yaml.specs.declared.fault.Kind.TheVariants as yaml
-use Rattle.fisca_yaml.specs.declared.fault.YamlFault.{YamlFault}
 use Rattle.fisca_rule_files.specs.RuleFiles.{IsAccepted, RefusesFiles}
 use Rattle.fisca_commands.specs.Unanswered.{IsUnanswered}
+use Rattle.fisca_commands.specs.Yaml.{IsYamlRefused}
 use Rattle.fisca_refusals.specs.declared.refusal.Refusal.{Refusal}
-use Rattle.fisca_refusals.specs.declared.refusal.Refusal.TheVariants.{Yaml, RunFile, Eval, Write, Memory}
+use Rattle.fisca_refusals.specs.declared.refusal.Refusal.TheVariants.{RunFile, Eval, Write, Memory}
 use Rattle.fisca_refusals.specs.declared.refusal.Unanswered.{Unanswered}
 
 -- a rule set, as it stands in memory, and what a file asks for under it
@@ -78,10 +77,6 @@ IsStopped c old new refusal =
 abbrev pub IsCalculated : Calculation → Option (List ℕ) → Option (List ℕ) → Result Unit Refusal → Type 0
 IsCalculated c old new (Ok done) = IsColumnsRun c old new (Ok End)
 IsCalculated c old new (Err refusal) = IsStopped c old new refusal
-
--- the text is refused as YAML, or memory was refused
-abbrev pub IsYamlRefused : List ℕ → Refusal → Type 0
-IsYamlRefused text refusal = (refusal ≡ Memory) ⊎ ((fault : YamlFault) × (refusal ≡ Yaml fault) × (fault.kind ≢ yaml.Memory) × (document text ≡ None))
 
 -- the text is refused under a rule set: it is no YAML, else no file of `calc`; or memory was refused
 abbrev pub RefusesText : RuleSet → List ℕ → Refusal → Type 0

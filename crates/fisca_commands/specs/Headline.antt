@@ -1,15 +1,17 @@
 -- What a run of `fisca run` has written that nothing stopped, and one that a fault stopped.
-use Rattle.std.specs.Prelude.{◌≡◌, ◌≤◌, ℕ, List, Option, None}
+use Rattle.std.specs.Prelude.{◌≡◌, ◌≢◌, ◌≤◌, ◌<◌, ℕ, List, Option, Some, None, string_bytes}
 use Rattle.std.specs.Io.KnownBytes.{Appends}
 use Rattle.fisca_eval.specs.declared.fault.EvalFault.{EvalFault}
 use Rattle.fisca_lines.specs.Continued.{IsContinued}
-use Rattle.fisca_lines.specs.Lines.{lines}
+use Rattle.fisca_lines.specs.Lines.{FaultAt, lines, run_end}
 use Rattle.fisca_lines.specs.Row.{Row, Fault}
 use Rattle.fisca_lines.specs.Run.{texts}
 use Rattle.fisca_lines.specs.declared.fault.RunEnd.{RunEnd}
 use Rattle.fisca_lines.specs.declared.fault.RunEnd.TheVariants.{End, More}
 use Rattle.fisca_run.specs.Runs.{positions, run_row}
 use Rattle.fisca_commands.specs.Run.{Running}
+use Rattle.fisca_commands.specs.Unanswered.{key_told}
+use Rattle.fisca_refusals.specs.declared.refusal.Unanswered.{Unanswered}
 
 -- what stands at a position: the line with the values that the rules define in the situation there, or nothing where a condition does not hold, or a fault
 abbrev pub row_of : Running → ℕ → Row EvalFault
@@ -30,8 +32,14 @@ pub record IsWhole (r : Running) (from : ℕ) (limit : Option ℕ) (old new : Op
   pub continues : (position : ℕ) → end ≡ More position → IsContinued (row_of r) (size_of r) from limit position
   pub ended : end ≡ End → lines_from r from None ≡ lines_from r from limit
 
--- The fault stands at the position that is named; exactly the lines before it are written, and none remains before it.
-pub record IsFaulted (r : Running) (from : ℕ) (limit : Option ℕ) (old new : Option (List ℕ)) (position : ℕ) (fault : EvalFault) : Type 0 where
-  pub there : row_of r position ≡ Fault fault
+-- The first fault from the start on, which is met before the limit is reached, stands at the position that is named and is told with its key; exactly the lines
+-- before it are written, and none remains before it.
+pub record IsFaulted (r : Running) (from : ℕ) (limit : Option ℕ) (old new : Option (List ℕ)) (position : ℕ) (u : Unanswered) : Type 0 where
+  pub behind : from ≤ position
+  pub within : position < size_of r
+  pub there : row_of r position ≡ Fault u.fault
+  pub first : (before : ℕ) (x : EvalFault) → from ≤ before → before < position → row_of r before ≢ Fault x
+  pub stops : run_end (row_of r) (size_of r) from limit ≡ FaultAt position u.fault
+  pub key : key_told r.rules r.run.situation.members u.fault ≡ Some (string_bytes u.key)
   pub written : Appends old new (texts (lines_from r from limit))
   pub none_left : lines_from r from None ≡ lines_from r from limit

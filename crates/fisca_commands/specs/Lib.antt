@@ -6,3 +6,4 @@ pub mod LastLine
 pub mod Run
 pub mod Test
 pub mod Unanswered
+pub mod Yaml

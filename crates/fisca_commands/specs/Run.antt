@@ -20,7 +20,7 @@ use Rattle.fisca_run_file.specs.RunFiles as files
 use Rattle.fisca_run_file.specs.RunFiles.{run_file_of}
 use Rattle.fisca_yaml.specs.Grouping.{document}
 use Rattle.fisca_yaml.specs.Node.{Node}
-use Rattle.fisca_commands.specs.Calc.{IsYamlRefused}
+use Rattle.fisca_commands.specs.Yaml.{IsYamlRefused}
 use Rattle.fisca_commands.specs.Unanswered.{IsUnanswered}
 
 -- a rule set, as it stands in memory, and the run file that a text says under it

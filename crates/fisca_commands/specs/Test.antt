@@ -22,7 +22,7 @@ use Rattle.fisca_verdicts.specs.declared.fault.TestKind.TheVariants as kind
 use Rattle.fisca_verdicts.specs.declared.fault.VerdictFault.TheVariants as report
 use Rattle.fisca_yaml.specs.Grouping.{document}
 use Rattle.fisca_yaml.specs.Node.{Node}
-use Rattle.fisca_commands.specs.Calc.{IsYamlRefused}
+use Rattle.fisca_commands.specs.Yaml.{IsYamlRefused}
 
 -- a rule set, as it stands in memory, and the tests that a file says under it
 pub record Testing : Type 0 where

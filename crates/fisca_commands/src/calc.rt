@@ -7,7 +7,8 @@ ghost use Rattle.fisca_lines.specs.Sink.{CountsFailure};
 ghost use Rattle.fisca_situations.specs.Views.{situation as situation_view};
 ghost use Rattle.fisca_yaml.specs.Grouping.{document};
 ghost use Rattle.fisca_yaml.specs.Views.{node};
-ghost use Rattle.fisca_commands.specs.Calc.{IsAsked, IsCalc, IsCalculated, IsKeyTold, IsYamlRefused, RefusesText, simulation_of};
+ghost use Rattle.fisca_commands.specs.Calc.{IsAsked, IsCalc, IsCalculated, IsKeyTold, RefusesText, simulation_of};
+ghost use Rattle.fisca_commands.specs.Yaml.{IsYamlRefused};
 ghost use Rattle.fisca_refusals.specs.Refusal.{is_write};
 
 use super::unanswered::unanswered;
@@ -53,7 +54,7 @@ fn read_file(alloc: Global, rules: &RuleSet<'_>, text: &str) -> Result<CalcFile,
 fn tell(alloc: Global, rules: &RuleSet<'_>, situation: &Situation, fault: EvalFault) -> Refusal
     ensures { IsKeyTold rules.now (situation_view situation.now).members fault result }
 {
-    match unanswered(alloc, rules, situation, fault) {
+    match unanswered(alloc, rules, situation, &fault) {
         Ok(unanswered) => Refusal::Eval(unanswered),
         Err(_) => Refusal::Memory,
     }
@@ -91,7 +92,7 @@ fn write_values<S: RowSink>(
 /// The first refusal in this order is told, and nothing is written before the columns:
 ///
 /// - `TooManyFiles`, `Params` and `Formula` as of `check_rules`: the files make no rule set.
-/// - `Yaml` exactly where the text has no tree, with the line and the kind of its first fault.
+/// - `Yaml` exactly where the text has no tree, with the line and the kind that `fisca_yaml::read` tells.
 /// - `RunFile` exactly where the tree is no such file under the rule set, with the line and the kind of its first fault.
 /// - `Eval` exactly where a column has no value: the fault of the first such column, and the text of the key that the fault names, with single
 ///   spaces. The sink has the lines of the columns before it.

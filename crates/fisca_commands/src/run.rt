@@ -47,7 +47,7 @@ fn tell_stop(
     match fault {
         RunFault::BadPosition => Refusal::Run(RunFault::BadPosition),
         RunFault::Eval { position, fault } => {
-            match unanswered(alloc, rules, run.situation(), fault) {
+            match unanswered(alloc, rules, run.situation(), &fault) {
                 Ok(fault) => Refusal::Run(RunFault::Eval { position, fault }),
                 Err(_) => Refusal::Run(RunFault::Memory { position }),
             }
@@ -85,7 +85,7 @@ fn write_run<S: RowSink>(
 /// The first refusal in this order is told, and nothing is written before the run:
 ///
 /// - `TooManyFiles`, `Params` and `Formula` as of `check_rules`: the files make no rule set.
-/// - `Yaml` exactly where the text has no tree, with the line and the kind of its first fault.
+/// - `Yaml` exactly where the text has no tree, with the line and the kind that `fisca_yaml::read` tells.
 /// - `RunFile` exactly where the tree is no run file under the rule set, with the line and the kind of its first fault.
 /// - `Run` with `BadPosition` where `from` is above the number of positions.
 /// - `Run` with `Eval` exactly where a condition or a column that is worked out has no value before the limit is reached: the first such position,

@@ -91,7 +91,7 @@ fn write_tests<S: RowSink>(
 /// The first refusal in this order is told, and nothing is written before the tests are worked out:
 ///
 /// - `TooManyFiles`, `Params` and `Formula` as of `check_rules`: the files make no rule set.
-/// - `Yaml` exactly where the text has no tree, with the line and the kind of its first fault.
+/// - `Yaml` exactly where the text has no tree, with the line and the kind that `fisca_yaml::read` tells.
 /// - `Tests` exactly where the tree is no such file under the rule set, with the line and the kind of its first fault.
 /// - `Write` only where the sink failed in this call: it has a proper beginning of the report.
 /// - `Memory` only where memory was refused: the sink has what is told of some of the first tests, each whole.

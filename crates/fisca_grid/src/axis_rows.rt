@@ -35,6 +35,11 @@ impl Rows for AxisRows {
     // nothing has to be made ready
     ghost ready = { λ _. ⊤ };
 
+    // they remember nothing
+    ghost worked = { λ _ _ _. ⊤ };
+
+    ghost refused = { λ _ _ _. ⊤ };
+
     fn size(&self) -> u64 {
         self.axes.size()
     }

@@ -4,3 +4,4 @@ pub mod Progress
 pub mod Worked
 pub mod Remaining
 pub mod Rising
+pub mod Coming

@@ -4,3 +4,4 @@ pub mod Sink
 pub mod Run
 pub mod Continued
 pub mod Fault
+pub mod Came

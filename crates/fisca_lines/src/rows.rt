@@ -18,6 +18,7 @@ pub enum Selection {
 /// Working out a row may change what the rows remember, but never what a row is.
 pub trait Rows {
     ghost use Rattle.std.specs.Prelude.{◌≡◌, ℕ, ◌<◌, [], string_bytes};
+    ghost use Rattle.fisca_lines.specs.Came.{IsStep};
     ghost use Rattle.fisca_lines.specs.Row.{Row, IsWorkedOut};
 
     /// The type of the faults of rows.
@@ -31,6 +32,12 @@ pub trait Rows {
 
     // what has to hold of them before a row is worked out
     ghost ready: { Self → Type 0 };
+
+    // the row at a position was worked out, between one state of the rows and another
+    ghost worked: { Self → ℕ → Self → Type 0 };
+
+    // memory was refused meanwhile
+    ghost refused: { Self → ℕ → Self → Type 0 };
 
     /// The number of positions.
     fn size(&self) -> u64
@@ -48,6 +55,7 @@ pub trait Rows {
         requires position { position < size self.old }
         requires line { string_bytes line.old ≡ [] }
         ensures worked_out { IsWorkedOut (row_at self.old position) result (string_bytes line.new) }
+        ensures step { IsStep (worked self.old position self.new) (refused self.old position self.new) result }
         ensures ready { ready self.new }
         ensures same_row { row_at self.new ≡ row_at self.old }
         ensures same_size { size self.new ≡ size self.old };

@@ -1,6 +1,7 @@
 //! Writing the lines of a run.
 
 ghost use Rattle.std.specs.Prelude.{◌≡◌, ◌≢◌, ℕ, ◌-◌, ◌<◌, ◌↔◌, option_map, IsErrOf};
+ghost use Rattle.fisca_lines.specs.Came.{HasCome, IsRowStep};
 ghost use Rattle.fisca_lines.specs.Run.{IsRun, IsRowWritten, is_write};
 ghost use Rattle.fisca_lines.specs.Sink.{CountsFailure};
 
@@ -10,9 +11,9 @@ use super::sink::{RowSink, hand_over};
 use std::alloc::Global;
 
 /// Writes the lines of the positions from `from` on into a sink, in order, up to a limit of lines,
-/// and answers how the run ends. Each line is worked out whole before any of it is handed over. The
-/// only memory that it takes of its own is the buffer of one line, and after a failure it offers
-/// nothing more to the sink.
+/// and answers how the run ends. Each line is worked out whole before any of it is handed over, each
+/// position's row once, in order, up to the one that ends the run. The only memory that it takes of
+/// its own is the buffer of one line, and after a failure it offers nothing more to the sink.
 ///
 /// - `BadPosition` exactly where `from` is above the size.
 /// - `Eval` exactly where the first fault from `from` on comes before the limit is reached.
@@ -29,6 +30,7 @@ pub fn write_lines<R: Rows, S: RowSink>(
     ensures run { IsRun (R.row_at rows.old) (R.size rows.old) from limit (S.taken sink.old) (S.taken sink.new) result }
     ensures bad_position { IsErrOf result RunFault.BadPosition ↔ (R.size rows.old < from) }
     ensures failures { CountsFailure (is_write result) (S.failures sink.old) (S.failures sink.new) }
+    ensures came { HasCome R.worked R.refused (R.size rows.old) from rows.old rows.new result }
     ensures ready { R.ready rows.new }
     ensures same_row { R.row_at rows.new ≡ R.row_at rows.old }
     ensures same_size { R.size rows.new ≡ R.size rows.old }
@@ -70,6 +72,7 @@ fn write_row<R: Rows, S: RowSink>(
     requires position { position < R.size rows.old }
     ensures written { IsRowWritten (R.row_at rows.old position) position (S.taken sink.old) (S.taken sink.new) result }
     ensures failures { CountsFailure (is_write result) (S.failures sink.old) (S.failures sink.new) }
+    ensures step { IsRowStep (R.worked rows.old position rows.new) (R.refused rows.old position rows.new) result }
     ensures ready { R.ready rows.new }
     ensures same_row { R.row_at rows.new ≡ R.row_at rows.old }
     ensures same_size { R.size rows.new ≡ R.size rows.old }

@@ -41,6 +41,7 @@ pub(crate) struct RunRows<'a, 't, 'y> {
 }
 
 impl<'a, 't, 'y> Rows for RunRows<'a, 't, 'y> {
+    ghost use Rattle.std.specs.Prelude.{⊤};
     ghost use Rattle.fisca_run.specs.Runs.{AreMembers, IsAsked, positions, run_row};
     ghost use Rattle.fisca_run_file.specs.Views.{run_file as run_file_view};
     ghost use Rattle.fisca_yaml.specs.Views.{node};
@@ -50,6 +51,11 @@ impl<'a, 't, 'y> Rows for RunRows<'a, 't, 'y> {
     ghost row_at = { λ r. run_row r.rules.now (run_file_view r.run.now) };
 
     ghost size = { λ r. positions (run_file_view r.run.now) };
+
+    // no value is remembered from position to position
+    ghost worked = { λ _ _ _. ⊤ };
+
+    ghost refused = { λ _ _ _. ⊤ };
 
     ghost ready = { λ r. IsAsked r.rules.now (node r.tree.now) (run_file_view r.run.now) × AreMembers (run_file_view r.run.now) r.members };
 
@@ -67,8 +73,9 @@ impl<'a, 't, 'y> Rows for RunRows<'a, 't, 'y> {
             Ok(moved) => {
                 let members = self.members.take();
                 let moved = moved.as_slice();
-                let (row, members) =
-                    work_out_with(alloc, rules, tree, run, members, position, moved, line);
+                let (row, members) = work_out_with(
+                    alloc, rules, tree, run, members, position, moved, line,
+                );
                 self.members = members;
                 row
             }

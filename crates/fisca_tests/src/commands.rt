@@ -1,6 +1,7 @@
 //! The commands over texts and sinks.
 
 mod axes;
+mod calc;
 mod check;
 mod folder;
 mod narrow;

@@ -48,7 +48,15 @@ fn a_value_that_cannot_be_worked_out_is_told(rt: HostRuntime) -> Result<(), Allo
         fault: EvalFault::NoMember(key),
         key: text,
     });
-    assert!(rt; is_told(rt.alloc(), column, 10, 4, "fisca: NoMember salary Ann 2017-01"));
+    assert!(rt;
+        is_told(
+            rt.alloc(),
+            column,
+            10,
+            4,
+            "fisca: NoMember salary Ann 2017-01"
+        )
+    );
     Ok(())
 }
 

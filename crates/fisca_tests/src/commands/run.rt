@@ -7,9 +7,10 @@ use fisca_params::SourceFile;
 use std::alloc::{AllocError, Global};
 use std::test::Fail;
 
-const ENTITIES: &str = "Person = build_entity(key='person', plural='persons', is_person=True)\n";
+pub(super) const ENTITIES: &str =
+    "Person = build_entity(key='person', plural='persons', is_person=True)\n";
 
-const VARIABLES: &str = "class rent(Variable):
+pub(super) const VARIABLES: &str = "class rent(Variable):
     value_type = float
     entity = Person
     definition_period = MONTH
@@ -33,7 +34,7 @@ columns: allowance
 /// The text of all lines.
 const ALL: &[u8] = b"1\t200\t50\n2\t400\t100\n3\t600\t150\n4\t800\t200\n";
 
-fn file(alloc: Global, path: &str, text: &str) -> Result<SourceFile, AllocError> {
+pub(super) fn file(alloc: Global, path: &str, text: &str) -> Result<SourceFile, AllocError> {
     let path = String::from_str(alloc, path)?;
     let text = String::from_str(alloc, text)?;
     Ok(SourceFile::new(path, text))
@@ -78,8 +79,14 @@ fn a_run_in_parts_has_all_lines_once(rt: HostRuntime) {
 #[test]
 fn a_run_of_no_lines_stays_where_it_is(rt: HostRuntime) -> Result<(), Fail> {
     let mut sink = MemorySink::new(rt.alloc());
-    assert_eq!(rt; run_rents(rt.alloc(), 2, Some(0), &mut sink), Ok(RunEnd::More(2)));
-    assert_eq!(rt; run_rents(rt.alloc(), 5, Some(0), &mut sink), Ok(RunEnd::End));
+    assert_eq!(rt;
+        run_rents(rt.alloc(), 2, Some(0), &mut sink),
+        Ok(RunEnd::More(2))
+    );
+    assert_eq!(rt;
+        run_rents(rt.alloc(), 5, Some(0), &mut sink),
+        Ok(RunEnd::End)
+    );
     assert!(rt; sink.bytes().is_empty());
     Ok(())
 }

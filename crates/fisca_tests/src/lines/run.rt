@@ -28,6 +28,10 @@ impl Rows for Salaries {
 
     ghost ready = { λ _. ⊤ };
 
+    ghost worked = { λ _ _ _. ⊤ };
+
+    ghost refused = { λ _ _ _. ⊤ };
+
     fn size(&self) -> u64 {
         u64::from(self.count)
     }
@@ -49,6 +53,52 @@ impl Rows for Salaries {
             Err(_) => Err(RowFault::Memory),
         }
     }
+}
+
+/// Rows without lines, which note the positions that they are asked for.
+#[derive(Drop)]
+struct Noted {
+    count: u32,
+    asked: Vec<u64>,
+}
+
+impl Rows for Noted {
+    type Fault = u64;
+
+    ghost row_at = { λ _ _. Nothing };
+
+    ghost size = { λ s. s.count };
+
+    ghost ready = { λ _. ⊤ };
+
+    ghost worked = { λ s position t. t.asked.items ≡ s.asked.items ++ position ∷ [] };
+
+    ghost refused = { λ s _ t. t.asked.items ≡ s.asked.items };
+
+    fn size(&self) -> u64 {
+        u64::from(self.count)
+    }
+
+    fn work_out(
+        &mut self,
+        position: u64,
+        _line: &mut String,
+    ) -> Result<Selection, RowFault<Self::Fault>> {
+        match self.asked.push(position) {
+            Ok(()) => Ok(Selection::Dropped),
+            Err(_) => Err(RowFault::Memory),
+        }
+    }
+}
+
+#[test]
+fn each_row_is_worked_out_once_in_order(rt: HostRuntime) {
+    let asked = Vec::new(rt.alloc());
+    let mut rows = Noted { count: 5, asked };
+    let mut sink = MemorySink::new(rt.alloc());
+    let end = write_lines(rt.alloc(), &mut rows, 2, None, &mut sink);
+    assert_eq!(rt; end, Ok(RunEnd::End));
+    assert_eq!(rt; rows.asked.as_slice(), [2, 3, 4].as_slice());
 }
 
 /// Takes a few bytes a call while it has room, and then fails: by an error, or by taking nothing.

@@ -49,5 +49,5 @@ write_run-requires g c =
 
 pub returns-clause-answer : goal.returns-clause-answer
 returns-clause-answer g c =
-    let running : Running = record { rules = c.in_ok-rules.rules; run = run_file c.in_ok-run.run } in
+    let running : Running = record { rules = c.in_ok-rules.rules; run = run_file c.in_ok-run.run' } in
     inr (running, (c.in_ok-rules.ensures.ok, (node c.in_ok-tree.tree, c.in_ok-tree.ensures.ok, c.in_ok-run.ensures.ok)), c.write_run.ensures.answer)

@@ -1,6 +1,0 @@
-use Rattle.fisca_calc.specs.Views.{calc}
-use Rattle.fisca_yaml.specs.Views.{node}
-use Rattle.fisca_cases.proofs.columns.listed_values.Goals as goal
-
-pub shown-requires : goal.shown-requires
-shown-requires c = c.new-evaluator.ensures.ready (record { safe = c.requires; fit = c.calc_inputs_fit.ensures c.args.rules.now c.requires (node c.in_ok-tree.tree) (calc c.in_ok-file.file) c.in_ok-file.ensures })

@@ -1087,7 +1087,7 @@ impl ParamTree {
         Ok(())
     }
 
-    fn child(&self, node: usize, name: &str) -> Option<usize> {
+    pub fn child(&self, node: usize, name: &str) -> Option<usize> {
         self.nodes[node].children.get(name).copied()
     }
 

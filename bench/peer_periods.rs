@@ -215,7 +215,7 @@ impl Period {
         }
     }
 
-    fn text(self) -> String {
+    pub fn text(self) -> String {
         if self.unit() == Unit::Day {
             let Day { year, month, day } = Day::of_number(self.first());
             return match self.size() {

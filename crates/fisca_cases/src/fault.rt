@@ -7,11 +7,9 @@ use fisca_grid::AxesFault;
 use fisca_inputs::SituationFault;
 use fisca_names::BuildFault;
 use fisca_num::NumFault;
-use fisca_outputs::OutputFault;
 use fisca_params::ParamFault;
 use fisca_time::TimeFault;
 use fisca_tokens::FormulaFault;
-use fisca_verdicts::TestFault;
 use fisca_yaml::YamlFault;
 use std::alloc::{AllocError, AllocFailed, Global};
 use std::fmt::Display;
@@ -40,10 +38,6 @@ pub enum Fault {
     Situation(#[from] SituationFault),
     #[error("{0}")]
     RunFile(#[from] RunFileFault),
-    #[error("{0}")]
-    Output(#[from] OutputFault),
-    #[error("{0}")]
-    Test(#[from] TestFault),
     #[error("{0}")]
     Axes(#[from] AxesFault),
     #[error("{0}")]
@@ -77,8 +71,6 @@ impl Fault {
             Fault::Build(fault) => push_build(&mut told, *fault),
             Fault::Situation(fault) => push_situation(&mut told, *fault),
             Fault::RunFile(fault) => push_run_file(&mut told, *fault),
-            Fault::Output(fault) => push_output(&mut told, *fault),
-            Fault::Test(fault) => push_test(&mut told, *fault),
             Fault::Axes(fault) => push(&mut told, *fault as u8, fault),
             Fault::Refused(refusal) => push_refusal(alloc, &mut told, refusal),
         }
@@ -121,18 +113,6 @@ fn push_situation(told: &mut Written, fault: SituationFault) {
 }
 
 fn push_run_file(told: &mut Written, fault: RunFileFault) {
-    push(told, fault.kind.number(), &fault.kind);
-    push_line(told, fault.line);
-}
-
-fn push_output(told: &mut Written, fault: OutputFault) {
-    push(told, fault.number(), &fault);
-    if let OutputFault::BadOutput { line } = fault {
-        push_line(told, line);
-    }
-}
-
-fn push_test(told: &mut Written, fault: TestFault) {
     push(told, fault.kind.number(), &fault.kind);
     push_line(told, fault.line);
 }

@@ -16,7 +16,6 @@ mod num;
 mod params;
 mod rule_sets;
 mod situations;
-mod tests;
 mod time;
 mod tokens;
 mod words;
@@ -119,7 +118,6 @@ fn ask(
             "columns" => columns::answer(alloc, operation.as_str(), files, rest),
             "calc" => columns::calc(alloc, operation.as_str(), files, rest),
             "grid" => grid::answer(alloc, operation.as_str(), rest),
-            "tests" => tests::answer(alloc, operation.as_str(), files, rest),
             "commands" => commands::answer(alloc, operation.as_str(), files, rest),
             _ => Err(Fault::Malformed),
         },

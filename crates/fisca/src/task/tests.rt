@@ -80,10 +80,11 @@ fn words_and_options_of_axes_are_read(rt: HostRuntime) -> Result<(), AllocError>
 #[test]
 fn the_folder_and_the_file_of_calc_are_read(rt: HostRuntime) -> Result<(), AllocError> {
     let line = words_of(rt.alloc(), "fisca calc rules file.yaml")?;
-    match read_task(rt.alloc(), line.as_slice()) {
+    let task = read_task(rt.alloc(), line.as_slice());
+    match &task {
         Ok(Task::Calc { rules, file }) => {
-            assert_eq!(rt; rules, "rules");
-            assert_eq!(rt; file, "file.yaml");
+            assert_eq!(rt; *rules, "rules");
+            assert_eq!(rt; *file, "file.yaml");
         }
         Ok(Task::Check { .. } | Task::Test { .. } | Task::Run { .. } | Task::Axes { .. }) => {
             assert!(rt; false, "calc is asked for")
@@ -96,10 +97,11 @@ fn the_folder_and_the_file_of_calc_are_read(rt: HostRuntime) -> Result<(), Alloc
 #[test]
 fn the_folder_and_the_file_of_test_are_read(rt: HostRuntime) -> Result<(), AllocError> {
     let line = words_of(rt.alloc(), "fisca test rules tests.yaml")?;
-    match read_task(rt.alloc(), line.as_slice()) {
+    let task = read_task(rt.alloc(), line.as_slice());
+    match &task {
         Ok(Task::Test { rules, file }) => {
-            assert_eq!(rt; rules, "rules");
-            assert_eq!(rt; file, "tests.yaml");
+            assert_eq!(rt; *rules, "rules");
+            assert_eq!(rt; *file, "tests.yaml");
         }
         Ok(Task::Check { .. } | Task::Calc { .. } | Task::Run { .. } | Task::Axes { .. }) => {
             assert!(rt; false, "test is asked for")
@@ -118,7 +120,8 @@ fn the_folder_the_file_and_the_options_of_run_are_read(rt: HostRuntime) -> Resul
     ];
     for (line, start, limit) in table {
         let words = words_of(rt.alloc(), line)?;
-        match read_task(rt.alloc(), words.as_slice()) {
+        let task = read_task(rt.alloc(), words.as_slice());
+        match &task {
             Ok(
                 Task::Run {
                     rules,
@@ -127,10 +130,10 @@ fn the_folder_the_file_and_the_options_of_run_are_read(rt: HostRuntime) -> Resul
                     rows,
                 },
             ) => {
-                assert_eq!(rt; rules, "rules");
-                assert_eq!(rt; file, "run.yaml");
-                assert_eq!(rt; from, start);
-                assert_eq!(rt; rows, limit);
+                assert_eq!(rt; *rules, "rules");
+                assert_eq!(rt; *file, "run.yaml");
+                assert_eq!(rt; *from, start);
+                assert_eq!(rt; *rows, limit);
             }
             Ok(Task::Check { .. } | Task::Calc { .. } | Task::Test { .. } | Task::Axes { .. }) => {
                 assert!(rt; false, "run is asked for")

@@ -108,9 +108,9 @@ fn a_file_of_columns_ends_with_its_status(rt: HostRuntime) -> Result<(), Fail> {
 
 #[test]
 fn a_run_file_ends_with_its_status(rt: HostRuntime) -> Result<(), Fail> {
-    fs::create_dir_all(&rt, "rules/variables")?;
-    fs::write(&rt, "rules/entities.py", PERSON)?;
-    fs::write(&rt, "rules/variables/a.py", VARIABLES)?;
+    fs::create_dir_all(&rt, "run_rules/variables")?;
+    fs::write(&rt, "run_rules/entities.py", PERSON)?;
+    fs::write(&rt, "run_rules/variables/a.py", VARIABLES)?;
     let axes = "period: 2017-01\naxes: [[{name: salary, count: 3, min: 2, max: 0}]]\n";
     let table = [
         ("good", "", "", 0),
@@ -125,7 +125,7 @@ fn a_run_file_ends_with_its_status(rt: HostRuntime) -> Result<(), Fail> {
     for (name, more, options, status) in table {
         let text = format!(in rt.alloc(); "{axes}{more}")?;
         fs::write(&rt, name, text.as_str())?;
-        let line = format!(in rt.alloc(); "fisca run rules {name}{options}")?;
+        let line = format!(in rt.alloc(); "fisca run run_rules {name}{options}")?;
         let words = words_of(rt.alloc(), line.as_str())?;
         assert_eq!(rt; run_words(&rt, words.as_slice()), status, "{name}");
     }
@@ -134,9 +134,9 @@ fn a_run_file_ends_with_its_status(rt: HostRuntime) -> Result<(), Fail> {
 
 #[test]
 fn a_file_of_tests_ends_with_its_status(rt: HostRuntime) -> Result<(), Fail> {
-    fs::create_dir_all(&rt, "rules/variables")?;
-    fs::write(&rt, "rules/entities.py", PERSON)?;
-    fs::write(&rt, "rules/variables/a.py", VARIABLES)?;
+    fs::create_dir_all(&rt, "test_rules/variables")?;
+    fs::write(&rt, "test_rules/entities.py", PERSON)?;
+    fs::write(&rt, "test_rules/variables/a.py", VARIABLES)?;
     let table = [
         ("passed", "input: {salary: 4}\noutput: {share: 0.25}\n", 0),
         ("failed", "input: {salary: 4}\noutput: {share: 0.5}\n", 1),
@@ -148,13 +148,13 @@ fn a_file_of_tests_ends_with_its_status(rt: HostRuntime) -> Result<(), Fail> {
     for (name, rest, status) in table {
         let text = format!(in rt.alloc(); "period: 2017-01\n{rest}")?;
         fs::write(&rt, name, text.as_str())?;
-        let line = format!(in rt.alloc(); "fisca test rules {name}")?;
+        let line = format!(in rt.alloc(); "fisca test test_rules {name}")?;
         let words = words_of(rt.alloc(), line.as_str())?;
         assert_eq!(rt; run_words(&rt, words.as_slice()), status, "{name}");
     }
-    let none = words_of(rt.alloc(), "fisca test rules none")?;
+    let none = words_of(rt.alloc(), "fisca test test_rules none")?;
     assert_eq!(rt; run_words(&rt, none.as_slice()), 5);
-    let check = words_of(rt.alloc(), "fisca check rules")?;
+    let check = words_of(rt.alloc(), "fisca check test_rules")?;
     assert_eq!(rt; run_words(&rt, check.as_slice()), 0);
     Ok(())
 }

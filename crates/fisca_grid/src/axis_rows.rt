@@ -8,7 +8,7 @@ ghost use Rattle.fisca_grid.specs.AxesRow.{values_of, cells, tab, line_of, IsMet
 
 use super::condition::Filter;
 use super::grid::Axes;
-use fisca_lines::{RowFault, Rows, Selection};
+use fisca_lines::{Groups, RowFault, Rows, Selection};
 use fisca_num::Fraction;
 use std::alloc::AllocError;
 use std::convert::Infallible;
@@ -18,19 +18,23 @@ use std::convert::Infallible;
 pub struct AxisRows {
     pub axes: Axes,
     pub keep: Option<Filter>,
+    /// The position that was worked out last.
+    pub here: Option<u64>,
     ghost inside: { IsInside keep axes },
 }
 
 impl Rows for AxisRows {
     ghost use Rattle.std.specs.Prelude.{⊤};
-    ghost use Rattle.fisca_grid.specs.Grid.{size_of};
+    ghost use Rattle.fisca_grid.specs.Grid.{counts_of};
     ghost use Rattle.fisca_grid.specs.AxesRow.{axes_row};
 
     type Fault = Infallible;
 
     ghost row_at = { λ r. axes_row r.axes r.keep };
 
-    ghost size = { λ r. size_of r.axes };
+    ghost counts = { λ r. counts_of r.axes };
+
+    ghost here = { λ r. r.here };
 
     // nothing has to be made ready
     ghost ready = { λ _. ⊤ };
@@ -40,15 +44,17 @@ impl Rows for AxisRows {
 
     ghost refused = { λ _ _ _. ⊤ };
 
-    fn size(&self) -> u64 {
-        self.axes.size()
+    fn groups(&self) -> Groups {
+        self.axes.groups()
     }
 
     fn work_out(
         &mut self,
         position: u64,
+        _turned: u32,
         line: &mut String,
     ) -> Result<Selection, RowFault<Infallible>> {
+        self.here = Some(position);
         if !self.is_kept(position) {
             return Ok(Selection::Dropped);
         }

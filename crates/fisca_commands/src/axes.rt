@@ -54,7 +54,11 @@ fn limit_rows(
 {
     let axes = build(alloc, words, specs)?;
     let keep = read_keep(words, keep)?;
-    Ok(AxisRows { axes, keep })
+    Ok(AxisRows {
+        axes,
+        keep,
+        here: None,
+    })
 }
 
 /// The rows that the words and a condition ask for.

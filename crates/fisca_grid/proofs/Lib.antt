@@ -4,6 +4,7 @@ pub mod Groups
 pub mod Kept
 pub mod Described
 pub mod Values
+pub mod Rest
 pub mod Orders
 pub mod Tuples
 mod Prefixes

@@ -41,6 +41,11 @@ abbrev pub axes_in : List (List AxisSpec) → ℕ
 axes_in [] = 0
 axes_in (group ∷ groups) = length group + axes_in groups
 
+-- the number of axes of the first group
+abbrev pub leading_in : List (List AxisSpec) → ℕ
+leading_in [] = 0
+leading_in (group ∷ groups) = length group
+
 -- the axes of a grid, each with its place at a position
 abbrev pub axes_at : List (List AxisSpec) → ℕ → List (AxisSpec × ℕ)
 axes_at groups position = with_places groups (places_at (counts_of groups) position)

@@ -1,5 +1,5 @@
 -- How a grid is kept: a flat list of axes, each with the number of positions for which it stays at a place.
-use Rattle.std.specs.Prelude.{◌≡◌, ℕ, ◌/◌, ◌%◌, List, map, None}
+use Rattle.std.specs.Prelude.{◌≡◌, ℕ, ◌/◌, ◌%◌, List, length, map, sum, None}
 use Rattle.fisca_grid.specs.Grid.{groups_of, counts_of, axes_at, axes_fault}
 use Rattle.fisca_grid.specs.declared.axes.Axis.{Axis}
 use Rattle.fisca_grid.specs.declared.axes.AxisSpec.{AxisSpec}
@@ -25,3 +25,4 @@ pub record IsGrid (axes : List Turning) (lengths counts : List ℕ) : Type 0 whe
   pub turns : (position : ℕ) → map (placed position) axes ≡ axes_at (groups_of (axes_of axes) lengths) position
   pub counted : counts ≡ counts_of (groups_of (axes_of axes) lengths)
   pub within : axes_fault (axes_of axes) lengths ≡ None
+  pub grouped : sum lengths ≡ length axes

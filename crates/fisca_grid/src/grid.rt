@@ -5,7 +5,7 @@ ghost use Rattle.std.specs.Option.{ForSome};
 ghost use Rattle.std.specs.List.{list_any};
 ghost use Rattle.fisca_num.specs.Number.{number_cmp};
 ghost use Rattle.fisca_grid.specs.Axes.{first_axis_fault, step_of};
-ghost use Rattle.fisca_grid.specs.Grid.{groups_of, count_of, counts_of, has_two_counts, size_of, axes_in, axes_at, grid_fault, axes_fault};
+ghost use Rattle.fisca_grid.specs.Grid.{groups_of, count_of, counts_of, has_two_counts, size_of, axes_in, axes_at, leading_in, grid_fault, axes_fault};
 ghost use Rattle.fisca_grid.specs.Turning.{specs_of, axes_of, turned, placed};
 
 use super::axes::{AxesFault, Axis, AxisSpec};
@@ -191,6 +191,17 @@ impl Axes {
         ensures { result ≡ axes_in self.now }
     {
         self.axes.len()
+    }
+
+    /// The number of axes of the first group, which turns fastest.
+    pub(crate) fn leading(&self) -> usize
+        ensures count { result ≡ leading_in self.now }
+        ensures within { result ≤ axes_in self.now }
+    {
+        match self.lengths.first() {
+            Some(length) => *length as usize,
+            None => 0,
+        }
     }
 
     /// The exact value of an axis at a position of the grid: `min + place * (max - min) / (count - 1)`, and `min` where the

@@ -1,5 +1,5 @@
 -- Axes in groups: faults, sizes and places, group by group.
-use Rattle.std.proofs.Common.{◌≡◌, ℕ, zero, suc, ◌+◌, ◌-◌, ◌*◌, ◌/◌, ◌%◌, ◌<◌, ◌≤◌, min, cond, Bool, true, false, not, ◌==◌, ◌||◌, List, [], ◌∷◌, ◌++◌, length, map, take, drop, sum, Option, Some, None, slice_get, refl, sym, ap, ap₂, ◌∙◌, arith, ⊎_elim, append_assoc, length-append}
+use Rattle.std.proofs.Common.{◌≡◌, ℕ, zero, suc, ◌+◌, ◌-◌, ◌*◌, ◌/◌, ◌%◌, ◌<◌, ◌≤◌, min, nat_lt, cond, Bool, true, false, not, ◌==◌, ◌||◌, List, [], ◌∷◌, ◌++◌, length, map, take, drop, sum, Option, Some, None, slice_get, refl, sym, ap, ap₂, ◌∙◌, arith, ⊎_elim, append_assoc, length-append}
 use Rattle.std.proofs.Math.Nat.{div-div-eq-div-mul, mul_assoc, mul-zero, mul-pos, mul-le-mul_right, le-mul_of_pos_right}
 use Rattle.std.proofs.lemmas.Bool.{cases_lt, eqb-true, not-false}
 use Rattle.std.proofs.lemmas.Bool.Decides.{nat_tests}
@@ -10,9 +10,9 @@ use Rattle.std.specs.Option.{option_or}
 use Rattle.fisca_grid.specs.declared.axes.Axis.{Axis}
 use Rattle.fisca_grid.specs.declared.axes.AxisSpec.{AxisSpec}
 use Rattle.fisca_grid.specs.declared.axes.AxesFault.{AxesFault}
-use Rattle.fisca_grid.specs.declared.axes.AxesFault.TheVariants.{BadCount}
+use Rattle.fisca_grid.specs.declared.axes.AxesFault.TheVariants.{BadCount, CountsDiffer, TooLarge}
 use Rattle.fisca_grid.specs.Axes.{axis_fault, first_axis_fault, is_count}
-use Rattle.fisca_grid.specs.Grid.{count_of, groups_of, size_of, has_two_counts, axes_at, axes_in}
+use Rattle.fisca_grid.specs.Grid.{count_of, counts_of, groups_of, size_of, has_two_counts, axes_at, axes_in, grid_fault}
 use Rattle.fisca_grid.specs.Turning.{specs_of, turned}
 
 fault_head : (o : Option AxesFault) (rest : List AxesFault) → slice_get (cons_option o rest) 0 ≡ option_or o (slice_get rest 0)
@@ -137,6 +137,29 @@ group_axes old new whole rest n e more =
     ap₂ (λ (a b : List AxisSpec). a ++ b) (more ∙ ap (λ (g : List AxisSpec). old ++ g) (front_of n rest)) (back_of n rest)
     ∙ append_assoc old (take n (specs_of rest)) (drop n (specs_of rest))
     ∙ ap (λ (xs : List AxisSpec). old ++ xs) (take-append-drop n (specs_of rest)) ∙ e
+
+-- the numbers of places of the groups so far, of a first group and of the others
+pub group_counts : (old whole : List ℕ) (rest : List Axis) (n : ℕ) (lengths : List ℕ) → old ++ counts_of (groups_of (specs_of rest) (n ∷ lengths)) ≡ whole
+    → (old ++ count_of (specs_of (take n rest)) ∷ []) ++ counts_of (groups_of (specs_of (drop n rest)) lengths) ≡ whole
+group_counts old whole rest n lengths e =
+    append_assoc old (count_of (specs_of (take n rest)) ∷ []) (counts_of (groups_of (specs_of (drop n rest)) lengths))
+    ∙ ap₂ (λ (front back : List AxisSpec). old ++ count_of front ∷ counts_of (groups_of back lengths)) (front_of n rest) (back_of n rest)
+    ∙ e
+
+limited : (differ many large : Bool) → cond differ (Some CountsDiffer) (cond (many || large) (Some TooLarge) None) ≡ None → many ≡ false
+limited true many large e = absurd (cc)
+limited false true large e = absurd (cc)
+limited false false large e = refl
+
+-- a grid without a fault has at most 16 axes
+pub few_axes : (axes : ℕ) (groups : List (List AxisSpec)) → grid_fault axes groups ≡ None → axes ≤ 16
+few_axes axes groups e = let few : nat_lt 16 axes ≡ false = limited _ _ _ e in grind (arith, nat_tests, few)
+
+-- no more groups than axes, where no group is empty
+pub few_groups : (lengths : List ℕ) → list_any (λ size. size == 0) lengths ≡ false → length lengths ≤ sum lengths
+few_groups [] full = omega arith
+few_groups (zero ∷ lengths) full = absurd (cc)
+few_groups (suc n ∷ lengths) full = omega (arith, sum_first (suc n) lengths, few_groups lengths (either_false (suc n == 0) _ full).1)
 
 -- what is placed of a first group and of the others
 pub turn_group : (old new : List (AxisSpec × ℕ)) (axes rest : List Axis) (lengths : List ℕ) (n position pace : ℕ) (whole : List (AxisSpec × ℕ))

@@ -4,7 +4,7 @@ pub mod Groups
 pub mod Kept
 pub mod Described
 pub mod Values
-pub mod Positions
+pub mod Rest
 pub mod Orders
 pub mod Tuples
 mod Prefixes

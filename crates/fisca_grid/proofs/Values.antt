@@ -12,7 +12,7 @@ use Rattle.fisca_lines.specs.Row.{Row, Nothing, Line}
 use Rattle.fisca_grid.specs.declared.axes.AxisSpec.{AxisSpec}
 use Rattle.fisca_grid.specs.declared.condition.Filter.{Filter}
 
-before_some : (o : Result Number NumFault) (p : Option (List Number)) (values : List Number) → before_values o p ≡ Some values → (value : Number) × (more : List Number) × (o ≡ Ok value) × (p ≡ Some more) × (value ∷ more ≡ values)
+pub before_some : (o : Result Number NumFault) (p : Option (List Number)) (values : List Number) → before_values o p ≡ Some values → (value : Number) × (more : List Number) × (o ≡ Ok value) × (p ≡ Some more) × (value ∷ more ≡ values)
 before_some (Ok value) None values e = absurd (cc)
 before_some (Ok value) (Some more) values e = (value, more, refl, refl, cc)
 before_some (Err fault) p values e = absurd (cc)

@@ -1,5 +1,5 @@
 -- The lines of a grid's axes, and the condition on one of them.
-use Rattle.std.specs.Prelude.{◌≡◌, ◌<◌, IfOk, Bool, true, false, ℕ, List, [], ◌∷◌, ◌++◌, Option, Some, None, option_map, slice_get, Result, Ok, Err, if◌then◌else◌}
+use Rattle.std.specs.Prelude.{◌≡◌, ◌<◌, IfOk, Bool, true, false, ℕ, List, [], ◌∷◌, ◌++◌, Option, Some, None, option_map, slice_get, drop, Result, Ok, Err, if◌then◌else◌}
 use Rattle.std.specs.Fmt.{decimal}
 use Rattle.std.specs.Option.{option_map_or, ForSome}
 use Rattle.std.specs.declared.convert.Infallible.{Infallible}
@@ -7,7 +7,7 @@ use Rattle.fisca_num.specs.declared.faults.NumFault.{NumFault}
 use Rattle.fisca_num.specs.Number.{Number}
 use Rattle.fisca_num.specs.Text.{text_of}
 use Rattle.fisca_grid.specs.Axes.{step_of}
-use Rattle.fisca_grid.specs.Grid.{axes_in, axes_at}
+use Rattle.fisca_grid.specs.Grid.{axes_in, axes_at, leading_in}
 use Rattle.fisca_grid.specs.Condition.{meets}
 use Rattle.fisca_lines.specs.Row.{Row, Nothing, Line}
 use Rattle.fisca_grid.specs.declared.axes.AxisSpec.{AxisSpec}
@@ -52,6 +52,10 @@ row_of keep position (Some values) = if is_kept keep values then Line (line_of p
 -- no line is left out for want of one
 abbrev pub axes_row : List (List AxisSpec) → Option Filter → ℕ → Row Infallible
 axes_row groups keep position = row_of keep position (values_of (axes_at groups position))
+
+-- the end of the line of a position: the cells of the axes behind the first group, and a line feed
+abbrev pub rest_of : List (List AxisSpec) → ℕ → Option (List ℕ)
+rest_of groups position = option_map (λ values. cells values ++ line_feed ∷ []) (values_of (drop (leading_in groups) (axes_at groups position)))
 
 -- a condition speaks of an axis of the grid, if there is one
 abbrev pub IsInside : Option Filter → List (List AxisSpec) → Type 0

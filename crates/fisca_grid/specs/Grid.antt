@@ -1,7 +1,8 @@
 -- A grid: the axes of a group step together, and the first group turns fastest.
-use Rattle.std.specs.Prelude.{ℕ, ◌+◌, ◌*◌, ◌/◌, ◌%◌, ◌^◌, Bool, ◌==◌, ◌||◌, not, nat_lt, if◌then◌else◌, List, [], ◌∷◌, ◌++◌, map, take, drop, length, Option, Some, None}
+use Rattle.std.specs.Prelude.{ℕ, ◌+◌, ◌^◌, Bool, ◌==◌, ◌||◌, not, nat_lt, if◌then◌else◌, List, [], ◌∷◌, ◌++◌, map, take, drop, length, Option, Some, None}
 use Rattle.std.specs.List.{list_any, flat_map, range_with_len}
 use Rattle.std.specs.Option.{option_or}
+use Rattle.fisca_lines.specs.Odometer.{places_at, product_of}
 use Rattle.fisca_grid.specs.Axes.{first_axis_fault}
 use Rattle.fisca_grid.specs.declared.axes.AxisSpec.{AxisSpec}
 use Rattle.fisca_grid.specs.declared.axes.AxesFault.{AxesFault}
@@ -11,16 +12,6 @@ use Rattle.fisca_grid.specs.declared.axes.AxesFault.TheVariants.{NoAxes, CountsD
 abbrev pub grid : List ℕ → List (List ℕ)
 grid [] = [] ∷ []
 grid (count ∷ counts) = flat_map (λ places. map (λ place. place ∷ places) (range_with_len 0 count)) (grid counts)
-
--- how many there are
-abbrev pub product_of : List ℕ → ℕ
-product_of [] = 1
-product_of (count ∷ counts) = count * product_of counts
-
--- the tuple at a position
-abbrev pub places_at : List ℕ → ℕ → List ℕ
-places_at [] position = []
-places_at (count ∷ counts) position = (position % count) ∷ places_at counts (position / count)
 
 -- a list in groups of these lengths
 abbrev pub groups_of : {X : Type 0} → List X → List ℕ → List (List X)
@@ -49,6 +40,11 @@ with_places (group ∷ groups) (place ∷ places) = map (λ axis. (axis, place))
 abbrev pub axes_in : List (List AxisSpec) → ℕ
 axes_in [] = 0
 axes_in (group ∷ groups) = length group + axes_in groups
+
+-- the number of axes of the first group
+abbrev pub leading_in : List (List AxisSpec) → ℕ
+leading_in [] = 0
+leading_in (group ∷ groups) = length group
 
 -- the axes of a grid, each with its place at a position
 abbrev pub axes_at : List (List AxisSpec) → ℕ → List (AxisSpec × ℕ)

@@ -1,6 +1,6 @@
 -- How a grid is kept: a flat list of axes, each with the number of positions for which it stays at a place.
-use Rattle.std.specs.Prelude.{◌≡◌, ℕ, ◌/◌, ◌%◌, List, map, None}
-use Rattle.fisca_grid.specs.Grid.{groups_of, size_of, axes_at, axes_fault}
+use Rattle.std.specs.Prelude.{◌≡◌, ℕ, ◌/◌, ◌%◌, List, length, map, sum, None}
+use Rattle.fisca_grid.specs.Grid.{groups_of, counts_of, axes_at, axes_fault}
 use Rattle.fisca_grid.specs.declared.axes.Axis.{Axis}
 use Rattle.fisca_grid.specs.declared.axes.AxisSpec.{AxisSpec}
 use Rattle.fisca_grid.specs.declared.turning.Turning.{Turning}
@@ -20,8 +20,9 @@ placed position t = (t.axis.spec, (position / t.pace) % t.axis.spec.count)
 abbrev pub axes_of : List Turning → List AxisSpec
 axes_of = map (λ t. t.axis.spec)
 
--- these axes, in groups of these lengths, are a grid of this size
-pub record IsGrid (axes : List Turning) (lengths : List ℕ) (size : ℕ) : Type 0 where
+-- these axes, in groups of these lengths, are a grid whose groups have so many places
+pub record IsGrid (axes : List Turning) (lengths counts : List ℕ) : Type 0 where
   pub turns : (position : ℕ) → map (placed position) axes ≡ axes_at (groups_of (axes_of axes) lengths) position
-  pub sized : size ≡ size_of (groups_of (axes_of axes) lengths)
+  pub counted : counts ≡ counts_of (groups_of (axes_of axes) lengths)
   pub within : axes_fault (axes_of axes) lengths ≡ None
+  pub grouped : sum lengths ≡ length axes

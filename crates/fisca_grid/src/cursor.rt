@@ -1,62 +1,69 @@
 //! Going over the positions of a grid.
 
-ghost use Rattle.std.specs.Prelude.{◌≡◌, length};
+ghost use Rattle.std.specs.Prelude.{◌≡◌, ◌<◌, IfSome, length};
 ghost use Rattle.std.specs.Iterator.{YieldsFirst, item_count};
-ghost use Rattle.fisca_grid.specs.Grid.{size_of};
+ghost use Rattle.fisca_grid.specs.Grid.{counts_of, size_of};
 ghost use Rattle.fisca_lines.specs.Lines.{positions_from};
+ghost use Rattle.fisca_lines.specs.Odometer.{after_next, left_of, product_of, HaveTurned};
 
 use super::grid::Axes;
+use fisca_lines::Odometer;
 use std::marker::Model;
 
-/// The positions of a grid from a start to the last, in order. Contracts see the list of those that are left.
+/// The positions of a grid from a start to the last, in order. Contracts see the lengths of the groups, the start and the next
+/// position.
 #[derive(Debug, Drop)]
 pub struct GridCursor {
-    next: u64,
-    size: u64,
+    odometer: Odometer,
 }
 
 impl Model for GridCursor {
-    ghost use Rattle.std.specs.Prelude.{ℕ, List};
-    ghost use Rattle.fisca_lines.specs.Lines.{positions_from};
+    ghost use Rattle.fisca_lines.specs.Odometer.{Going};
 
-    ghost Value = { List ℕ };
+    ghost Value = { Going };
 
-    ghost view = { λ c. positions_from c.size c.next };
+    ghost view = { λ c. c.odometer };
 }
 
 impl GridCursor {
     /// The positions from `from` on; none from the grid's size on.
     pub fn new(axes: &Axes, from: u64) -> GridCursor
-        ensures { result ≡ positions_from (size_of axes.now) from }
+        ensures going { result ≡ record { counts = counts_of axes.now; start = from; next = from } }
+        ensures positions { left_of result ≡ positions_from (size_of axes.now) from }
     {
         GridCursor {
-            next: from,
-            size: axes.size(),
+            odometer: Odometer::new(axes.groups(), from),
         }
     }
 
     /// How many positions are left.
     pub fn remaining(&self) -> u64
-        ensures { result ≡ length self.now }
+        ensures { result ≡ length (left_of self.now) }
     {
-        self.size.saturating_sub(self.next)
+        self.odometer.remaining()
+    }
+
+    /// How many groups turned at the position that was given last: at the first all of them, then the fewest such that all groups behind
+    /// them stand as at the position before, and 0 where none was given.
+    pub fn turned(&self) -> u32
+        ensures { HaveTurned self.now result }
+    {
+        self.odometer.turned()
     }
 }
 
 impl Iterator for GridCursor {
     type Item = u64;
 
-    ghost next_gives = { YieldsFirst (λ c. c) };
+    ghost next_gives = { YieldsFirst left_of };
 
-    ghost remaining = { item_count (λ c. c) };
+    ghost remaining = { item_count left_of };
 
-    #[tactic(auto, using(crate::proofs::Positions::position_steps))]
-    fn next(&mut self) -> Option<u64> {
-        if self.next >= self.size {
-            return None;
-        }
-        let position = self.next;
-        self.next += 1;
-        Some(position)
+    fn next(&mut self) -> Option<u64>
+        ensures gives { YieldsFirst left_of self.old result self.new }
+        ensures given { IfSome result (λ position. (position ≡ self.old.next) × (position < product_of self.old.counts)) }
+        ensures moved { self.new ≡ after_next self.old }
+    {
+        self.odometer.next()
     }
 }

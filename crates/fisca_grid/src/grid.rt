@@ -5,11 +5,12 @@ ghost use Rattle.std.specs.Option.{ForSome};
 ghost use Rattle.std.specs.List.{list_any};
 ghost use Rattle.fisca_num.specs.Number.{number_cmp};
 ghost use Rattle.fisca_grid.specs.Axes.{first_axis_fault, step_of};
-ghost use Rattle.fisca_grid.specs.Grid.{groups_of, count_of, has_two_counts, size_of, axes_in, axes_at, grid_fault, axes_fault};
+ghost use Rattle.fisca_grid.specs.Grid.{groups_of, count_of, counts_of, has_two_counts, size_of, axes_in, axes_at, leading_in, grid_fault, axes_fault};
 ghost use Rattle.fisca_grid.specs.Turning.{specs_of, axes_of, turned, placed};
 
 use super::axes::{AxesFault, Axis, AxisSpec};
 use super::turning::Turning;
+use fisca_lines::Groups;
 use fisca_num::Fraction;
 use std::alloc::{AllocError, Global};
 use std::cmp::Ordering;
@@ -52,10 +53,10 @@ fn has_two_counts(group: &[AxisSpec]) -> bool
     group.iter().any(|axis| axis.count != count)
 }
 
-/// The number of positions of a grid, or what is wrong with the grid.
-fn read_size(specs: &[AxisSpec], groups: &[u32]) -> Result<u64, AxesFault>
+/// Whether the axes of each group have the same number of values, and there are not too many axes or positions.
+fn check_size(specs: &[AxisSpec], groups: &[u32]) -> Result<(), AxesFault>
     requires grouped { sum groups.now ≡ length specs.now }
-    ensures ok { IfOk result (λ size. (size ≡ size_of (groups_of specs.now groups.now)) × (grid_fault (length specs.now) (groups_of specs.now groups.now) ≡ None)) }
+    ensures ok { OnOk result (grid_fault (length specs.now) (groups_of specs.now groups.now) ≡ None) }
     ensures err { IfErr result (λ fault. grid_fault (length specs.now) (groups_of specs.now groups.now) ≡ Some fault) }
 {
     let mut rest = specs;
@@ -71,7 +72,7 @@ fn read_size(specs: &[AxisSpec], groups: &[u32]) -> Result<u64, AxesFault>
     if specs.len() > 16 || size > 1 << 32 {
         return Err(AxesFault::TooLarge);
     }
-    Ok(size)
+    Ok(())
 }
 
 /// The number of values of the first axis of a group.
@@ -96,33 +97,40 @@ fn push_group(turning: &mut Vec<Turning>, group: &[Axis], pace: u64) -> Result<(
     Ok(())
 }
 
-/// The axes in groups of these lengths, with the pace of each group.
-fn spread(alloc: Global, axes: &[Axis], groups: &[u32]) -> Result<Vec<Turning>, AllocError>
-    requires grouped { sum groups.now ≡ length axes.now }
-    requires alike { list_any has_two_counts (groups_of (specs_of axes.now) groups.now) ≡ false }
-    requires some { 0 < size_of (groups_of (specs_of axes.now) groups.now) }
-    requires few { size_of (groups_of (specs_of axes.now) groups.now) ≤ 2 ^ 32 }
-    ensures turns { IfOk result (λ turning. (position : ℕ) → map (placed position) turning.items ≡ axes_at (groups_of (specs_of axes.now) groups.now) position) }
-    ensures axes { IfOk result (λ turning. axes_of turning.items ≡ specs_of axes.now) }
+/// The axes in groups of these lengths, with the pace of each group, and how many places the groups have.
+fn spread(
+    alloc: Global,
+    axes: &[Axis],
+    lengths: &[u32],
+) -> Result<(Vec<Turning>, Groups), AllocError>
+    requires grouped { sum lengths.now ≡ length axes.now }
+    requires alike { list_any has_two_counts (groups_of (specs_of axes.now) lengths.now) ≡ false }
+    requires some { 0 < size_of (groups_of (specs_of axes.now) lengths.now) }
+    requires few { size_of (groups_of (specs_of axes.now) lengths.now) ≤ 2 ^ 32 }
+    requires narrow { length lengths.now ≤ 16 }
+    ensures turns { IfOk result (λ spread. (position : ℕ) → map (placed position) spread.0.items ≡ axes_at (groups_of (specs_of axes.now) lengths.now) position) }
+    ensures axes { IfOk result (λ spread. axes_of spread.0.items ≡ specs_of axes.now) }
+    ensures groups { IfOk result (λ spread. spread.1 ≡ counts_of (groups_of (specs_of axes.now) lengths.now)) }
 {
     let mut turning = Vec::with_capacity(alloc, axes.len())?;
+    let mut groups = Groups::new();
     let mut rest = axes;
-    let mut pace = 1u64;
-    for length in groups {
+    for length in lengths {
         let (group, others) = rest.split_at(*length as usize);
-        push_group(&mut turning, group, pace)?;
-        pace *= shared_count(group);
+        push_group(&mut turning, group, groups.size())?;
+        groups.push(shared_count(group));
         rest = others;
     }
-    Ok(turning)
+    Ok((turning, groups))
 }
+
 /// A grid of axes in groups. The axes of a group step together, and the first group turns fastest. Contracts see the groups
 /// of what was asked for, and know that they are within the limits.
 #[derive(Debug, Drop)]
 pub struct Axes {
     axes: Vec<Turning>,
     lengths: Vec<u32>,
-    size: u64,
+    groups: Groups,
 }
 
 impl Model for Axes {
@@ -135,7 +143,7 @@ impl Model for Axes {
 
     ghost view = { λ a. groups_of (axes_of a.axes.items) a.lengths.items };
 
-    ghost invariant = { λ a. IsGrid a.axes.items a.lengths.items a.size };
+    ghost invariant = { λ a. IsGrid a.axes.items a.lengths.items a.groups };
 }
 
 impl Axes {
@@ -153,14 +161,14 @@ impl Axes {
             return Err(AxesFault::NoAxes);
         }
         let accepted = accept_axes(alloc, specs)?;
-        let size = read_size(specs, groups)?;
-        let axes = spread(alloc, accepted.as_slice(), groups)?;
+        check_size(specs, groups)?;
+        let (axes, counts) = spread(alloc, accepted.as_slice(), groups)?;
         let mut lengths = Vec::with_capacity(alloc, groups.len())?;
         lengths.extend_from_slice(groups)?;
         Ok(Axes {
             axes,
             lengths,
-            size,
+            groups: counts,
         })
     }
 
@@ -168,7 +176,14 @@ impl Axes {
     pub fn size(&self) -> u64
         ensures { result ≡ size_of self.now }
     {
-        self.size
+        self.groups.size()
+    }
+
+    /// The lengths of its groups, as numbers of values.
+    pub fn groups(&self) -> Groups
+        ensures { result ≡ counts_of self.now }
+    {
+        self.groups.copied()
     }
 
     /// The number of axes in all groups, 1 to 16.
@@ -176,6 +191,17 @@ impl Axes {
         ensures { result ≡ axes_in self.now }
     {
         self.axes.len()
+    }
+
+    /// The number of axes of the first group, which turns fastest.
+    pub(crate) fn leading(&self) -> usize
+        ensures count { result ≡ leading_in self.now }
+        ensures within { result ≤ axes_in self.now }
+    {
+        match self.lengths.first() {
+            Some(length) => *length as usize,
+            None => 0,
+        }
     }
 
     /// The exact value of an axis at a position of the grid: `min + place * (max - min) / (count - 1)`, and `min` where the

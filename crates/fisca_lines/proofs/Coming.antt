@@ -1,7 +1,10 @@
 -- A run on its way: which positions were worked out.
-use Rattle.std.proofs.Common.{◌≡◌, ℕ, suc, ◌+◌, ◌-◌, ◌≤◌, List, Option, Result, Ok, Err, refl, arith}
+use Rattle.std.proofs.Common.{◌≡◌, nat_lt, cond, true, ℕ, suc, ◌+◌, ◌-◌, ◌<◌, ◌≤◌, List, length, Option, Some, Result, Ok, Err, refl, ap, ◌∙◌, arith, ⊎_elim}
+use Rattle.std.proofs.lemmas.Bool.{cases_lt}
+use Rattle.std.proofs.lemmas.Bool.Decides.{nat_tests}
 use Rattle.std.specs.Prelude.{⊤}
 use Rattle.fisca_lines.specs.Came.{HasCome, HasPassed, IsRowStep, IsStep}
+use Rattle.fisca_lines.specs.Odometer.{Going, HaveTurned, IsNear, after_next, product_of}
 use Rattle.fisca_lines.specs.Row.{Row}
 use Rattle.fisca_lines.specs.Run.{IsRowWritten}
 use Rattle.fisca_lines.specs.declared.fault.RowFault.{RowFault}
@@ -9,12 +12,32 @@ use Rattle.fisca_lines.specs.declared.fault.RowFault.TheVariants as row
 use Rattle.fisca_lines.specs.declared.fault.RunFault.{RunFault}
 use Rattle.fisca_lines.specs.declared.fault.RunFault.TheVariants as fault
 use Rattle.fisca_lines.specs.declared.rows.Selection.{Selection}
+use Rattle.fisca_lines.proofs.Places.{near_all}
 
 -- rows that remember nothing may go from any state to any other
 pub steps_freely : {F : Type 0} (result : Result Selection (RowFault F)) → IsStep ⊤ ⊤ result
 steps_freely (Ok selection) = tt
 steps_freely (Err (row.Eval x)) = tt
 steps_freely (Err row.Memory) = tt
+
+-- the cursor after a position
+pub moved_on : (old new : Going) (position : ℕ) → new ≡ after_next old → (position ≡ old.next) × (position < product_of old.counts) → (new.next ≡ position + 1) × (new.start ≡ old.start) × (new.counts ≡ old.counts)
+moved_on old new position moved given =
+    let less : nat_lt old.next (product_of old.counts) ≡ true = grind (arith, nat_tests, given) in
+    let next : new.next ≡ old.next + 1 = ap (λ g. g.next) moved ∙ ap (λ b. cond b (old.next + 1) old.next) less in
+    (omega (arith, next, given.0), ap (λ g. g.start) moved, ap (λ g. g.counts) moved)
+
+-- the cursor's groups are all that turned since the rows' last position
+pub near : (going : Going) (turned position : ℕ) (here : Option ℕ) → HaveTurned going turned → going.next ≡ position + 1 → going.start ≤ position → (going.start < position → here ≡ Some (position - 1)) → IsNear going.counts here position turned
+near going turned position here have next low stands = ⊎_elim
+    (λ (later : going.start < position).
+    let is : position - 1 ≡ going.next - 2 = omega arith in
+    let there : position ≡ going.next - 1 = omega arith in
+    rw (stands later, is) (rw there (have.later (omega arith))))
+    (λ (first : position ≤ going.start).
+    let all : turned ≡ length going.counts = have.all (omega arith) in
+    rw all (near_all going.counts here position))
+    (cases_lt going.start position)
 
 module _ {S : Type 0} (worked refused : S → ℕ → S → Type 0) where
   pub come_none : (old : S) (from : ℕ) → HasPassed worked from from old old

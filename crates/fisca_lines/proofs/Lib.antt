@@ -2,6 +2,8 @@ pub mod Grown
 pub mod Walk
 pub mod Progress
 pub mod Worked
+mod Turned
 pub mod Remaining
 pub mod Rising
+pub mod Places
 pub mod Coming

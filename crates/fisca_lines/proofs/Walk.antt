@@ -1,8 +1,9 @@
 -- Lines and end of a run, position by position.
-use Rattle.std.proofs.Common.{◌≡◌, ℕ, zero, suc, ◌+◌, ◌-◌, ◌<◌, ◌≤◌, List, [], ◌∷◌, Option, Some, None, refl, sym, ap, ◌∙◌, arith, option_map, slice_get}
+use Rattle.std.proofs.Common.{◌≡◌, ℕ, zero, suc, ◌+◌, ◌-◌, ◌<◌, ◌≤◌, List, [], ◌∷◌, length, Option, Some, None, refl, sym, ap, ◌∙◌, arith, option_map, slice_get}
 use Rattle.std.specs.List.{filter_map, cons_option}
 use Rattle.std.specs.Option.{option_map_or}
 use Rattle.std.proofs.lemmas.Bool.Decides.{nat_tests}
+use Rattle.std.proofs.lemmas.List.FromFn.{length-range_with_len}
 use Rattle.fisca_lines.specs.Row.{Row, Nothing, Line, Fault, fault_of, text_of}
 use Rattle.fisca_lines.specs.Lines.{positions_from, line_at, first_fault, fault_position, all_lines, up_to, lines, End, AtEnd, MoreFrom, FaultAt, continued_from, unlimited_end, run_end}
 
@@ -13,6 +14,9 @@ positions_from-step size from within = let e : size - from ≡ suc (size - (from
 -- no position is left
 pub positions_from-over : (size from : ℕ) → size ≤ from → positions_from size from ≡ []
 positions_from-over size from over = let e : size - from ≡ 0 = omega arith in rw e refl
+
+pub length-positions_from : (size from : ℕ) → length (positions_from size from) ≡ size - from
+length-positions_from size from = length-range_with_len from (size - from)
 
 -- the first faults, where this row stands before the others
 abbrev pub fault_before : {F : Type 0} → Row F → ℕ → Option (ℕ × F) → Option (ℕ × F)

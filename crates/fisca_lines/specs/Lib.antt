@@ -5,3 +5,5 @@ pub mod Run
 pub mod Continued
 pub mod Fault
 pub mod Came
+pub mod Odometer
+pub mod Turning

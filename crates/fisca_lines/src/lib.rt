@@ -2,16 +2,20 @@
 #![tactic(auto)]
 
 mod fault;
+mod groups;
 mod law;
 mod memory_sink;
+mod odometer;
 mod rows;
 mod run;
 mod sink;
 mod stream_sink;
 
 pub use fault::{RowFault, RunEnd, RunFault};
+pub use groups::Groups;
 pub use law::{positions_rise, runs_continue};
 pub use memory_sink::MemorySink;
+pub use odometer::Odometer;
 pub use rows::{Rows, Selection};
 pub use run::write_lines;
 pub use sink::{RowSink, SinkFault, hand_over};

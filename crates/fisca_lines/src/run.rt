@@ -1,11 +1,13 @@
 //! Writing the lines of a run.
 
-ghost use Rattle.std.specs.Prelude.{◌≡◌, ◌≢◌, ℕ, ◌-◌, ◌<◌, ◌↔◌, option_map, IsErrOf};
+ghost use Rattle.std.specs.Prelude.{◌≡◌, ◌≢◌, ℕ, ◌-◌, ◌<◌, ◌↔◌, Some, option_map, IsErrOf};
 ghost use Rattle.fisca_lines.specs.Came.{HasCome, IsRowStep};
+ghost use Rattle.fisca_lines.specs.Odometer.{product_of, IsNear};
 ghost use Rattle.fisca_lines.specs.Run.{IsRun, IsRowWritten, is_write};
 ghost use Rattle.fisca_lines.specs.Sink.{CountsFailure};
 
 use super::fault::{RowFault, RunEnd, RunFault};
+use super::odometer::Odometer;
 use super::rows::{Rows, Selection};
 use super::sink::{RowSink, hand_over};
 use std::alloc::Global;
@@ -27,25 +29,26 @@ pub fn write_lines<R: Rows, S: RowSink>(
     sink: &mut S,
 ) -> Result<RunEnd, RunFault<R::Fault>>
     requires { R.ready rows.old }
-    ensures run { IsRun (R.row_at rows.old) (R.size rows.old) from limit (S.taken sink.old) (S.taken sink.new) result }
-    ensures bad_position { IsErrOf result RunFault.BadPosition ↔ (R.size rows.old < from) }
+    ensures run { IsRun (R.row_at rows.old) (product_of (R.counts rows.old)) from limit (S.taken sink.old) (S.taken sink.new) result }
+    ensures bad_position { IsErrOf result RunFault.BadPosition ↔ (product_of (R.counts rows.old) < from) }
     ensures failures { CountsFailure (is_write result) (S.failures sink.old) (S.failures sink.new) }
-    ensures came { HasCome R.worked R.refused (R.size rows.old) from rows.old rows.new result }
+    ensures came { HasCome R.worked R.refused (product_of (R.counts rows.old)) from rows.old rows.new result }
     ensures ready { R.ready rows.new }
     ensures same_row { R.row_at rows.new ≡ R.row_at rows.old }
-    ensures same_size { R.size rows.new ≡ R.size rows.old }
+    ensures same_counts { R.counts rows.new ≡ R.counts rows.old }
 {
-    let size = rows.size();
-    if from > size {
+    let groups = rows.groups();
+    if from > groups.size() {
         return Err(RunFault::BadPosition);
     }
     let mut line = String::new(alloc);
     let mut left = limit;
-    for position in from..size {
+    let mut odometer = Odometer::new(groups, from);
+    while let Some(position) = odometer.next() {
         if left == Some(0) {
             return Ok(RunEnd::More(position));
         }
-        match write_row(rows, position, &mut line, sink)? {
+        match write_row(rows, position, odometer.turned(), &mut line, sink)? {
             Selection::Kept => left = one_less(left),
             Selection::Dropped => {}
         }
@@ -65,20 +68,23 @@ fn one_less(limit: Option<u64>) -> Option<u64>
 fn write_row<R: Rows, S: RowSink>(
     rows: &mut R,
     position: u64,
+    turned: u32,
     line: &mut String,
     sink: &mut S,
 ) -> Result<Selection, RunFault<R::Fault>>
     requires ready { R.ready rows.old }
-    requires position { position < R.size rows.old }
+    requires position { position < product_of (R.counts rows.old) }
+    requires turned { IsNear (R.counts rows.old) (R.here rows.old) position turned }
     ensures written { IsRowWritten (R.row_at rows.old position) position (S.taken sink.old) (S.taken sink.new) result }
     ensures failures { CountsFailure (is_write result) (S.failures sink.old) (S.failures sink.new) }
     ensures step { IsRowStep (R.worked rows.old position rows.new) (R.refused rows.old position rows.new) result }
+    ensures here { R.here rows.new ≡ Some position }
     ensures ready { R.ready rows.new }
     ensures same_row { R.row_at rows.new ≡ R.row_at rows.old }
-    ensures same_size { R.size rows.new ≡ R.size rows.old }
+    ensures same_counts { R.counts rows.new ≡ R.counts rows.old }
 {
     line.clear();
-    match rows.work_out(position, line) {
+    match rows.work_out(position, turned, line) {
         Ok(Selection::Dropped) => Ok(Selection::Dropped),
         Ok(Selection::Kept) => match hand_over(sink, line.as_bytes()) {
             Ok(()) => Ok(Selection::Kept),

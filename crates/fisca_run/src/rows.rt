@@ -14,7 +14,7 @@ use crate::row::{Asked, write_row};
 use fisca_calc::default_in;
 use fisca_eval::EvalFault;
 use fisca_inputs::{Given, SituationFault, SituationKind};
-use fisca_lines::{RowFault, Rows, Selection};
+use fisca_lines::{Groups, RowFault, Rows, Selection};
 use fisca_members::Members;
 use fisca_memo::Evaluator;
 use fisca_recall::IndexRecall;
@@ -38,11 +38,14 @@ pub(crate) struct RunRows<'a, 't, 'y> {
     pub(crate) run: &'a RunFile,
     /// Its members, where the evaluator of an earlier position has given them back.
     pub(crate) members: Option<Members>,
+    /// The position that was worked out last.
+    pub(crate) here: Option<u64>,
 }
 
 impl<'a, 't, 'y> Rows for RunRows<'a, 't, 'y> {
     ghost use Rattle.std.specs.Prelude.{⊤};
-    ghost use Rattle.fisca_run.specs.Runs.{AreMembers, IsAsked, positions, run_row};
+    ghost use Rattle.fisca_grid.specs.Grid.{counts_of};
+    ghost use Rattle.fisca_run.specs.Runs.{AreMembers, IsAsked, run_row};
     ghost use Rattle.fisca_run_file.specs.Views.{run_file as run_file_view};
     ghost use Rattle.fisca_yaml.specs.Views.{node};
 
@@ -50,7 +53,9 @@ impl<'a, 't, 'y> Rows for RunRows<'a, 't, 'y> {
 
     ghost row_at = { λ r. run_row r.rules.now (run_file_view r.run.now) };
 
-    ghost size = { λ r. positions (run_file_view r.run.now) };
+    ghost counts = { λ r. counts_of (run_file_view r.run.now).groups };
+
+    ghost here = { λ r. r.here };
 
     // no value is remembered from position to position
     ghost worked = { λ _ _ _. ⊤ };
@@ -59,15 +64,17 @@ impl<'a, 't, 'y> Rows for RunRows<'a, 't, 'y> {
 
     ghost ready = { λ r. IsAsked r.rules.now (node r.tree.now) (run_file_view r.run.now) × AreMembers (run_file_view r.run.now) r.members };
 
-    fn size(&self) -> u64 {
-        self.run.axes.size()
+    fn groups(&self) -> Groups {
+        self.run.axes.groups()
     }
 
     fn work_out(
         &mut self,
         position: u64,
+        _turned: u32,
         line: &mut String,
     ) -> Result<Selection, RowFault<EvalFault>> {
+        self.here = Some(position);
         let (alloc, rules, tree, run) = (self.alloc, self.rules, self.tree, self.run);
         match run.moved_at(alloc, &rules.tables, position) {
             Ok(moved) => {

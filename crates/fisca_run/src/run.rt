@@ -49,6 +49,7 @@ pub fn run_grid<S: RowSink>(
         tree,
         run,
         members: None,
+        here: None,
     };
     write_lines(alloc, &mut rows, from, limit, sink)
 }

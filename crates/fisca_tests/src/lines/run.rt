@@ -5,8 +5,8 @@ ghost use Rattle.std.specs.Fmt.{decimal};
 ghost use Rattle.fisca_lines.specs.Row.{Nothing, Line, Fault};
 
 use fisca_lines::{
-    MemorySink, RowFault, RowSink, Rows, RunEnd, RunFault, Selection, SinkFault, StreamSink,
-    write_lines,
+    Groups, MemorySink, Odometer, RowFault, RowSink, Rows, RunEnd, RunFault, Selection, SinkFault,
+    StreamSink, write_lines,
 };
 use std::alloc::Global;
 
@@ -14,9 +14,10 @@ use std::alloc::Global;
 /// `broken` stands a fault.
 #[derive(Drop)]
 struct Salaries {
-    count: u32,
+    groups: Groups,
     first: u64,
     broken: u64,
+    here: Option<u64>,
 }
 
 impl Rows for Salaries {
@@ -24,7 +25,9 @@ impl Rows for Salaries {
 
     ghost row_at = { λ s position. cond (nat_lt position s.first) Nothing (cond (position == s.broken) (Fault position) (Line (decimal position ++ 9 ∷ (decimal (500 * position) ++ 10 ∷ [])))) };
 
-    ghost size = { λ s. s.count };
+    ghost counts = { λ s. s.groups };
+
+    ghost here = { λ s. s.here };
 
     ghost ready = { λ _. ⊤ };
 
@@ -32,15 +35,17 @@ impl Rows for Salaries {
 
     ghost refused = { λ _ _ _. ⊤ };
 
-    fn size(&self) -> u64 {
-        u64::from(self.count)
+    fn groups(&self) -> Groups {
+        self.groups.copied()
     }
 
     fn work_out(
         &mut self,
         position: u64,
+        _turned: u32,
         line: &mut String,
     ) -> Result<Selection, RowFault<Self::Fault>> {
+        self.here = Some(position);
         if position < self.first {
             return Ok(Selection::Dropped);
         }
@@ -55,11 +60,12 @@ impl Rows for Salaries {
     }
 }
 
-/// Rows without lines, which note the positions that they are asked for.
+/// Rows without lines, which note the positions that they are asked for, and how many groups have turned.
 #[derive(Drop)]
 struct Noted {
-    count: u32,
-    asked: Vec<u64>,
+    groups: Groups,
+    asked: Vec<(u64, u32)>,
+    here: Option<u64>,
 }
 
 impl Rows for Noted {
@@ -67,38 +73,89 @@ impl Rows for Noted {
 
     ghost row_at = { λ _ _. Nothing };
 
-    ghost size = { λ s. s.count };
+    ghost counts = { λ s. s.groups };
+
+    ghost here = { λ s. s.here };
 
     ghost ready = { λ _. ⊤ };
 
-    ghost worked = { λ s position t. t.asked.items ≡ s.asked.items ++ position ∷ [] };
+    ghost worked = { λ s position t. (turned : ℕ) × (t.asked.items ≡ s.asked.items ++ (position, turned) ∷ []) };
 
     ghost refused = { λ s _ t. t.asked.items ≡ s.asked.items };
 
-    fn size(&self) -> u64 {
-        u64::from(self.count)
+    fn groups(&self) -> Groups {
+        self.groups.copied()
     }
 
     fn work_out(
         &mut self,
         position: u64,
+        turned: u32,
         _line: &mut String,
     ) -> Result<Selection, RowFault<Self::Fault>> {
-        match self.asked.push(position) {
+        self.here = Some(position);
+        match self.asked.push((position, turned)) {
             Ok(()) => Ok(Selection::Dropped),
             Err(_) => Err(RowFault::Memory),
         }
     }
 }
 
+/// Three groups of 3, 1 and 2 places.
+fn make_wheels() -> Groups
+    ensures { result ≡ 3 ∷ 1 ∷ 2 ∷ [] }
+{
+    let mut groups = Groups::new();
+    groups.push(3);
+    groups.push(1);
+    groups.push(2);
+    groups
+}
+
 #[test]
-fn each_row_is_worked_out_once_in_order(rt: HostRuntime) {
-    let asked = Vec::new(rt.alloc());
-    let mut rows = Noted { count: 5, asked };
+fn each_row_is_worked_out_once_in_order_and_told_what_turned(rt: HostRuntime) {
+    let mut rows = Noted {
+        groups: make_wheels(),
+        asked: Vec::new(rt.alloc()),
+        here: None,
+    };
     let mut sink = MemorySink::new(rt.alloc());
-    let end = write_lines(rt.alloc(), &mut rows, 2, None, &mut sink);
+    let end = write_lines(rt.alloc(), &mut rows, 1, None, &mut sink);
+    let asked = [(1, 3), (2, 1), (3, 3), (4, 1), (5, 1)];
     assert_eq!(rt; end, Ok(RunEnd::End));
-    assert_eq!(rt; rows.asked.as_slice(), [2, 3, 4].as_slice());
+    assert_eq!(rt; rows.asked.as_slice(), asked.as_slice());
+}
+
+#[test]
+fn an_odometer_tells_how_many_groups_turned(rt: HostRuntime) {
+    let mut odometer = Odometer::new(make_wheels(), 1);
+    assert_eq!(rt; odometer.turned(), 0);
+    assert_eq!(rt; odometer.remaining(), 5);
+    for (position, turned) in [(1, 3), (2, 1), (3, 3), (4, 1), (5, 1)] {
+        assert_eq!(rt; odometer.next(), Some(position));
+        assert_eq!(rt; odometer.turned(), turned, "at {position}");
+    }
+    assert_eq!(rt; odometer.next(), None);
+    assert_eq!(rt; odometer.turned(), 1);
+    assert_eq!(rt; odometer.remaining(), 0);
+}
+
+#[test]
+fn an_odometer_behind_the_last_position_gives_none(rt: HostRuntime) {
+    for start in [6, 7, u64::MAX] {
+        let mut odometer = Odometer::new(make_wheels(), start);
+        assert_eq!(rt; odometer.remaining(), 0, "from {start}");
+        assert_eq!(rt; odometer.next(), None, "from {start}");
+        assert_eq!(rt; odometer.turned(), 0, "from {start}");
+    }
+}
+
+#[test]
+fn no_group_has_one_position(rt: HostRuntime) {
+    let mut odometer = Odometer::new(Groups::new(), 0);
+    assert_eq!(rt; odometer.next(), Some(0));
+    assert_eq!(rt; odometer.turned(), 0);
+    assert_eq!(rt; odometer.next(), None);
 }
 
 /// Takes a few bytes a call while it has room, and then fails: by an error, or by taking nothing.
@@ -155,10 +212,13 @@ fn count_whole(bytes: usize) -> u64 {
 
 /// The salaries 0, 500, 1000, 1500 and 2000.
 fn make_salaries(first: u64, broken: u64) -> Salaries {
+    let mut groups = Groups::new();
+    groups.push(5);
     Salaries {
-        count: 5,
+        groups,
         first,
         broken,
+        here: None,
     }
 }
 

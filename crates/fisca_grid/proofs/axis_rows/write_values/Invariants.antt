@@ -1,4 +1,4 @@
-use Rattle.std.proofs.Common.{◌≡◌, ◌++◌, List, Some, take, string_bytes}
+use Rattle.std.proofs.Common.{◌≡◌, ◌-◌, ◌++◌, List, Some, take, drop, string_bytes}
 use Rattle.fisca_num.specs.Number.{Number}
 use Rattle.fisca_grid.specs.Grid.{axes_at}
 use Rattle.fisca_grid.specs.AxesRow.{values_of, cells}
@@ -7,4 +7,4 @@ use Rattle.fisca_grid.proofs.axis_rows.write_values.Given as goal
 -- the cells of the axes so far are appended
 abbrev pub invariant-loop-axis : goal.invariant-loop-axis
 invariant-loop-axis l =
-    (values : List Number) × (values_of (take l.axis (axes_at l.axes l.position)) ≡ Some values) × (string_bytes l.line ≡ string_bytes l.fn.line ++ cells values)
+    (values : List Number) × (values_of (take (l.axis - l.from) (drop l.from (axes_at l.axes l.position))) ≡ Some values) × (string_bytes l.line ≡ string_bytes l.fn.line ++ cells values)

@@ -8,6 +8,6 @@ index-turning-requires c = omega (arith, c.requires.axis, count_is _ _ _ _ c.sel
 pub returns : goal.returns
 returns c = λ x at.
     let turning = c.index-turning.result.now in
-    let here = axis_is c.self.inside.axes.items c.self.inside.lengths.items c.self.inside.size c.args.self.now c.args.axis c.args.position turning c.self.invariant c.self.view_is c.requires.axis c.index-turning.ensures in
+    let here = axis_is c.self.inside.axes.items c.self.inside.lengths.items c.self.inside.groups c.args.self.now c.args.axis c.args.position turning c.self.invariant c.self.view_is c.requires.axis c.index-turning.ensures in
     let same : x ≡ (turning.axis.spec, c.place.result) = cc in
     rw same c.compare.ensures

@@ -1,6 +1,6 @@
 use Rattle.std.proofs.Common.{◌≡◌, ◌∷◌, ◌+◌, ◌-◌, ◌^◌, drop, drop-cons, add-one, get_or}
 use Rattle.fisca_grid.proofs.Groups.{left_grouped, left_alike, left_size}
-use Rattle.fisca_grid.proofs.grid.read_size.Goals as goal
+use Rattle.fisca_grid.proofs.grid.check_size.Goals as goal
 
 pub loop-length-preserved : goal.loop-length-preserved
 loop-length-preserved c =

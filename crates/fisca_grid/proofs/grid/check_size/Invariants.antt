@@ -1,7 +1,7 @@
 use Rattle.std.proofs.Common.{◌≡◌, ◌*◌, ◌-◌, ◌^◌, min, drop, sum, length}
 use Rattle.std.specs.List.{list_any}
 use Rattle.fisca_grid.specs.Grid.{groups_of, has_two_counts, size_of}
-use Rattle.fisca_grid.proofs.grid.read_size.Given as goal
+use Rattle.fisca_grid.proofs.grid.check_size.Given as goal
 
 -- what is left of the groups gives, with the size so far, the whole size, and has the groups that are not alike
 abbrev pub invariant-loop-length : goal.invariant-loop-length

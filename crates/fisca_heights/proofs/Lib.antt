@@ -1,4 +1,5 @@
 pub mod Adding
+pub mod Frees
 pub mod Growing
 pub mod Gathering
 pub mod Heights

@@ -29,7 +29,7 @@ one_of (suc (suc a)) b p q = absurd (omega arith)
 pub reads_both : (left right wheel : ℕ) → reads_wheel (bit_or left right) wheel ≡ (reads_wheel left wheel || reads_wheel right wheel)
 reads_both left right wheel = ap (λ n. n == 1) (bit_at_or left right wheel) ∙ one_of (bit_at left wheel) (bit_at right wheel) (let a = bit_at-lt left wheel in omega arith) (let b = bit_at-lt right wheel in omega arith)
 
-reads_none : (wheel : ℕ) → reads_wheel 0 wheel ≡ false
+pub reads_none : (wheel : ℕ) → reads_wheel 0 wheel ≡ false
 reads_none wheel = ap (λ n. n == 1) (bit_at-zero wheel)
 
 or_left : (a b : Bool) → a ≡ true → (a || b) ≡ true

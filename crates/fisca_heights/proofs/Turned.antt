@@ -98,7 +98,8 @@ abbrev bit_of : ℕ → Option Entry → Bool
 bit_of wheel None = false
 bit_of wheel (Some e) = reads_wheel e.reads wheel
 
-still_there : (wheel : ℕ) (o : Option Entry) (e : Entry) → unless_moved wheel o ≡ Some e → (o ≡ Some e) × (reads_wheel e.reads wheel ≡ false)
+-- what is left was there, and does not read the wheel
+pub still_there : (wheel : ℕ) (o : Option Entry) (e : Entry) → unless_moved wheel o ≡ Some e → (o ≡ Some e) × (reads_wheel e.reads wheel ≡ false)
 still_there wheel None e h = cc
 still_there wheel (Some x) e h = by_bit (reads_wheel x.reads wheel) refl h
   where
@@ -106,7 +107,7 @@ still_there wheel (Some x) e h = by_bit (reads_wheel x.reads wheel) refl h
     by_bit true f h = cc
     by_bit false f h = (h, ap (bit_of wheel) (sym h) ∙ f)
 
-still_here : (wheel : ℕ) (o : Option Entry) (e : Entry) → o ≡ Some e → reads_wheel e.reads wheel ≡ false → unless_moved wheel o ≡ Some e
+pub still_here : (wheel : ℕ) (o : Option Entry) (e : Entry) → o ≡ Some e → reads_wheel e.reads wheel ≡ false → unless_moved wheel o ≡ Some e
 still_here wheel o e h f = rw (h, f) refl
 
 -- The wheel turns: what is remembered afterwards is true of what stands there then.

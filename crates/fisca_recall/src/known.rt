@@ -12,3 +12,12 @@ pub struct Known {
     /// The wheels that its work reads, as bits.
     pub reads: u16,
 }
+
+/// What is remembered of a key, with the time at which it was kept.
+#[derive(Clone, Copy, Debug)]
+pub(crate) struct Stamped {
+    /// What is remembered.
+    pub(crate) known: Known,
+    /// The time at which it was kept.
+    pub(crate) kept_at: u64,
+}

@@ -6,6 +6,7 @@ mod index_recall;
 mod known;
 mod list_recall;
 mod recall;
+mod wheels;
 
 pub use counts::Counts;
 pub use index_recall::IndexRecall;

@@ -1,14 +1,17 @@
 //! A memory in a list.
 
-ghost use Rattle.std.specs.Prelude.{◌≡◌, Some, None, OnOk, OnErr, if◌then◌else◌};
+ghost use Rattle.std.specs.Prelude.{◌≡◌, ◌<◌, Some, None, OnOk, OnErr, filter, not, if◌then◌else◌};
+ghost use Rattle.std.proofs.Props.{props};
 ghost use Rattle.std.specs.Map.{lookup};
+ghost use Rattle.fisca_heights.specs.Reads.{reads_wheel};
 ghost use Rattle.fisca_inputs.specs.Entries.{same_key};
 ghost use Rattle.fisca_inputs.specs.declared.key.Key as declared;
 ghost use Rattle.fisca_meaning.specs.Dialogues as meaning;
-ghost use Rattle.fisca_recall.specs.Found.{found, place_from};
+ghost use Rattle.fisca_recall.specs.Found.{AreOnce, found, place_from, unless};
 
 use crate::known::Known;
 use crate::recall::Recall;
+use crate::wheels::has_wheel;
 use fisca_inputs::Key;
 use std::alloc::{AllocError, Global};
 
@@ -16,6 +19,7 @@ use std::alloc::{AllocError, Global};
 #[derive(Drop)]
 pub struct ListRecall {
     pairs: Vec<(Key, Known)>,
+    ghost once: { AreOnce pairs.items } by { Prim.hlevel props },
 }
 
 impl ListRecall {
@@ -55,8 +59,10 @@ fn place_of(pairs: &[(Key, Known)], key: &Key) -> Option<usize>
 
 /// Puts this beside the key: in its pair, or in a new one behind the others.
 fn put(pairs: &mut Vec<(Key, Known)>, key: Key, known: Known) -> Result<(), AllocError>
+    requires { AreOnce pairs.old.items }
     ensures ok { OnOk result ((k : declared.Key) → lookup (same_key k) pairs.new.items ≡ (if same_key k key then Some known else lookup (same_key k) pairs.old.items)) }
     ensures err { OnErr result (pairs.new.items ≡ pairs.old.items) }
+    ensures once { AreOnce pairs.new.items }
 {
     match place_of(pairs.as_slice(), &key) {
         Some(place) => {
@@ -68,6 +74,22 @@ fn put(pairs: &mut Vec<(Key, Known)>, key: Key, known: Known) -> Result<(), Allo
             Ok(())
         }
     }
+}
+
+/// Takes out what reads the wheel.
+fn take_out(pairs: &mut Vec<(Key, Known)>, wheel: u32)
+    requires wheel { wheel < 16 }
+    requires once { AreOnce pairs.old.items }
+    ensures filtered { pairs.new.items ≡ filter (λ p. not (reads_wheel p.1.reads wheel)) pairs.old.items }
+    ensures left { (k : declared.Key) → lookup (same_key k) pairs.new.items ≡ unless (λ known. reads_wheel known.reads wheel) (lookup (same_key k) pairs.old.items) }
+    ensures once { AreOnce pairs.new.items }
+{
+    pairs.retain(
+        |pair: &(Key, Known)| -> bool
+            requires { wheel < 16 }
+            ensures { result ≡ not (reads_wheel pair.now.1.reads wheel) }
+        { !has_wheel(pair.1.reads, wheel) },
+    );
 }
 
 impl Recall for ListRecall {
@@ -85,5 +107,9 @@ impl Recall for ListRecall {
         // what its unit says of the period: it lies in the calendar
         let _unit = key.period.unit();
         put(&mut self.pairs, key, known)
+    }
+
+    fn drop_moved(&mut self, wheel: u32) {
+        take_out(&mut self.pairs, wheel);
     }
 }

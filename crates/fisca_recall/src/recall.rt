@@ -6,8 +6,9 @@ use std::alloc::AllocError;
 
 /// A memory of values: a finite map from keys to what is known of them.
 pub trait Recall {
-    ghost use Rattle.std.specs.Prelude.{◌≡◌, Option, OnOk, OnErr, option_map};
+    ghost use Rattle.std.specs.Prelude.{◌≡◌, ◌<◌, Option, OnOk, OnErr, option_map};
     ghost use Rattle.fisca_heights.specs.Entries.{Entry, with_entry};
+    ghost use Rattle.fisca_heights.specs.Reads.{unless_moved};
     ghost use Rattle.fisca_inputs.specs.Seen.{key_seen};
     ghost use Rattle.fisca_meaning.specs.Dialogues as meaning;
     ghost use Rattle.fisca_recall.specs.Found.{entry_seen};
@@ -23,4 +24,9 @@ pub trait Recall {
     fn keep(&mut self, key: Key, known: Known) -> Result<(), AllocError>
         ensures ok { OnOk result ((k : meaning.Key) → find self.new k ≡ with_entry (find self.old) (key_seen key) (entry_seen known) k) }
         ensures err { OnErr result ((k : meaning.Key) → find self.new k ≡ find self.old k) };
+
+    /// Forgets what reads the wheel, and nothing else, without memory. A wheel is a group of axes that turn together.
+    fn drop_moved(&mut self, wheel: u32)
+        requires { wheel < 16 }
+        ensures { (k : meaning.Key) → find self.new k ≡ unless_moved wheel (find self.old k) };
 }

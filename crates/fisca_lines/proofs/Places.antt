@@ -1,6 +1,6 @@
 -- The places of groups at one position and at the next.
 use Rattle.std.proofs.Common.{◌≡◌, ℕ, zero, suc, ◌+◌, ◌-◌, ◌*◌, ◌/◌, ◌%◌, ◌<◌, ◌≤◌, nat_lt, cond, true, false, List, [], ◌∷◌, ◌++◌, length, map, take, drop, set, get_or, Option, None, Some, refl, sym, ap, ap₂, ◌∙◌, arith, ⊎_elim, append_assoc}
-use Rattle.std.proofs.Math.Nat.{add-mul, div-lt_iff_lt-mul, mul_assoc, mul_comm}
+use Rattle.std.proofs.Math.Nat.{add-mul, div-lt_iff_lt-mul, le-mul_of_pos_right, mul_assoc, mul_comm, mul-pos}
 use Rattle.std.proofs.Math.Seq.{drop-cons, drop-length}
 use Rattle.std.proofs.lemmas.Bool.{cases_lt}
 use Rattle.std.proofs.lemmas.Bool.Decides.{nat_tests}
@@ -35,6 +35,19 @@ turn_over q count some over =
 -- the lengths of groups with these last places
 abbrev pub counts_to : List ℕ → List ℕ
 counts_to lasts = map (λ last. last + 1) lasts
+
+some_positions : (lasts : List ℕ) → 0 < product_of (counts_to lasts)
+some_positions [] = omega arith
+some_positions (last ∷ lasts) = mul-pos {m = last + 1} {n = product_of (counts_to lasts)} (omega arith) (some_positions lasts)
+
+-- a group has no more places than all groups have positions
+pub few_places : (lasts : List ℕ) (group : ℕ) → group < length lasts → get_or lasts group 0 + 1 ≤ product_of (counts_to lasts)
+few_places [] group less = absurd (omega arith)
+few_places (last ∷ lasts) zero less = le-mul_of_pos_right {m = product_of (counts_to lasts)} (last + 1) (some_positions lasts)
+few_places (last ∷ lasts) (suc group) less =
+    let rest = few_places lasts group (omega arith) in
+    let whole = le-mul_of_pos_right {m = last + 1} (product_of (counts_to lasts)) (omega arith) in
+    omega (arith, rest, whole, mul_comm (last + 1) (product_of (counts_to lasts)))
 
 -- the places one position on, and how many groups turn
 abbrev pub turned_places : List ℕ → List ℕ → List ℕ

@@ -6,12 +6,12 @@ ghost use Rattle.fisca_lines.specs.Turning.{ArePlaces, IsTurn};
 
 use std::marker::Model;
 
-/// The lengths of the groups of a grid, of which the first turns fastest: at most 16, each from 1 to 2^32, with a product
+/// The lengths of the groups of a grid, of which the first turns fastest: at most 16, each from 1 on, with a product
 /// below 2^64. Contracts see the list of the lengths. This project's own rule.
 #[derive(Debug, Drop)]
 pub struct Groups {
     /// The last place of each group.
-    lasts: [u32; 16],
+    lasts: [u64; 16],
     count: usize,
     size: u64,
 }
@@ -42,12 +42,11 @@ impl Groups {
     /// Appends a group of so many places, which turns slower than those before it.
     pub fn push(&mut self, places: u64)
         requires some { 0 < places }
-        requires narrow { places ≤ 2 ^ 32 }
         requires few { length self.old < 16 }
         requires small { product_of self.old * places < 2 ^ 64 }
         ensures { self.new ≡ self.old ++ places ∷ [] }
     {
-        self.lasts[self.count] = (places - 1) as u32;
+        self.lasts[self.count] = places - 1;
         self.count += 1;
         self.size *= places;
     }
@@ -78,21 +77,21 @@ impl Groups {
     }
 
     /// The places of the groups at a position.
-    pub(crate) fn places(&self, position: u64) -> [u32; 16]
+    pub(crate) fn places(&self, position: u64) -> [u64; 16]
         ensures { ArePlaces self.now position result }
     {
-        let mut places = [0u32; 16];
+        let mut places = [0u64; 16];
         let mut turns = position;
         for group in 0..self.count {
-            let count = u64::from(self.lasts[group]) + 1;
-            places[group] = (turns % count) as u32;
+            let count = self.lasts[group] + 1;
+            places[group] = turns % count;
             turns /= count;
         }
         places
     }
 
     /// Turns the places at a position to those at the next, and answers how many groups turned.
-    pub(crate) fn turn(&self, places: &mut [u32; 16]) -> u32
+    pub(crate) fn turn(&self, places: &mut [u64; 16]) -> u32
         ensures { IsTurn self.now places.old places.new result }
     {
         for group in 0..self.count {

@@ -13,7 +13,7 @@ use std::marker::Model;
 #[derive(Debug, Drop)]
 pub struct Odometer {
     groups: Groups,
-    places: [u32; 16],
+    places: [u64; 16],
     start: u64,
     next: u64,
     turned: u32,

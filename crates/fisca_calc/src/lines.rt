@@ -1,6 +1,6 @@
 //! The lines of columns.
 
-ghost use Rattle.std.specs.Prelude.{◌≡◌, ◌++◌, None, length, OnOk, string_bytes};
+ghost use Rattle.std.specs.Prelude.{◌≡◌, ◌<◌, ◌++◌, None, length, OnOk, string_bytes};
 ghost use Rattle.fisca_calc.specs.Lines.{column_row, line_of};
 ghost use Rattle.fisca_lines.specs.Run.{IsRun, is_write};
 ghost use Rattle.fisca_lines.specs.Sink.{CountsFailure};
@@ -10,7 +10,7 @@ ghost use Rattle.fisca_tables.specs.Known.{tables as known};
 use crate::answers::Answers;
 use fisca_columns::{write_key, write_value};
 use fisca_inputs::{Key, Value};
-use fisca_lines::{RowFault, RowSink, Rows, RunEnd, RunFault, Selection, write_lines};
+use fisca_lines::{Groups, RowFault, RowSink, Rows, RunEnd, RunFault, Selection, write_lines};
 use fisca_situations::Situation;
 use fisca_tables::Tables;
 use std::alloc::{AllocError, Global};
@@ -30,15 +30,17 @@ impl Names for Brand {
     ghost members = { [] };
 }
 
-/// Columns as rows: each has a line.
+/// Columns as rows of one group: each has a line.
 #[derive(Drop)]
 struct ColumnRows<'a, 't, A: Answers + Drop, N: Names> {
     alloc: Global,
     tables: &'a Tables<'t>,
     columns: &'a [Key],
     answers: A,
+    here: Option<u64>,
     of: PhantomData<N>,
     ghost same_members: { A.members answers ≡ N.members },
+    ghost some: { 0 < length columns.now },
 }
 
 /// Appends the line of a key's value: the variable, the member's name, the period and the value with tabs between them, and a line feed.
@@ -59,7 +61,7 @@ fn write_line(
 }
 
 impl<'a, 't, A: Answers + Drop, N: Names> Rows for ColumnRows<'a, 't, A, N> {
-    ghost use Rattle.std.specs.Prelude.{⊤, length};
+    ghost use Rattle.std.specs.Prelude.{⊤, [], ◌∷◌, length};
     ghost use Rattle.fisca_calc.specs.Lines.{column_row};
     ghost use Rattle.fisca_tables.specs.Known.{tables as known};
 
@@ -67,7 +69,9 @@ impl<'a, 't, A: Answers + Drop, N: Names> Rows for ColumnRows<'a, 't, A, N> {
 
     ghost row_at = { λ r. column_row (known r.tables.now) (A.members r.answers) (A.answer r.answers) r.columns.now };
 
-    ghost size = { λ r. length r.columns.now };
+    ghost counts = { λ r. length r.columns.now ∷ [] };
+
+    ghost here = { λ r. r.here };
 
     ghost ready = { λ r. A.ready r.answers };
 
@@ -76,20 +80,25 @@ impl<'a, 't, A: Answers + Drop, N: Names> Rows for ColumnRows<'a, 't, A, N> {
 
     ghost refused = { λ _ _ _. ⊤ };
 
-    fn size(&self) -> u64 {
-        self.columns.len() as u64
+    fn groups(&self) -> Groups {
+        let mut groups = Groups::new();
+        groups.push(self.columns.len() as u64);
+        groups
     }
 
     fn work_out(
         &mut self,
         position: u64,
+        _turned: u32,
         line: &mut String,
     ) -> Result<Selection, RowFault<A::Fault>> {
+        self.here = Some(position);
+        let (alloc, tables) = (self.alloc, self.tables);
         let key = self.columns[position as usize];
         match self.answers.value(key) {
             Ok(value) => {
                 let situation = self.answers.situation();
-                match write_line(self.alloc, self.tables, situation, &key, value, line) {
+                match write_line(alloc, tables, situation, &key, value, line) {
                     Ok(()) => Ok(Selection::Kept),
                     Err(_) => Err(RowFault::Memory),
                 }
@@ -99,7 +108,7 @@ impl<'a, 't, A: Answers + Drop, N: Names> Rows for ColumnRows<'a, 't, A, N> {
     }
 }
 
-/// Writes the lines of columns, where the members are these.
+/// Writes the lines of columns, of which there are some, where the members are these.
 fn write_rows<'a, 't, A: Answers + Drop, N: Names, S: RowSink>(
     alloc: Global,
     tables: &'a Tables<'t>,
@@ -109,6 +118,7 @@ fn write_rows<'a, 't, A: Answers + Drop, N: Names, S: RowSink>(
 ) -> (A, Result<RunEnd, RunFault<A::Fault>>)
     requires ready { A.ready answers }
     requires same_members { A.members answers ≡ N.members }
+    requires some { 0 < length columns.now }
     ensures run { IsRun (column_row (known tables.now) (A.members answers) (A.answer answers) columns.now) (length columns.now) 0 None (S.taken sink.old) (S.taken sink.new) result.1 }
     ensures failures { CountsFailure (is_write result.1) (S.failures sink.old) (S.failures sink.new) }
     ensures ready { A.ready result.0 }
@@ -119,6 +129,7 @@ fn write_rows<'a, 't, A: Answers + Drop, N: Names, S: RowSink>(
         tables,
         columns,
         answers,
+        here: None,
         of: PhantomData,
     };
     let end = write_lines(alloc, &mut rows, 0, None, sink);
@@ -146,5 +157,8 @@ pub fn write_columns<'a, 't, A: Answers + Drop, S: RowSink>(
     ensures ready { A.ready result.0 }
     ensures members { A.members result.0 ≡ A.members answers }
 {
+    if columns.is_empty() {
+        return (answers, Ok(RunEnd::End));
+    }
     write_rows::<A, Brand, S>(alloc, tables, columns, answers, sink)
 }

@@ -21,10 +21,10 @@ use Rattle.fisca_rules.specs.Rules.{known_by}
 use Rattle.fisca_rules.specs.Safety.{DefaultsFit}
 use Rattle.fisca_rules.specs.Views.{rule_set}
 use Rattle.fisca_rules.specs.declared.rule_set.RuleSet.{RuleSet}
-use Rattle.fisca_run.proofs.Files.{read_from}
+use Rattle.fisca_slots.proofs.Files.{read_from}
 use Rattle.fisca_run.proofs.Givens.{read_all_typed}
 use Rattle.fisca_run.proofs.Numbers.{all_put_typed, moved_numbers, valued_typed}
-use Rattle.fisca_run.proofs.Said.{default_read}
+use Rattle.fisca_slots.proofs.Said.{default_read}
 use Rattle.fisca_run.specs.Runs.{IsAsked, simulation_in}
 use Rattle.fisca_run_file.specs.Moved.{put_all_in}
 use Rattle.fisca_run_file.specs.Positions.{inputs_with, moved_at, situation_with, with_values}

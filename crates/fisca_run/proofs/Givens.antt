@@ -15,8 +15,8 @@ use Rattle.fisca_inputs.specs.declared.given.Value.TheVariants as v
 use Rattle.fisca_inputs.specs.declared.given.Value.{Value}
 use Rattle.fisca_meaning.specs.Questions.{key_period, type_in}
 use Rattle.fisca_num.specs.Number.{Number}
-use Rattle.fisca_run.proofs.Reading.{IsKept, all_kept}
-use Rattle.fisca_run.proofs.Said.{HasPeriod}
+use Rattle.fisca_slots.proofs.Reading.{IsKept, all_kept}
+use Rattle.fisca_slots.proofs.Said.{HasPeriod}
 use Rattle.fisca_situations.specs.Situations.{reading_of}
 use Rattle.fisca_situations.specs.Values.{said, input_or, unused_if, int_in, bool_in, member_in, day_in}
 use Rattle.fisca_situations.specs.declared.reading.Reading.{Reading}

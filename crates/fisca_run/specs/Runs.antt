@@ -1,7 +1,5 @@
 -- The rows of a run file over the positions of its grid, under a rule set.
-use Rattle.std.specs.Prelude.{◌≡◌, ℕ, List, Option, Some, None, Result, Ok, Err, codes}
-use Rattle.std.specs.Option.{unwrap_or}
-use Rattle.fisca_calc.specs.Calc.{default_in}
+use Rattle.std.specs.Prelude.{◌≡◌, ℕ, List, Option, Some, None, Result, Ok, Err}
 use Rattle.fisca_eval.specs.Told.{told_in}
 use Rattle.fisca_eval.specs.declared.fault.EvalFault.{EvalFault}
 use Rattle.fisca_grid.specs.Grid.{size_of}
@@ -14,18 +12,12 @@ use Rattle.fisca_rules.specs.declared.rule_set.RuleSet.{RuleSet}
 use Rattle.fisca_run.specs.Lines.{asked_row}
 use Rattle.fisca_run_file.specs.Positions.{moved_at, situation_with}
 use Rattle.fisca_run_file.specs.RunFiles.{RunFile, run_file_of}
-use Rattle.fisca_situations.specs.Situations.{Situation, reading_of}
-use Rattle.fisca_situations.specs.declared.reading.Reading.{Reading}
+use Rattle.fisca_situations.specs.Situations.{Situation}
 use Rattle.fisca_sources.specs.Simulations.{Simulation}
 use Rattle.fisca_sources.specs.Sound.{IsSafeRules}
 use Rattle.fisca_tables.specs.Known.{tables as known}
 use Rattle.fisca_tables.specs.declared.tables.Tables.{Tables}
-use Rattle.fisca_yaml.specs.Find.{get, line_at}
-use Rattle.fisca_yaml.specs.Node.{Node, null}
-
--- what the input of a file says
-abbrev pub input_read : Tables → Node → Result Reading SituationFault
-input_read c n = reading_of c (default_in n) (line_at (codes "input") 1 n) (unwrap_or (get (codes "input") n) null)
+use Rattle.fisca_yaml.specs.Node.{Node}
 
 -- a situation under the rule set, with what the file neutralises
 abbrev pub simulation_in : RuleSet → RunFile → Situation → Simulation

@@ -4,10 +4,11 @@ ghost use Rattle.std.specs.Prelude.{◌≡◌, [], Some, Ok, string_bytes};
 ghost use Rattle.fisca_inputs.specs.Outcomes.{Tells};
 ghost use Rattle.fisca_lines.specs.Row.{IsWorkedOut};
 ghost use Rattle.fisca_eval.specs.Told.{IsReady};
-ghost use Rattle.fisca_run.specs.Runs.{AreMembers, IsAsked, input_read, row_in, simulation_in};
+ghost use Rattle.fisca_run.specs.Runs.{AreMembers, IsAsked, row_in, simulation_in};
 ghost use Rattle.fisca_run_file.specs.Positions.{moved_at, situation_with};
 ghost use Rattle.fisca_run_file.specs.Views.{run_file as run_file_view};
 ghost use Rattle.fisca_situations.specs.Views.{situation as situation_view};
+ghost use Rattle.fisca_slots.specs.Readings.{input_read};
 ghost use Rattle.fisca_yaml.specs.Views.{node};
 
 use crate::row::{Asked, write_row};

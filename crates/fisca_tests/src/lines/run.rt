@@ -14,10 +14,11 @@ use std::alloc::Global;
 /// `broken` stands a fault.
 #[derive(Drop)]
 struct Salaries {
-    groups: Groups,
+    count: u32,
     first: u64,
     broken: u64,
     here: Option<u64>,
+    ghost some: { 0 < count },
 }
 
 impl Rows for Salaries {
@@ -25,7 +26,7 @@ impl Rows for Salaries {
 
     ghost row_at = { λ s position. cond (nat_lt position s.first) Nothing (cond (position == s.broken) (Fault position) (Line (decimal position ++ 9 ∷ (decimal (500 * position) ++ 10 ∷ [])))) };
 
-    ghost counts = { λ s. s.groups };
+    ghost counts = { λ s. s.count ∷ [] };
 
     ghost here = { λ s. s.here };
 
@@ -36,7 +37,9 @@ impl Rows for Salaries {
     ghost refused = { λ _ _ _. ⊤ };
 
     fn groups(&self) -> Groups {
-        self.groups.copied()
+        let mut groups = Groups::new();
+        groups.push(u64::from(self.count));
+        groups
     }
 
     fn work_out(
@@ -212,10 +215,8 @@ fn count_whole(bytes: usize) -> u64 {
 
 /// The salaries 0, 500, 1000, 1500 and 2000.
 fn make_salaries(first: u64, broken: u64) -> Salaries {
-    let mut groups = Groups::new();
-    groups.push(5);
     Salaries {
-        groups,
+        count: 5,
         first,
         broken,
         here: None,

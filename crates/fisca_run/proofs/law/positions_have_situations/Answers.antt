@@ -1,4 +1,4 @@
-use Rattle.fisca_run.proofs.Positions.{each_situated}
+use Rattle.fisca_slots.proofs.Positions.{each_situated}
 use Rattle.fisca_run.proofs.law.positions_have_situations.Goals as goal
 
 pub returns : goal.returns

@@ -17,7 +17,7 @@ use Rattle.fisca_inputs.specs.declared.key.Key.{Key}
 use Rattle.fisca_members.specs.Lookup.{counts_of}
 use Rattle.fisca_members.specs.declared.entity_members.EntityMembers.{EntityMembers}
 use Rattle.fisca_params.specs.Results.{and_then}
-use Rattle.fisca_run.specs.Runs.{input_read}
+use Rattle.fisca_slots.specs.Readings.{input_read}
 use Rattle.fisca_run_file.specs.Conditions.{conditions_in}
 use Rattle.fisca_run_file.specs.Grids.{grid_of}
 use Rattle.fisca_run_file.specs.Keys.{file_checked}

@@ -12,13 +12,13 @@ use Rattle.fisca_inputs.specs.Inputs.{key_given}
 use Rattle.fisca_inputs.specs.contracts.key.KeyEq.TheImpl.Laws.{laws-law}
 use Rattle.fisca_inputs.specs.declared.given.Given.{Given}
 use Rattle.fisca_inputs.specs.declared.key.Key.{Key}
-use Rattle.fisca_run.proofs.Both.{Moving, here}
-use Rattle.fisca_run.proofs.Shared.{Each, Pairwise, given_of}
+use Rattle.fisca_slots.proofs.Both.{Moving, here}
+use Rattle.fisca_slots.proofs.Shared.{Each, Pairwise, given_of}
 use Rattle.fisca_run_file.specs.Moved.{is_overlap, put_in, put_all_in}
 use Rattle.fisca_run_file.specs.Overlaps.{is_across, is_other, meets, overlaps, shares_day, starts_before}
 use Rattle.fisca_time.specs.Period.{Span, span_cmp}
 
-abbrev key_of : Moving → Key
+abbrev pub key_of : Moving → Key
 key_of t = key_given t.given
 
 -- of one variable and member, and for periods that share a day

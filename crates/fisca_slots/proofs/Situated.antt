@@ -5,10 +5,10 @@ use Rattle.fisca_inputs.specs.Entries.{Entries, same_key}
 use Rattle.fisca_inputs.specs.Inputs.{inputs_of, key_given}
 use Rattle.fisca_inputs.specs.Rules.{Rule}
 use Rattle.fisca_inputs.specs.declared.given.Given.{Given}
-use Rattle.fisca_run.proofs.Both.{Moving, here}
-use Rattle.fisca_run.proofs.Parts.{IsSound, all_disjoint, given_sound}
-use Rattle.fisca_run.proofs.Placed.{AllOf, Apart, Distinct, NoneOverlaps, all_here, all_read, here_unmoved, place_all, read_unmoved, turned, unmoved, with_axes_apart}
-use Rattle.fisca_run.proofs.Shared.{Pairwise, given_of, inputs_both, order_moving, sound_ordered}
+use Rattle.fisca_slots.proofs.Both.{Moving, here}
+use Rattle.fisca_slots.proofs.Parts.{IsSound, all_disjoint, given_sound}
+use Rattle.fisca_slots.proofs.Placed.{AllOf, Apart, Distinct, NoneOverlaps, all_here, all_read, here_unmoved, place_all, read_unmoved, turned, unmoved, with_axes_apart}
+use Rattle.fisca_slots.proofs.Shared.{Pairwise, given_of, inputs_both, order_moving, sound_ordered}
 use Rattle.fisca_run_file.specs.Moved.{put_all_in}
 use Rattle.fisca_time.specs.Period.{is_period}
 

@@ -15,11 +15,11 @@ use Rattle.fisca_inputs.specs.declared.given.Given.{Given}
 use Rattle.fisca_inputs.specs.declared.key.Key.{Key}
 use Rattle.fisca_meaning.specs.Questions.{fits, is_eternity, key_period}
 use Rattle.fisca_num.specs.Number.{Number}
-use Rattle.fisca_run.proofs.Both.{Moving, keys_of}
-use Rattle.fisca_run.proofs.Months.{month_before, month_no_later, months_end}
-use Rattle.fisca_run.proofs.Placed.{Apart, across}
-use Rattle.fisca_run.proofs.Shared.{CanShare, Disjoint, Each, Pairwise}
-use Rattle.fisca_run.proofs.Steps.{CanPart, most_parts}
+use Rattle.fisca_slots.proofs.Both.{Moving, keys_of}
+use Rattle.fisca_slots.proofs.Months.{month_before, month_no_later, months_end}
+use Rattle.fisca_slots.proofs.Placed.{Apart, across}
+use Rattle.fisca_slots.proofs.Shared.{CanShare, Disjoint, Each, Pairwise}
+use Rattle.fisca_slots.proofs.Steps.{CanPart, most_parts}
 use Rattle.fisca_run_file.specs.Overlaps.{shares_day, starts_before}
 use Rattle.fisca_time.specs.Calendar.{first_day, end_day}
 use Rattle.fisca_time.specs.Instant.{is_between}
@@ -31,24 +31,24 @@ use Rattle.fisca_time.specs.declared.unit.Unit.TheVariants.{Day, Month, Year, Et
 -- Periods
 
 -- the day after a day, month or year that begins with this day or month
-abbrev end_at : Unit → ℕ → ℕ
+abbrev pub end_at : Unit → ℕ → ℕ
 end_at Day first = first + 1
 end_at Month first = month_start (first + 1)
 end_at Year first = month_start (first + 12)
 end_at Eternity first = 0
 
 -- it ends in the period
-record EndsIn (unit : Unit) (first : ℕ) (p : Span) : Type 0 where
-  after : start_day p < end_at unit first
-  within : end_at unit first ≤ stop_day p
+pub record EndsIn (unit : Unit) (first : ℕ) (p : Span) : Type 0 where
+  pub after : start_day p < end_at unit first
+  pub within : end_at unit first ≤ stop_day p
 
-both_equal : (a b : Ordering) → is_eq (ordering_then a b) ≡ true → (is_eq a ≡ true) × (is_eq b ≡ true)
+pub both_equal : (a b : Ordering) → is_eq (ordering_then a b) ≡ true → (is_eq a ≡ true) × (is_eq b ≡ true)
 both_equal Less b h = cc
 both_equal Equal b h = (refl, h)
 both_equal Greater b h = cc
 
 -- equal periods begin with the same
-same_first : (p q : Span) → eq_by_cmp span_cmp p q ≡ true → first_of p ≡ first_of q
+pub same_first : (p q : Span) → eq_by_cmp span_cmp p q ≡ true → first_of p ≡ first_of q
 same_first p q h =
     let later =
     both_equal (nat_cmp (rank (unit_of p)) (rank (unit_of q))) (ordering_then (nat_cmp (first_of p) (first_of q)) (nat_cmp (size_of p) (size_of q))) h in
@@ -179,18 +179,18 @@ common_day unit first p q one two =
 
 -- Keys
 
-record IsKeyOf (unit : Unit) (g : Given) (q : Key) : Type 0 where
-  variable : q.variable ≡ g.variable
-  member : q.member ≡ g.member
-  ends : EndsIn unit (first_of q.period) g.period
+pub record IsKeyOf (unit : Unit) (g : Given) (q : Key) : Type 0 where
+  pub variable : q.variable ≡ g.variable
+  pub member : q.member ≡ g.member
+  pub ends : EndsIn unit (first_of q.period) g.period
 
-key_parts : (q k : Key) → same_key q k ≡ true → (q.variable ≡ k.variable) × (q.member ≡ k.member) × (eq_by_cmp span_cmp q.period k.period ≡ true)
+pub key_parts : (q k : Key) → same_key q k ≡ true → (q.variable ≡ k.variable) × (q.member ≡ k.member) × (eq_by_cmp span_cmp q.period k.period ≡ true)
 key_parts q k h =
     let one = and_parts (q.variable == k.variable) ((q.member == k.member) && eq_by_cmp span_cmp q.period k.period) h in
     let two = and_parts (q.member == k.member) (eq_by_cmp span_cmp q.period k.period) one.1 in
     (eqb-true q.variable k.variable one.0, eqb-true q.member k.member two.0, two.1)
 
-in_parts : (q : Key) (x m : ℕ) (ps : List Span) → list_any (same_key q) (map (λ p. key x m p) ps) ≡ true
+pub in_parts : (q : Key) (x m : ℕ) (ps : List Span) → list_any (same_key q) (map (λ p. key x m p) ps) ≡ true
     → (q.variable ≡ x) × (q.member ≡ m) × (list_any (eq_by_cmp span_cmp q.period) ps ≡ true)
 in_parts q x m [] h = cc
 in_parts q x m (p ∷ ps) h = by (same_key q (key x m p)) refl h (in_parts q x m ps)
@@ -201,12 +201,12 @@ in_parts q x m (p ∷ ps) h = by (same_key q (key x m p)) refl h (in_parts q x m
     by true same e later = let parts = key_parts q (key x m p) same in (parts.0, parts.1, ap (λ b. b || list_any (eq_by_cmp span_cmp q.period) ps) parts.2)
     by false other e later = let more = later e in (more.0, more.1, or_last (eq_by_cmp span_cmp q.period p) (list_any (eq_by_cmp span_cmp q.period) ps) more.2)
 
-part_key : (r : Rule) (g : Given) (q : Key) → list_any (same_key q) (parts_of r g) ≡ true → IsKeyOf r.unit g q
+pub part_key : (r : Rule) (g : Given) (q : Key) → list_any (same_key q) (parts_of r g) ≡ true → IsKeyOf r.unit g q
 part_key r g q h =
     let parts = in_parts q g.variable g.member (subs g.period r.unit) h in
     record { variable = parts.0; member = parts.1; ends = part_ends r.unit g.period q.period parts.2 }
 
-any_key : (r : Rule) (g : Given) (q : Key) → is_period g.period ≡ true → is_eternity r.unit ≡ false → list_any (same_key q) (keys_of r g) ≡ true
+pub any_key : (r : Rule) (g : Given) (q : Key) → is_period g.period ≡ true → is_eternity r.unit ≡ false → list_any (same_key q) (keys_of r g) ≡ true
     → IsKeyOf r.unit g q
 any_key r g q period other h = by (fits r.unit g.period) refl h
   where
@@ -225,7 +225,7 @@ any_key r g q period other h = by (fits r.unit g.period) refl h
     by true own e = one (same_key q (own_key r g)) refl e own
     by false own e = part_key r g q e
 
-key_variable : (r : Rule) (g : Given) (q : Key) → list_any (same_key q) (keys_of r g) ≡ true → q.variable ≡ g.variable
+pub key_variable : (r : Rule) (g : Given) (q : Key) → list_any (same_key q) (keys_of r g) ≡ true → q.variable ≡ g.variable
 key_variable r g q h = by (fits r.unit g.period) h
   where
     one : (b : Bool) → same_key q (own_key r g) ≡ b → (b || false) ≡ true → q.variable ≡ g.variable
@@ -242,14 +242,14 @@ not_eternal Month p h = refl
 not_eternal Year p h = refl
 not_eternal Eternity p h = cc
 
-meets_common : (unit : Unit) (t u : Moving) (q : Key) → IsKeyOf unit t.given q → IsKeyOf unit u.given q → across t u ≡ true
+pub meets_common : (unit : Unit) (t u : Moving) (q : Key) → IsKeyOf unit t.given q → IsKeyOf unit u.given q → across t u ≡ true
 meets_common unit t u q one two =
     rw (eq-eqb t.given.variable u.given.variable (sym one.variable ∙ two.variable), eq-eqb t.given.member u.given.member (sym one.member ∙ two.member))
     (common_day unit (first_of q.period) t.given.period u.given.period one.ends two.ends)
 
 -- How many there are
 
-few_parts : (unit : Unit) (p : Span) → is_period p ≡ true → length (subs p unit) ≤ most_parts
+pub few_parts : (unit : Unit) (p : Span) → is_period p ≡ true → length (subs p unit) ≤ most_parts
 few_parts unit eternity h = omega arith
 few_parts Day (months own first size) h =
     let parts = and_parts ((is_month own || is_year own) && is_between 1 1200 size) (is_within 12 120_000 first (months_in own * size)) h in
@@ -278,7 +278,7 @@ few_parts Month (days first size) h = omega arith
 few_parts Year (days first size) h = omega arith
 few_parts Eternity (days first size) h = omega arith
 
-some_parts : (n : ℕ) → (n == 0) ≡ false → 0 < n
+pub some_parts : (n : ℕ) → (n == 0) ≡ false → 0 < n
 some_parts zero h = cc
 some_parts (suc n) h = omega arith
 

@@ -172,7 +172,7 @@ grid_values axes (n ∷ lengths) position right alike =
     some_values (take n axes) (axes_at (groups_of (drop n axes) lengths) (position / count_of (take n axes))) position (right_take n axes right) parts.0
     (grid_values (drop n axes) lengths (position / count_of (take n axes)) (right_drop n axes right) parts.1)
 
-axes_grouped : (axes : List AxisSpec) (lengths : List ℕ) → sum lengths ≡ length axes → axes_in (groups_of axes lengths) ≡ length axes
+pub axes_grouped : (axes : List AxisSpec) (lengths : List ℕ) → sum lengths ≡ length axes → axes_in (groups_of axes lengths) ≡ length axes
 axes_grouped axes [] all = all
 axes_grouped axes (n ∷ lengths) all =
     let later = axes_grouped (drop n axes) lengths (left_grouped axes n lengths all) in

@@ -16,7 +16,7 @@ use Rattle.fisca_inputs.specs.declared.key.Key.{Key}
 use Rattle.fisca_meaning.specs.Questions.{fits}
 use Rattle.fisca_num.specs.Number.{Number}
 use Rattle.fisca_params.specs.Results.{and_then}
-use Rattle.fisca_run.proofs.Both.{Alike, Both, HasParts, IsSettled, Moving, Settled, all_alike, here, kept_alike, keys, keys_of, shared_both}
+use Rattle.fisca_slots.proofs.Both.{Alike, Both, HasParts, IsSettled, Moving, Settled, all_alike, here, kept_alike, keys, keys_of, shared_both}
 use Rattle.fisca_time.specs.Period.{subs}
 
 -- Lists
@@ -142,11 +142,11 @@ module _ (rules : List Rule) where
       by true e = refl
       by false e = ap (λ gs. here u ∷ gs) e
 
-  order_read : (sorted ts : List Moving) → map given_of (order_moving sorted ts) ≡ in_order_with rules (map given_of sorted) (map given_of ts)
+  pub order_read : (sorted ts : List Moving) → map given_of (order_moving sorted ts) ≡ in_order_with rules (map given_of sorted) (map given_of ts)
   order_read sorted [] = refl
   order_read sorted (t ∷ ts) = order_read (put_moving t sorted) ts ∙ ap (λ gs. in_order_with rules gs (map given_of ts)) (put_read t sorted)
 
-  order_here : (sorted ts : List Moving) → map here (order_moving sorted ts) ≡ in_order_with rules (map here sorted) (map here ts)
+  pub order_here : (sorted ts : List Moving) → map here (order_moving sorted ts) ≡ in_order_with rules (map here sorted) (map here ts)
   order_here sorted [] = refl
   order_here sorted (t ∷ ts) = order_here (put_moving t sorted) ts ∙ ap (λ gs. in_order_with rules gs (map here ts)) (put_here t sorted)
 
@@ -189,11 +189,11 @@ module _ (rules : List Rule) where
 
   -- Defaults
 
-  abbrev rows_by : List Key → List Key → List Key
+  abbrev pub rows_by : List Key → List Key → List Key
   rows_by rows [] = rows
   rows_by rows (k ∷ ks) = rows_by (and_row rows (row_key k)) ks
 
-  rows_keys : (rows : List Key) (es : Entries) → rows_with rows es ≡ rows_by rows (keys es)
+  pub rows_keys : (rows : List Key) (es : Entries) → rows_with rows es ≡ rows_by rows (keys es)
   rows_keys rows [] = refl
   rows_keys rows (e ∷ es) = rows_keys (and_row rows (row_key e.0)) es
 

@@ -27,15 +27,15 @@ use Rattle.fisca_members.specs.Lookup.{count_at, counts_of}
 use Rattle.fisca_members.specs.declared.entity_members.EntityMembers.{EntityMembers}
 use Rattle.fisca_num.specs.Number.{Number, trunc_of}
 use Rattle.fisca_params.specs.Results.{and_then}
-use Rattle.fisca_run.proofs.Both.{Moving, here}
-use Rattle.fisca_run.proofs.Files.{IsMovement, axes_line, read_from}
-use Rattle.fisca_run.proofs.Parts.{IsSound, moved_sound}
-use Rattle.fisca_run.proofs.Placed.{AllOf, NoneOverlaps}
-use Rattle.fisca_run.proofs.Reading.{IsKept, all_kept}
-use Rattle.fisca_run.proofs.Said.{AreSaid, HasPeriod, default_read, said_whole}
-use Rattle.fisca_run.proofs.Shared.{Each, given_of}
-use Rattle.fisca_run.proofs.Situated.{AreGiven, inputs_there}
-use Rattle.fisca_run.proofs.Steps.{AllPart, CanPart, values_at, whole_parts}
+use Rattle.fisca_slots.proofs.Both.{Moving, here}
+use Rattle.fisca_slots.proofs.Files.{IsMovement, axes_line, read_from}
+use Rattle.fisca_slots.proofs.Parts.{IsSound, moved_sound}
+use Rattle.fisca_slots.proofs.Placed.{AllOf, NoneOverlaps}
+use Rattle.fisca_slots.proofs.Reading.{IsKept, all_kept}
+use Rattle.fisca_slots.proofs.Said.{AreSaid, HasPeriod, default_read, said_whole}
+use Rattle.fisca_slots.proofs.Shared.{Each, given_of}
+use Rattle.fisca_slots.proofs.Situated.{AreGiven, inputs_there}
+use Rattle.fisca_slots.proofs.Steps.{AllPart, CanPart, values_at, whole_parts}
 use Rattle.fisca_run_file.specs.Grids.{grid_of, grid_unless, specs_of}
 use Rattle.fisca_run_file.specs.Moved.{apart_from, is_overlap, moved_at as moved_input, moved_by, moved_of, moved_or_fault, period_moved, put_all_in, shared_or_fault, sharing_checked, variable_moved, with_moved}
 use Rattle.fisca_run_file.specs.Positions.{cut_by, cut_for, moved_at, situation_with, size_whole, with_values}
@@ -90,7 +90,7 @@ kept_given c x p line n w gs hs there period is all h =
 
 -- What axes move
 
-abbrev ArePeriods : List Given → Type 0
+abbrev pub ArePeriods : List Given → Type 0
 ArePeriods [] = ⊤
 ArePeriods (g ∷ gs) = (is_period g.period ≡ true) × ArePeriods gs
 
@@ -131,7 +131,7 @@ periods_behind : (gs : List Given) (g : Given) → ArePeriods gs → is_period g
 periods_behind [] g all one = (one, tt)
 periods_behind (h ∷ gs) g all one = (all.0, periods_behind gs g all.1 one)
 
-moved_periods : (c : Tables) (ms : List EntityMembers) (default : Option Span) (gs : List Given) (axes : List SaidAxis) (moved : List Given)
+pub moved_periods : (c : Tables) (ms : List EntityMembers) (default : Option Span) (gs : List Given) (axes : List SaidAxis) (moved : List Given)
     → HasPeriod default → AreSaid axes → ArePeriods gs
     → with_moved c ms default gs axes ≡ Ok moved → ArePeriods moved × (length moved ≡ length gs + length axes)
 moved_periods c ms default gs [] moved read said all h = let same : gs ≡ moved = cc in (subst ArePeriods same all, omega (arith, ap length (sym same)))
@@ -141,7 +141,7 @@ moved_periods c ms default gs (a ∷ axes) moved read said all h =
     (periods_behind gs one.0 all (one_moved ms default a (variable_moved c a.name) one.0 read said.0 one.1)) one.2 in
     (more.0, omega (arith, more.1, length-append gs (one.0 ∷ [])))
 
-none_overlaps : (given before gs : List Given) (ks : List Key) → apart_from given before gs ≡ Ok ks → NoneOverlaps given before gs
+pub none_overlaps : (given before gs : List Given) (ks : List Key) → apart_from given before gs ≡ Ok ks → NoneOverlaps given before gs
 none_overlaps given before [] ks h = tt
 none_overlaps given before (g ∷ gs) ks h = by (is_overlap given before g) refl h (none_overlaps given (before ++ g ∷ []) gs ks)
   where
@@ -153,7 +153,7 @@ none_overlaps given before (g ∷ gs) ks h = by (is_overlap given before g) refl
 
 -- Values
 
-cut_parts : (o : Option Variable) (v : Number) → CanPart v → CanPart (cut_by o v)
+pub cut_parts : (o : Option Variable) (v : Number) → CanPart v → CanPart (cut_by o v)
 cut_parts None v parts = parts
 cut_parts (Some x) v parts = by x.value_type
   where
@@ -167,17 +167,17 @@ cut_parts (Some x) v parts = by x.value_type
 
 module _ (c : Tables) where
   -- inputs, each with the value that its axis has
-  abbrev moving : List Given → List Number → List Moving
+  abbrev pub moving : List Given → List Number → List Moving
   moving [] vs = []
   moving (g ∷ gs) [] = []
   moving (g ∷ gs) (v ∷ vs) = record { given = g; value = Some (cut_by (slice_get c.variables g.variable) v) } ∷ moving gs vs
 
-  read_moving : (gs : List Given) (vs : List Number) → length vs ≡ length gs → map given_of (moving gs vs) ≡ gs
+  pub read_moving : (gs : List Given) (vs : List Number) → length vs ≡ length gs → map given_of (moving gs vs) ≡ gs
   read_moving [] vs many = refl
   read_moving (g ∷ gs) [] many = absurd (omega (arith, many))
   read_moving (g ∷ gs) (v ∷ vs) many = ap (λ hs. g ∷ hs) (read_moving gs vs (omega (arith, many)))
 
-  here_moving : (gs : List Given) (vs : List Number) → map here (moving gs vs) ≡ with_values c gs vs
+  pub here_moving : (gs : List Given) (vs : List Number) → map here (moving gs vs) ≡ with_values c gs vs
   here_moving [] vs = refl
   here_moving (g ∷ gs) [] = refl
   here_moving (g ∷ gs) (v ∷ vs) = ap (λ hs. here (record { given = g; value = Some (cut_by (slice_get c.variables g.variable) v) }) ∷ hs) (here_moving gs vs)
@@ -193,11 +193,11 @@ module _ (c : Tables) where
 
 -- Positions
 
-length_specs : (xs : List SaidAxis) → length (specs_of xs) ≡ length xs
+pub length_specs : (xs : List SaidAxis) → length (specs_of xs) ≡ length xs
 length_specs [] = refl
 length_specs (x ∷ xs) = ap suc (length_specs xs)
 
-grid_parts : (key : ℕ) (a : SaidAxes) (groups : List (List AxisSpec)) → grid_of key a ≡ Ok groups
+pub grid_parts : (key : ℕ) (a : SaidAxes) (groups : List (List AxisSpec)) → grid_of key a ≡ Ok groups
     → (axes_fault (specs_of a.axes) a.lengths ≡ None) × (groups_of (specs_of a.axes) a.lengths ≡ groups)
 grid_parts key a groups h = by (axes_fault (specs_of a.axes) a.lengths) refl h
   where
@@ -206,7 +206,7 @@ grid_parts key a groups h = by (axes_fault (specs_of a.axes) a.lengths) refl h
     by None right e = let same : groups_of (specs_of a.axes) a.lengths ≡ groups = cc in (right, same)
     by (Some f) wrong e = cc
 
-shared_first : (key : ℕ) (r : Result Entries SituationFault) (ks : List Key) → shared_or_fault key r ≡ Ok ks → (es : Entries) × (r ≡ Ok es)
+pub shared_first : (key : ℕ) (r : Result Entries SituationFault) (ks : List Key) → shared_or_fault key r ≡ Ok ks → (es : Entries) × (r ≡ Ok es)
 shared_first key (Ok es) ks h = (es, refl)
 shared_first key (Err f) ks h = cc
 
@@ -241,7 +241,7 @@ with_axes_values c f position key vs values parts many periods are apart shares 
     situated c f position vs there.0 values (ap (λ gs. inputs_of rules counts (put_all_in f.given gs)) (sym (here_moving c f.moved vs)) ∙ there.1)
 
 module _ (c : Tables) (n : Node) (f : RunFile) (read : run_file_of c n ≡ Ok f) (position : ℕ) where
-  given_are : AreGiven f.given
+  pub given_are : AreGiven f.given
   given_are =
       let from = read_from c n f read in
       subst AreGiven (sym from.given)

@@ -47,7 +47,7 @@ keys_behind : (es : Entries) (k : Key) (x : Value) → keys (es ++ (k, x) ∷ []
 keys_behind [] k x = refl
 keys_behind (e ∷ es) k x = ap (λ ks. e.0 ∷ ks) (keys_behind es k x)
 
-same_has : (es fs : Entries) → keys es ≡ keys fs → (k : Key) → has es k ≡ has fs k
+pub same_has : (es fs : Entries) → keys es ≡ keys fs → (k : Key) → has es k ≡ has fs k
 same_has es fs same k = has_keys es k ∙ (ap (list_any (same_key k)) same ∙ sym (has_keys fs k))
 
 -- entries that have the keys of these
@@ -191,25 +191,25 @@ alone_both value line other x y k es fs new same equal h = by (has es k) (has fs
 
 -- Dividing
 
-count_alike : (es fs : Entries) → keys es ≡ keys fs → (ks : List Key) → count_free es ks ≡ count_free fs ks
+pub count_alike : (es fs : Entries) → keys es ≡ keys fs → (ks : List Key) → count_free es ks ≡ count_free fs ks
 count_alike es fs same [] = refl
 count_alike es fs same (k ∷ ks) = ap₂ (λ b n. if b then n else suc n) (same_has es fs same k) (count_alike es fs same ks)
 
 -- at each of these keys
-abbrev At : (Key → Type 0) → List Key → Type 0
+abbrev pub At : (Key → Type 0) → List Key → Type 0
 At P ks = (q : Key) → list_any (same_key q) ks ≡ true → P q
 
-behind : (P : Key → Type 0) (k : Key) (ks : List Key) → At P (k ∷ ks) → At P ks
+pub behind : (P : Key → Type 0) (k : Key) (ks : List Key) → At P (k ∷ ks) → At P ks
 behind P k ks all q inside = all q (second (same_key q k) (list_any (same_key q) ks) inside)
   where
     second : (a b : Bool) → b ≡ true → (a || b) ≡ true
     second true b e = refl
     second false b e = e
 
-first : (P : Key → Type 0) (k : Key) (ks : List Key) → At P (k ∷ ks) → P k
+pub first : (P : Key → Type 0) (k : Key) (ks : List Key) → At P (k ∷ ks) → P k
 first P k ks all = all k (ap (λ b. b || list_any (same_key k) ks) (laws-law.refl k))
 
-rest_alike : (line : ℕ) (es fs : Entries) (ks : List Key) (n : Number) → At (λ q. value_at es q ≡ value_at fs q) ks
+pub rest_alike : (line : ℕ) (es fs : Entries) (ks : List Key) (n : Number) → At (λ q. value_at es q ≡ value_at fs q) ks
     → rest_of line es ks n ≡ rest_of line fs ks n
 rest_alike line es fs [] n agree = refl
 rest_alike line es fs (k ∷ ks) n agree =
@@ -287,12 +287,12 @@ none_here es fs same q none = by (value_at fs q) (sym (same_has es fs same q) �
     by (Some x) h = cc
 
 -- a number shared over all keys
-spread_all : (line count : ℕ) (ks : List Key) (es : Entries) (n : Number) → At (λ q. value_at es q ≡ None) ks → length ks ≡ count
+pub spread_all : (line count : ℕ) (ks : List Key) (es : Entries) (n : Number) → At (λ q. value_at es q ≡ None) ks → length ks ≡ count
     → divided line n ks es ≡ spread line count ks es n
 spread_all line count ks es n free many =
     ap (λ r. and_then r (spread line (count_free es ks) ks es)) (rest_free line es ks n free) ∙ ap (λ c. spread line c ks es n) (count_all es ks free ∙ many)
 
-some_count : (n : ℕ) → nat_lt 1 n ≡ true → (n == 0) ≡ false
+pub some_count : (n : ℕ) → nat_lt 1 n ≡ true → (n == 0) ≡ false
 some_count n h = by (n == 0) refl
   where
     by : (b : Bool) → (n == 0) ≡ b → b ≡ false
@@ -356,7 +356,7 @@ over_both (Some DispatchByPeriod) t count ks es fs new same settled many some pa
 abbrev pub IsSettled : Rule → Entries → Entries → Moving → Type 0
 IsSettled r es fs t = fits r.unit t.given.period ≡ false → (q : Key) → list_any (same_key q) (parts_of r t.given) ≡ true → Settled t.value es fs q
 
-length_parts : (x m : ℕ) (ps : List Span) → length (map (λ p. key x m p) ps) ≡ length ps
+pub length_parts : (x m : ℕ) (ps : List Span) → length (map (λ p. key x m p) ps) ≡ length ps
 length_parts x m [] = refl
 length_parts x m (p ∷ ps) = ap suc (length_parts x m ps)
 

@@ -1,0 +1,6 @@
+//! What the axes of run files move, position by position: the inputs of a few keys are set anew, and all others stay.
+#![tactic(auto)]
+
+mod law;
+
+pub use law::{other_variables_stay, slots_turn_between_positions, slots_turn_from_the_start};

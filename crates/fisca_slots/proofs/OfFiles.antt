@@ -6,7 +6,8 @@ use Rattle.std.specs.Option.{unwrap_or}
 use Rattle.std.proofs.lemmas.Bool.{lt-ltb}
 use Rattle.fisca_calc.specs.Calc.{default_in}
 use Rattle.fisca_grid.specs.AxesRow.{values_of}
-use Rattle.fisca_grid.specs.Grid.{axes_at, axes_in, counts_of, places_at}
+use Rattle.fisca_grid.specs.Grid.{axes_at, axes_in, counts_of}
+use Rattle.fisca_lines.specs.Odometer.{places_at}
 use Rattle.fisca_inputs.proofs.Typed.{then_ok}
 use Rattle.fisca_inputs.specs.Entries.{Entries, key, same_key, value_at}
 use Rattle.fisca_inputs.specs.Inputs.{inputs_of, is_marked, key_given, without_marked}

@@ -1,7 +1,8 @@
 -- What the axes of a run file move: the keys of their inputs, and what stands at these where the axes have values. To turn a slot is to set the inputs of
 -- its keys anew, where all others stay.
 use Rattle.std.specs.Prelude.{◌≡◌, ⊤, ℕ, suc, ◌==◌, nat_lt, List, [], ◌∷◌, ◌++◌, length, map, Bool, true, false, if◌then◌else◌, Option, Some, None, Result, Ok, Err, slice_get}
-use Rattle.fisca_grid.specs.Grid.{counts_of, places_at}
+use Rattle.fisca_grid.specs.Grid.{counts_of}
+use Rattle.fisca_lines.specs.Odometer.{places_at}
 use Rattle.fisca_slots.specs.Anew.{set_keys}
 use Rattle.fisca_inputs.specs.Entries.{Entries, key}
 use Rattle.fisca_inputs.specs.Inputs.{is_marked}

@@ -185,7 +185,7 @@ fn remembered_values<R: Recall + Drop>(
     let tree = read(alloc, text)?;
     let file = CalcFile::read(alloc, &rules.tables, &tree)?;
     let CalcFile { situation, columns } = file;
-    let evaluator = fisca_memo::Evaluator::new(alloc, rules, &[], situation, recall);
+    let evaluator = fisca_memo::Evaluator::new(alloc, rules, &[], &[], situation, recall);
     let (evaluator, shown) = shown(alloc, rules, columns.as_slice(), evaluator)?;
     Ok((shown, evaluator.counts()))
 }

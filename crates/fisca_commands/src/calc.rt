@@ -73,7 +73,7 @@ fn write_values<S: RowSink>(
 {
     let CalcFile { situation, columns } = file;
     let recall = IndexRecall::new(alloc);
-    let evaluator = Evaluator::new(alloc, rules, &[], situation, recall);
+    let evaluator = Evaluator::new(alloc, rules, &[], &[], situation, recall);
     let (evaluator, end) = write_columns(alloc, &rules.tables, columns.as_slice(), evaluator, sink);
     match end {
         Ok(_) => Ok(()),

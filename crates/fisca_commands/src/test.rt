@@ -46,7 +46,7 @@ impl<'r, 't> Scenes<Evaluator<'r, 't, IndexRecall>> for RuleScenes<'r, 't> {
         situation: Situation,
     ) -> Result<Evaluator<'r, 't, IndexRecall>, AllocError> {
         let recall = IndexRecall::new(alloc);
-        Ok(Evaluator::new(alloc, self.rules, &[], situation, recall))
+        Ok(Evaluator::new(alloc, self.rules, &[], &[], situation, recall))
     }
 }
 

@@ -4,5 +4,6 @@ pub mod Outcomes
 pub mod Recalls
 pub mod Remembering
 pub mod Risen
+pub mod Turning
 mod WorkedCounting
 pub mod Working

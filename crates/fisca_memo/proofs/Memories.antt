@@ -1,38 +1,35 @@
 -- What is remembered stays so.
-use Rattle.std.proofs.Common.{◌≡◌, ◌⊎◌, inl, inr, ℕ, zero, suc, ◌==◌, None, true, sym, ap, subst, ◌∙◌}
+use Rattle.std.proofs.Common.{◌≡◌, ◌⊎◌, ℕ, zero, suc, ◌==◌, eqb-true, eq-eqb, Bool, true, false, if◌then◌else◌, None, refl, sym, ap, ◌∙◌}
 use Rattle.std.proofs.lemmas.Bool.{false≢true}
-use Rattle.std.proofs.lemmas.Nat.Bits.{bit_at-zero}
 use Rattle.fisca_meaning.specs.Dialogues.{Key}
 use Rattle.fisca_answers.specs.Answers.{Sources}
 use Rattle.fisca_heights.specs.Entries.{Entry, Entries, Remembered, with_entry}
 use Rattle.fisca_heights.specs.Memory.{HasFormula, IsKnown}
-use Rattle.fisca_heights.specs.Reads.{Moves, ReadsAt, IsReads}
+use Rattle.fisca_heights.specs.Reads.{IsReads, Moves, unless_moved}
 use Rattle.fisca_heights.specs.Work.{IsWork}
+use Rattle.fisca_heights.proofs.Frees.{free_none, free_more, free_same, free_moved}
 use Rattle.fisca_heights.proofs.Growing.{empty_true, kept_true}
 use Rattle.fisca_heights.proofs.Reading.{kept_reads}
-use Rattle.fisca_memo.specs.Recalled.{IsMemory, no_marks}
-
--- No key reads a wheel
-
-none_moves : (wheel : ℕ) (key : Key) → Moves no_marks wheel key → ⊥
-none_moves wheel key h = false≢true (sym (ap (λ n. n == 1) (bit_at-zero wheel)) ∙ h)
-
-none_read : (src : Sources) (wheel n : ℕ) (key : Key) → ReadsAt (Moves no_marks wheel) src n key → ⊥
-unfolding ReadsAt
-none_read src wheel zero key r = none_moves wheel key r
-none_read src wheel (suc n) key (inl m) = none_moves wheel key m
-none_read src wheel (suc n) key (inr r) = none_read src wheel n r.2 r.4
-
-unread : (src : Sources) (key : Key) → IsReads no_marks src key 0
-unread src key n def wheel = (λ h. absurd (none_moves wheel key h), λ r. absurd (none_read src wheel n key r))
+use Rattle.fisca_heights.proofs.Turned.{turned_true, turned_reads}
+use Rattle.fisca_recall.specs.Counted.{one_more}
+use Rattle.fisca_memo.specs.Counting.{CountsFree}
+use Rattle.fisca_memo.specs.Recalled.{IsMemory}
 
 -- One more entry
 
-pub kept_memory : (src : Sources) (m : Entries) (key : Key) (e : Entry) → IsMemory src m → IsKnown src e.height key e.value e.height → e.reads ≡ 0
-    → ((n : ℕ) (k : Key) → IsWork src n key k → (k ≡ key) ⊎ Remembered m k) → HasFormula src key → IsMemory src (with_entry m key e)
-kept_memory src m key e memory known read work formula = record {
+pub kept_frees : (m : Entries) (key : Key) (e : Entry) (free : ℕ) → (Remembered m key → ⊥) → CountsFree m free → CountsFree (with_entry m key e) (if e.reads == 0 then one_more free else free)
+kept_frees m key e free none counts = by (e.reads == 0) refl
+  where
+    by : (b : Bool) → (e.reads == 0) ≡ b → CountsFree (with_entry m key e) (if b then one_more free else free)
+    by true p = record { count = suc counts.count; keys = free_more m key e none (eqb-true e.reads 0 p) counts.count counts.keys; counted = ap one_more counts.counted }
+    by false p = record { count = counts.count; keys = free_same m key e none (λ r. false≢true (sym p ∙ eq-eqb e.reads 0 r)) counts.count counts.keys; counted = counts.counted }
+
+pub kept_memory : (marks : Key → ℕ) (src : Sources) (m : Entries) (free : ℕ) (key : Key) (e : Entry) → IsMemory marks src m free → IsKnown src e.height key e.value e.height → IsReads marks src key e.reads
+    → ((n : ℕ) (k : Key) → IsWork src n key k → (k ≡ key) ⊎ Remembered m k) → HasFormula src key → (Remembered m key → ⊥) → IsMemory marks src (with_entry m key e) (if e.reads == 0 then one_more free else free)
+kept_memory marks src m free key e memory known read work formula none = record {
   truth = kept_true src m key e memory.truth known work formula;
-  reads = kept_reads no_marks src m key e memory.reads (subst (IsReads no_marks src key) (sym read) (unread src key));
+  reads = kept_reads marks src m key e memory.reads read;
+  frees = kept_frees m key e free none memory.frees;
 }
 
 -- Nothing is remembered
@@ -40,8 +37,19 @@ kept_memory src m key e memory known read work formula = record {
 pub none_there : (m : Entries) (key : Key) → m key ≡ None → Remembered m key → ⊥
 none_there m key none r = let some = r.1 in cc
 
-pub empty_memory : (src : Sources) (m : Entries) → ((k : Key) → m k ≡ None) → IsMemory src m
-empty_memory src m none = record {
+pub empty_memory : (marks : Key → ℕ) (src : Sources) (m : Entries) → ((k : Key) → m k ≡ None) → IsMemory marks src m 0
+empty_memory marks src m none = record {
   truth = empty_true src m none;
   reads = λ key e h. absurd (none_there m key (none key) (e, h));
+  frees = record { count = 0; keys = free_none m none; counted = refl };
+}
+
+-- A wheel turns
+
+pub turned_memory : (marks : Key → ℕ) (wheel : ℕ) (old new : Sources) (before after : Entries) (free : ℕ) → ((k : Key) → (Moves marks wheel k → ⊥) → new k ≡ old k)
+    → ((k : Key) → after k ≡ unless_moved wheel (before k)) → IsMemory marks old before free → IsMemory marks new after free
+turned_memory marks wheel old new before after free still dropped memory = record {
+  truth = turned_true marks wheel old new still before after dropped memory.truth memory.reads;
+  reads = turned_reads marks wheel old new still before after dropped memory.truth memory.reads;
+  frees = record { count = memory.frees.count; keys = free_moved before after wheel memory.frees.count dropped memory.frees.keys; counted = memory.frees.counted };
 }

@@ -4,9 +4,11 @@ use Rattle.std.proofs.lemmas.List.{length-map}
 use Rattle.fisca_answers.specs.Answers.{known}
 use Rattle.fisca_answers.specs.Inquiry.{Fault, fault_at, too_deep}
 use Rattle.fisca_answers.specs.Keys.{has}
-use Rattle.fisca_answers.specs.Stacks.{first_of, IsAskable}
+use Rattle.fisca_answers.specs.Stacks.{first_of, left_below, IsAskable}
 use Rattle.fisca_heights.specs.Entries.{Entries, Remembered}
-use Rattle.fisca_heights.specs.Memory.{IsTrueEntry}
+use Rattle.fisca_heights.specs.Memory.{IsKnown, IsTrueEntry, IsTrueMemory}
+use Rattle.fisca_heights.specs.Reads.{AreReads, IsReads}
+use Rattle.fisca_heights.proofs.Reading.{known_reads}
 use Rattle.fisca_heights.proofs.Settled.{low_known, tall_answer, full_answer, at_hand_known}
 use Rattle.fisca_heights.proofs.WorkDone.{work_none}
 use Rattle.fisca_inputs.specs.Seen.{key_seen, value_seen}
@@ -14,8 +16,8 @@ use Rattle.fisca_inputs.specs.declared.given.Value.{Value as Given}
 use Rattle.fisca_inputs.specs.declared.key.Key.{Key}
 use Rattle.fisca_recall.specs.Found.{entry_seen}
 use Rattle.fisca_recall.specs.declared.known.Known.{Known}
-use Rattle.fisca_memo.specs.Recalled.{IfTold, IsDoneBelow, IsMemory, IsStack, IsKnownBelow, IsKnownOf}
-use Rattle.fisca_memo.specs.Scenes.{sources_in, wanted}
+use Rattle.fisca_memo.specs.Recalled.{IfTold, IsDoneBelow, IsStack, IsKnownBelow, IsKnownOf}
+use Rattle.fisca_memo.specs.Scenes.{HasRead, marks_in, sources_in, wanted}
 use Rattle.fisca_memo.specs.declared.scene.Scene.{Scene}
 
 pub if_told : (o : Option Fault) (P : Type 0) → P → IfTold o P
@@ -24,15 +26,18 @@ if_told (Some f) P p = p
 
 module _ (s : Scene) (keys : List Key) (key : Key) where
   -- what is found of the key
-  module _ (m : Entries) (o : Option Known) (k : Known) (memory : IsMemory (sources_in s) m) (is : o ≡ Some k) (e : option_map entry_seen o ≡ m (key_seen key)) where
+  module _ (m : Entries) (o : Option Known) (k : Known) (truth : IsTrueMemory (sources_in s) m) (is : o ≡ Some k) (e : option_map entry_seen o ≡ m (key_seen key)) where
     found_so : IsKnownOf (sources_in s) key k
-    found_so = subst (IsTrueEntry (sources_in s) (key_seen key)) (sym e ∙ ap (option_map entry_seen) is) (memory.truth.each (key_seen key))
+    found_so = subst (IsTrueEntry (sources_in s) (key_seen key)) (sym e ∙ ap (option_map entry_seen) is) (truth.each (key_seen key))
 
     pub hit_below : k.height ≤ 100 - length keys → IsKnownBelow (sources_in s) keys key k
     hit_below le = low_known (sources_in s) (map key_seen keys) (key_seen key) (value_seen k.value) k.height found_so (omega (arith, le, length-map keys key_seen))
 
     pub hit_tall : IsStack (sources_in s) keys key → 100 - length keys < k.height → wanted s keys key ≡ Err (fault_at too_deep (first_of (map key_seen keys) (key_seen key)))
     hit_tall stack more = tall_answer (sources_in s) (map key_seen keys) (key_seen key) stack k.height found_so.height_is (omega (arith, more, length-map keys key_seen))
+
+    pub hit_read : AreReads (marks_in s) (sources_in s) m → HasRead s key k
+    hit_read reads = reads (key_seen key) (entry_seen k) (sym e ∙ ap (option_map entry_seen) is)
 
   -- a hundred other keys stand above it
   pub full_below : IsStack (sources_in s) keys key → has (map key_seen keys) (key_seen key) ≡ false → IsAskable (sources_in s (key_seen key)) → length keys ≡ 100 → wanted s keys key ≡ Err (fault_at too_deep (first_of (map key_seen keys) (key_seen key)))
@@ -41,5 +46,8 @@ module _ (s : Scene) (keys : List Key) (key : Key) where
   pub full_done : (m : Entries) → length keys ≡ 100 → IsDoneBelow (sources_in s) m keys key
   full_done m long k w = absurd (work_none (sources_in s) (Remembered m) (key_seen key) k _ (omega (arith, length-map keys key_seen, long)) w)
 
-  pub hand_below : (v : Given) → sources_in s (key_seen key) ≡ known (value_seen v) → length keys < 100 → IsKnownBelow (sources_in s) keys key (record { value = v; height = 1; reads = 0 })
+  pub hand_below : (v : Given) → sources_in s (key_seen key) ≡ known (value_seen v) → length keys < 100 → IsKnown (sources_in s) (left_below (map key_seen keys)) (key_seen key) (value_seen v) 1
   hand_below v e room = at_hand_known (sources_in s) (map key_seen keys) (key_seen key) (value_seen v) e (omega (arith, room, length-map keys key_seen))
+
+  pub hand_read : (v : Given) → sources_in s (key_seen key) ≡ known (value_seen v) → IsReads (marks_in s) (sources_in s) (key_seen key) (marks_in s (key_seen key))
+  hand_read v e = known_reads (marks_in s) (sources_in s) (key_seen key) (value_seen v) e

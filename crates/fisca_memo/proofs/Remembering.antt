@@ -1,5 +1,5 @@
--- A key whose formula is worked out goes onto the stack, and what its formula gave is remembered.
-use Rattle.std.proofs.Common.{◌≡◌, inl, suc, ◌+◌, ◌<◌, List, [], ◌∷◌, ◌++◌, length, length-append, map, Option, false, sym, ap, subst, ◌∙◌, arith}
+-- A key whose formula is worked out goes onto the stack, and what its formula gives is remembered.
+use Rattle.std.proofs.Common.{◌≡◌, inl, ℕ, suc, ◌+◌, ◌<◌, List, [], ◌∷◌, ◌++◌, length, length-append, map, Option, false, sym, ap, subst, ◌∙◌, arith}
 use Rattle.std.proofs.lemmas.List.{length-map}
 use Rattle.fisca_answers.specs.Answers.{Sources}
 use Rattle.fisca_answers.specs.Inquiry.{Fault, of_key}
@@ -8,8 +8,8 @@ use Rattle.fisca_answers.specs.Stacks.{left_below, ends_below}
 use Rattle.fisca_answers.proofs.Below.{below_formula}
 use Rattle.fisca_formula.specs.declared.formula.Formula.{Formula}
 use Rattle.fisca_heights.specs.Added.{AreAdded}
-use Rattle.fisca_heights.specs.Entries.{Entries, Remembered, with_entry}
-use Rattle.fisca_heights.specs.Memory.{HasFormula, IsKnown}
+use Rattle.fisca_heights.specs.Entries.{Entry, Entries, Remembered, with_entry}
+use Rattle.fisca_heights.specs.Memory.{HasFormula, IsKnown, IsTrueMemory}
 use Rattle.fisca_heights.specs.Work.{IsWork, Covered, Grows, PassedPath}
 use Rattle.fisca_heights.specs.Stacks as stacks
 use Rattle.fisca_heights.proofs.Growing.{kept_here, grows_on, grows_entry}
@@ -19,7 +19,6 @@ use Rattle.fisca_inputs.specs.Seen.{key_seen, value_seen}
 use Rattle.fisca_inputs.specs.declared.key.Key.{Key}
 use Rattle.fisca_meaning.specs.Dialogues as meaning
 use Rattle.fisca_recall.specs.Counted.{with_kept, with_lost}
-use Rattle.fisca_recall.specs.Found.{entry_seen}
 use Rattle.fisca_recall.specs.declared.counts.Counts.{Counts}
 use Rattle.fisca_recall.specs.declared.known.Known.{Known}
 use Rattle.fisca_tables.specs.declared.variable.Variable.{Variable}
@@ -28,7 +27,7 @@ use Rattle.fisca_eval.specs.declared.fault.EvalFault.TheVariants as fault
 use Rattle.fisca_eval.proofs.Steps.{one_behind}
 use Rattle.fisca_memo.proofs.Risen.{counted_entry, counted_on}
 use Rattle.fisca_memo.specs.Counting.{IsCounted}
-use Rattle.fisca_memo.specs.Recalled.{HasPassed, HasPassedTo, IfTold, IsDoneAt, IsDoneBelow, IsKnownAt, IsKnownBelow, IsKnownOf, IsMemory, IsStack, IsWorking, work_at, work_below}
+use Rattle.fisca_memo.specs.Recalled.{HasPassed, HasPassedTo, IfTold, IsDoneAt, IsDoneBelow, IsKnownAt, IsKnownBelow, IsStack, IsWorking, work_at, work_below}
 use Rattle.fisca_memo.specs.Scenes.{sources_in, wanted, wanted_of_work, work}
 use Rattle.fisca_memo.specs.Scenes as scenes
 use Rattle.fisca_memo.specs.declared.scene.Scene.{Scene}
@@ -79,29 +78,30 @@ module _ (s : Scene) (keys : List Key) (key : Key) where
 
 -- Its value
 
-pub own_known : (s : Scene) (keys : List Key) (key : Key) (k : Known) → IsKnownAt (sources_in s) keys key k → IsKnownOf (sources_in s) key k
-own_known s keys key k h = at_height (sources_in s) (suc (left_below (map key_seen keys))) (key_seen key) (value_seen k.value) k.height h
+module _ (s : Scene) (keys : List Key) (key : Key) (v : meaning.Value) (h : ℕ) (known : IsKnown (sources_in s) (suc (left_below (map key_seen keys))) (key_seen key) v h) where
+  pub own_known : IsKnown (sources_in s) h (key_seen key) v h
+  own_known = at_height (sources_in s) (suc (left_below (map key_seen keys))) (key_seen key) v h known
 
-pub own_work : (s : Scene) (keys : List Key) (key : Key) (k : Known) → HasFormula (sources_in s) (key_seen key) → IsKnownBelow (sources_in s) keys key k → work_below (sources_in s) keys key (key_seen key)
-own_work s keys key k formula h = work_of_itself (sources_in s) (left_below (map key_seen keys)) (key_seen key) (value_seen k.value) formula h.answers
+  pub own_work : HasFormula (sources_in s) (key_seen key) → work_at (sources_in s) keys key (key_seen key)
+  own_work formula = work_of_itself (sources_in s) (suc (left_below (map key_seen keys))) (key_seen key) v formula known.answers
 
-module _ (src : Sources) (key : Key) (k : Known) (a b c : Entries) (is : c ≡ with_entry b (key_seen key) (entry_seen k)) where
-  pub kept_grows : (W : meaning.Key → Type 0) → W (key_seen key) → Grows a b W → Grows a c W
-  kept_grows W w g = subst (λ m. Grows a m W) (sym is) (grows_on a b (with_entry b (key_seen key) (entry_seen k)) W g (grows_entry b (key_seen key) (entry_seen k) W w))
+module _ (key : meaning.Key) (e : Entry) (a b c : Entries) (is : c ≡ with_entry b key e) where
+  pub kept_grows : (W : meaning.Key → Type 0) → W key → Grows a b W → Grows a c W
+  kept_grows W w g = subst (λ m. Grows a m W) (sym is) (grows_on a b (with_entry b key e) W g (grows_entry b key e W w))
 
-  pub kept_covered : IsMemory src c → Covered src (Remembered c) (key_seen key)
-  kept_covered memory = memory.truth.closed (key_seen key) (subst (λ m. Remembered m (key_seen key)) (sym is) (kept_here b (key_seen key) (entry_seen k)))
+  pub kept_covered : (src : Sources) → IsTrueMemory src c → Covered src (Remembered c) key
+  kept_covered src truth = truth.closed key (subst (λ m. Remembered m key) (sym is) (kept_here b key e))
 
-  pub kept_counted : (x y z : Counts) → IsCounted a b x y → z ≡ with_kept k.reads y → k.reads ≡ 0 → (Remembered b (key_seen key) → ⊥) → IsCounted a c x z
-  kept_counted x y z counted e read none =
-      let one : IsCounted b (with_entry b (key_seen key) (entry_seen k)) y (with_kept 0 y) = counted_entry b (key_seen key) (entry_seen k) y none in
-      let so : z ≡ with_kept 0 y = e ∙ ap (λ n. with_kept n y) read in
-      counted_on a b c x y z counted (subst (λ m. IsCounted b m y z) (sym is) (subst (λ w. IsCounted b (with_entry b (key_seen key) (entry_seen k)) y w) (sym so) one))
+  pub kept_counted : (x y z : Counts) → IsCounted a b x y → z ≡ with_kept e.reads y → (Remembered b key → ⊥) → IsCounted a c x z
+  kept_counted x y z counted kept none =
+      let one : IsCounted b (with_entry b key e) y (with_kept e.reads y) = counted_entry b key e y none in
+      counted_on a b c x y z counted (subst (λ m. IsCounted b m y z) (sym is) (subst (λ w. IsCounted b (with_entry b key e) y w) (sym kept) one))
 
 pub lost_counted : (a b c : Entries) (x y z : Counts) → c ≡ b → z ≡ with_lost y → IsCounted a b x y → IsCounted a c x z
 lost_counted a b c x y z same e counted = record {
-  count = counted.count;
-  added = subst (λ m. AreAdded a m counted.count) (sym same) counted.added;
+  more_free = counted.more_free;
+  more_bound = counted.more_bound;
+  added = subst (λ m. AreAdded a m (counted.more_free + counted.more_bound)) (sym same) counted.added;
   free = ap (λ w. w.free) e ∙ counted.free;
   bound = ap (λ w. w.bound) e ∙ counted.bound;
 }

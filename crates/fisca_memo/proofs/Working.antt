@@ -1,5 +1,6 @@
 -- The formula of the last of the keys, question by question.
-use Rattle.std.proofs.Common.{◌≡◌, ◌⊎◌, ℕ, ◌+◌, ◌<◌, max, List, [], ◌∷◌, ◌++◌, length, map, Option, Some, None, Result, Err, sym, ap, subst}
+use Rattle.std.proofs.Common.{◌≡◌, ◌⊎◌, ℕ, suc, ◌+◌, ◌<◌, max, List, [], ◌∷◌, ◌++◌, length, map, Option, Some, None, Result, Err, sym, ap, subst}
+use Rattle.std.specs.Int.Bits.{bit_or}
 use Rattle.fisca_answers.specs.Answers.{Sources, value_within}
 use Rattle.fisca_answers.specs.Chains.{AsksFor, asked}
 use Rattle.fisca_answers.specs.Inquiry.{Fault, Inquiry, asks, named, of_key}
@@ -7,8 +8,11 @@ use Rattle.fisca_answers.specs.Stacks.{left_below}
 use Rattle.fisca_formula.specs.Formulas.{formula_view}
 use Rattle.fisca_formula.specs.declared.formula.Formula.{Formula}
 use Rattle.fisca_heights.specs.Gathered.{IsGathered}
+use Rattle.fisca_heights.specs.Memory.{IsKnown}
+use Rattle.fisca_heights.specs.Reads.{IsReads}
 use Rattle.fisca_heights.specs.Work.{IsWork, Covered, PassedPath}
 use Rattle.fisca_heights.proofs.Gathering.{gathered_none, gathered_asks}
+use Rattle.fisca_heights.proofs.Reading.{AreRead, ReadsWithin, read_more, reading_done, reading_more}
 use Rattle.fisca_heights.proofs.Steps.{worked_value, worked_all, worked_fault, fault_stopped, needed_stack, needed_fault, needed_more, needed_less, needs_work, needs_stopped, needs_passed}
 use Rattle.fisca_inputs.specs.Seen.{key_seen, value_seen}
 use Rattle.fisca_inputs.specs.Typed.{IsValueOf}
@@ -32,8 +36,8 @@ use Rattle.fisca_variables.specs.VariableForms.{written}
 use Rattle.fisca_eval.specs.Faults.{IsTold}
 use Rattle.fisca_eval.proofs.Steps.{is_told}
 use Rattle.fisca_memo.proofs.Apart.{apart}
-use Rattle.fisca_memo.specs.Recalled.{IfTold, IsKnownAt, IsKnownBelow, IsStack, IsWorking, work_at, work_below}
-use Rattle.fisca_memo.specs.Scenes.{IsScene, known_in, seen, sources_in, wanted, wanted_of_work, work}
+use Rattle.fisca_memo.specs.Recalled.{IfTold, IsKnownBelow, IsStack, IsWorking, work_at, work_below}
+use Rattle.fisca_memo.specs.Scenes.{HasRead, IsScene, known_in, marks_in, seen, sources_in, wanted, wanted_of_work, work}
 use Rattle.fisca_memo.specs.Scenes as scenes
 use Rattle.fisca_memo.specs.declared.scene.Scene.{Scene}
 
@@ -70,7 +74,7 @@ module _ (s : Scene) (v : Variable) (f : Formula) (key : Key) (keys : List Key) 
 
   -- it gives a value
   module _ (x : Given) (e : r ≡ meaning.gives (value_seen x)) where
-    pub done_known : IsKnownAt (sources_in s) keys key (record { value = x; height = tallest + 1; reads = 0 })
+    pub done_known : IsKnown (sources_in s) (suc (left_below (map key_seen keys))) (key_seen key) (value_seen x) (tallest + 1)
     done_known = worked_value src stack k q now tallest M is.source g (value_seen x) (ap (of_key k) e)
 
     pub done_all : (n : ℕ) (i : meaning.Key) → IsWork (sources_in s) n (key_seen key) i → (i ≡ key_seen key) ⊎ M i
@@ -131,3 +135,33 @@ module _ (s : Scene) (v : Variable) (f : Formula) (key : Key) (keys : List Key) 
           let asked_so : GivesOnly c (IsValueOf c key.variable) (meaning.asks (key_seen j) go) = subst (GivesOnly c (IsValueOf c key.variable)) e h in
           let sound : AreSound c (sources_in s) = sources_sound (seen s) scene.safe scene.fit in
           asked_so.2 (value_seen x.value) (typed_is_of c (variable_type c j.variable) asked_so.0 (value_seen x.value) asked_so.1 (values_fit c (sources_in s) sound (left_below stack) (key_seen j) (value_seen x.value) known.answers))
+
+-- of the formula's dialogue r is left, and all that was asked for so far reads just these wheels
+module _ (s : Scene) (v : Variable) (f : Formula) (key : Key) (keys : List Key) (r : Dialogue) (tallest reads : ℕ) (is : scenes.IsWork s v f key)
+    (g : IsGathered (sources_in s) (left_below (map key_seen keys)) (of_key (key_seen key) (work s v f key)) (of_key (key_seen key) r) tallest
+      (ReadsWithin (marks_in s) (sources_in s) (left_below (map key_seen keys)) reads))
+    (read : AreRead (marks_in s) (sources_in s) (left_below (map key_seen keys)) (of_key (key_seen key) (work s v f key)) reads) where
+  abbrev fuel : ℕ
+  fuel = left_below (map key_seen keys)
+
+  abbrev own : meaning.Key
+  own = key_seen key
+
+  abbrev whole : Inquiry
+  whole = of_key (key_seen key) (work s v f key)
+
+  -- it gives a value
+  pub done_read : (x : Given) → r ≡ meaning.gives (value_seen x) → IsReads (marks_in s) (sources_in s) (key_seen key) (bit_or reads (marks_in s (key_seen key)))
+  done_read x e = reading_done (marks_in s) (sources_in s) fuel whole (of_key own r) tallest reads g own (value_seen x) is.source (ap (of_key own) e) read
+
+  -- it asks for j, and there is one more answer
+  module _ (j : Key) (go : Value → Dialogue) (e : r ≡ meaning.asks (key_seen j) go) (x : Known) (known : IsKnownBelow (sources_in s) keys j x) (more : HasRead s j x) where
+    abbrev then_left_of : Value → Inquiry
+    then_left_of = λ y. of_key own (go y)
+
+    pub next_reading : IsGathered (sources_in s) (left_below (map key_seen keys)) (of_key (key_seen key) (work s v f key)) (of_key (key_seen key) (go (value_seen x.value))) (max tallest x.height)
+        (ReadsWithin (marks_in s) (sources_in s) (left_below (map key_seen keys)) (bit_or reads x.reads))
+    next_reading = reading_more (marks_in s) (sources_in s) fuel whole (of_key own r) tallest reads g (key_seen j) then_left_of (ap (of_key own) e) (value_seen x.value) x.height x.reads known.answers known.height_is more
+
+    pub next_read : AreRead (marks_in s) (sources_in s) (left_below (map key_seen keys)) (of_key (key_seen key) (work s v f key)) (bit_or reads x.reads)
+    next_read = read_more (marks_in s) (sources_in s) fuel whole (of_key own r) tallest reads g (key_seen j) then_left_of (ap (of_key own) e) (value_seen x.value) x.height x.reads known.answers known.height_is more read

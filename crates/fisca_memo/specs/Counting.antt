@@ -1,9 +1,9 @@
 -- How counts rise with what is remembered.
-use Rattle.std.specs.Prelude.{◌≡◌, ◌⊎◌, ℕ, zero, suc, Option, Some, None, Result, Ok, Err}
+use Rattle.std.specs.Prelude.{◌≡◌, ◌⊎◌, ℕ, zero, suc, ◌+◌, Option, Some, None, Result, Ok, Err}
 use Rattle.fisca_answers.specs.Inquiry.{Fault}
 use Rattle.fisca_eval.specs.Faults.{told}
 use Rattle.fisca_eval.specs.declared.fault.EvalFault.{EvalFault}
-use Rattle.fisca_heights.specs.Added.{AreAdded}
+use Rattle.fisca_heights.specs.Added.{AreAdded, IsFree}
 use Rattle.fisca_heights.specs.Entries.{Entries}
 use Rattle.fisca_recall.specs.Counted.{one_more}
 use Rattle.fisca_recall.specs.declared.counts.Counts.{Counts}
@@ -13,12 +13,19 @@ abbrev pub raised : ℕ → ℕ → ℕ
 raised count zero = count
 raised count (suc more) = one_more (raised count more)
 
--- So many keys are remembered that were not, and each is counted. As no key reads a wheel, `bound` stays.
+-- So many keys are remembered that were not, and each is counted: these read no wheel, and those read some.
 pub record IsCounted (old new : Entries) (before after : Counts) : Type 0 where
+  pub more_free : ℕ
+  pub more_bound : ℕ
+  pub added : AreAdded old new (more_free + more_bound)
+  pub free : after.free ≡ raised before.free more_free
+  pub bound : after.bound ≡ raised before.bound more_bound
+
+-- the keys of which something is remembered that reads no wheel are counted, as far as a count goes
+pub record CountsFree (entries : Entries) (free : ℕ) : Type 0 where
   pub count : ℕ
-  pub added : AreAdded old new count
-  pub free : after.free ≡ raised before.free count
-  pub bound : after.bound ≡ before.bound
+  pub keys : IsFree entries count
+  pub counted : free ≡ raised 0 count
 
 -- a fault of a key loses no value, and want of memory one at most
 abbrev pub IsLost : Option Fault → ℕ → ℕ → Type 0

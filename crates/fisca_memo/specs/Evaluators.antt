@@ -1,17 +1,19 @@
 -- What an evaluator that remembers answers.
-use Rattle.std.specs.Prelude.{Result}
+use Rattle.std.specs.Prelude.{◌≡◌, ℕ, Result}
 use Rattle.fisca_answers.specs.Answers.{answer, most_keys}
 use Rattle.fisca_answers.specs.Inquiry.{Fault}
 use Rattle.fisca_eval.specs.Told.{IsReady}
 use Rattle.fisca_heights.specs.Entries.{Entries}
+use Rattle.fisca_heights.specs.Reads.{Moves}
 use Rattle.fisca_heights.specs.Work.{IsWork}
-use Rattle.fisca_inputs.specs.Seen.{key_seen}
+use Rattle.fisca_inputs.specs.Entries.{value_at}
+use Rattle.fisca_inputs.specs.Seen.{key_of, key_seen}
 use Rattle.fisca_inputs.specs.declared.key.Key.{Key}
 use Rattle.fisca_meaning.specs.Dialogues as meaning
 use Rattle.fisca_rules.specs.Views.{rule_set}
 use Rattle.fisca_situations.specs.Views.{situation}
 use Rattle.fisca_sources.specs.Simulations.{Simulation, normal_key, sources}
-use Rattle.fisca_memo.specs.Recalled.{IsMemory}
+use Rattle.fisca_memo.specs.Recalled.{IsMemory, marks_of}
 use Rattle.fisca_memo.specs.declared.evaluator.Evaluator.{Evaluator}
 
 abbrev pub simulation_of : {R : Type 0} → Evaluator R → Simulation
@@ -29,11 +31,28 @@ answer_in e key = answer (sources (simulation_of e)) (own_key e key)
 abbrev pub work_in : {R : Type 0} → Evaluator R → Key → meaning.Key → Type 0
 work_in e key = IsWork (sources (simulation_of e)) most_keys (own_key e key)
 
--- what an evaluator remembers is so in its situation
-abbrev pub IsMemoryOf : Simulation → Entries → Type 0
-IsMemoryOf m entries = IsMemory (sources m) entries
+-- the wheels of each key's variable
+abbrev pub marks_in : {R : Type 0} → Evaluator R → meaning.Key → ℕ
+marks_in e = marks_of e.wheels.now
+
+-- what an evaluator remembers, and how many keys of it read no wheel, is so in its situation
+abbrev pub IsMemoryOf : (meaning.Key → ℕ) → Simulation → Entries → ℕ → Type 0
+IsMemoryOf marks m entries free = IsMemory marks (sources m) entries free
 
 -- the rule set is safe, the inputs are of their types, and what is remembered is so
-pub record CanAnswer (m : Simulation) (entries : Entries) : Type 0 where
+pub record CanAnswer (marks : meaning.Key → ℕ) (m : Simulation) (entries : Entries) (free : ℕ) : Type 0 where
   pub ready : IsReady m
-  pub memory : IsMemoryOf m entries
+  pub memory : IsMemoryOf marks m entries free
+
+-- A wheel turns
+
+-- what the values of keys without the wheel's mark come from stays
+abbrev pub IsStill : (meaning.Key → ℕ) → ℕ → Simulation → Simulation → Type 0
+IsStill marks wheel old new = (k : meaning.Key) → (Moves marks wheel k → ⊥) → sources new k ≡ sources old k
+
+-- inputs of keys with the wheel's mark may be others, and nothing else is
+pub record IsTurned (marks : meaning.Key → ℕ) (wheel : ℕ) (old new : Simulation) : Type 0 where
+  pub rules : new.rules ≡ old.rules
+  pub members : new.situation.members ≡ old.situation.members
+  pub neutral : new.neutral ≡ old.neutral
+  pub inputs : (k : meaning.Key) → (Moves marks wheel k → ⊥) → value_at new.situation.inputs (key_of k) ≡ value_at old.situation.inputs (key_of k)

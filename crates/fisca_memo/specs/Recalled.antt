@@ -1,5 +1,6 @@
 -- What is remembered where keys are worked out below one another.
-use Rattle.std.specs.Prelude.{◌≡◌, ⊤, ◌⊎◌, ℕ, suc, List, [], ◌∷◌, ◌++◌, map, Option, Some, None}
+use Rattle.std.specs.Prelude.{◌≡◌, ⊤, ◌⊎◌, ℕ, suc, List, [], ◌∷◌, ◌++◌, map, slice_get, Option, Some, None}
+use Rattle.std.specs.Option.{unwrap_or}
 use Rattle.fisca_answers.specs.Answers.{Sources}
 use Rattle.fisca_answers.specs.Inquiry.{Fault}
 use Rattle.fisca_answers.specs.Stacks.{left_below}
@@ -12,15 +13,17 @@ use Rattle.fisca_inputs.specs.Seen.{key_seen, value_seen}
 use Rattle.fisca_inputs.specs.declared.key.Key.{Key}
 use Rattle.fisca_meaning.specs.Dialogues as meaning
 use Rattle.fisca_recall.specs.declared.known.Known.{Known}
+use Rattle.fisca_memo.specs.Counting.{CountsFree}
 
--- no wheel turns, so no key has a mark
-abbrev pub no_marks : meaning.Key → ℕ
-no_marks k = 0
+-- the wheels of each key's variable, by its place, as the bits of numbers; past the last number there is none
+abbrev pub marks_of : List ℕ → meaning.Key → ℕ
+marks_of wheels k = unwrap_or (slice_get wheels k.variable) 0
 
--- what is remembered is true, and has what its keys read
-pub record IsMemory (src : Sources) (entries : Entries) : Type 0 where
+-- what is remembered is true, and has what its keys read, and those that read no wheel are counted
+pub record IsMemory (marks : meaning.Key → ℕ) (src : Sources) (entries : Entries) (free : ℕ) : Type 0 where
   pub truth : IsTrueMemory src entries
-  pub reads : AreReads no_marks src entries
+  pub reads : AreReads marks src entries
+  pub frees : CountsFree entries free
 
 -- what is told of an answer is so; want of memory tells nothing
 abbrev pub IfTold : Option Fault → Type 0 → Type 0

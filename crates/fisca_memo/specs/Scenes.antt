@@ -1,16 +1,20 @@
 -- What keys are worked out over, and their answers below others.
-use Rattle.std.specs.Prelude.{◌≡◌, List, map, Result}
+use Rattle.std.specs.Prelude.{◌≡◌, ℕ, List, map, Result}
 use Rattle.fisca_answers.specs.Answers.{Sources, formula}
 use Rattle.fisca_answers.specs.Inquiry.{Fault, of_key}
 use Rattle.fisca_answers.specs.Stacks.{answer_below, ends_below}
 use Rattle.fisca_formula.specs.Formulas.{formula_view}
 use Rattle.fisca_formula.specs.declared.formula.Formula.{Formula}
+use Rattle.fisca_heights.specs.Entries.{Entries}
+use Rattle.fisca_heights.specs.Reads.{IsReads}
 use Rattle.fisca_inputs.specs.Seen.{key_seen}
 use Rattle.fisca_inputs.specs.Typed.{IsValueOf}
 use Rattle.fisca_inputs.specs.declared.key.Key.{Key}
 use Rattle.fisca_machine.specs.World.{groups, tables}
+use Rattle.fisca_meaning.specs.Dialogues as meaning
 use Rattle.fisca_meaning.specs.Dialogues.{Dialogue, Value}
 use Rattle.fisca_members.specs.Grouped.{grouped}
+use Rattle.fisca_recall.specs.declared.known.Known.{Known}
 use Rattle.fisca_rules.specs.Rules.{known_by}
 use Rattle.fisca_sources.specs.Simulations as simulations
 use Rattle.fisca_sources.specs.Sound.{GivesOnly, InputsFit, IsSafeRules}
@@ -18,6 +22,7 @@ use Rattle.fisca_sources.specs.Views.{simulation}
 use Rattle.fisca_tables.specs.declared.variable.Variable.{Variable}
 use Rattle.fisca_typing.specs.Tables.{Tables}
 use Rattle.fisca_variables.specs.VariableForms.{written}
+use Rattle.fisca_memo.specs.Recalled.{IsMemory, marks_of}
 use Rattle.fisca_memo.specs.declared.scene.Scene.{Scene}
 
 abbrev pub seen : Scene → simulations.Simulation
@@ -28,6 +33,17 @@ known_in s = known_by (seen s).rules
 
 abbrev pub sources_in : Scene → Sources
 sources_in s = simulations.sources (seen s)
+
+abbrev pub marks_in : Scene → meaning.Key → ℕ
+marks_in s = marks_of s.wheels.now
+
+-- these are just the wheels that the key reads
+abbrev pub HasRead : Scene → Key → Known → Type 0
+HasRead s key k = IsReads (marks_in s) (sources_in s) (key_seen key) k.reads
+
+-- what is remembered, and how many keys of it read no wheel, is so
+abbrev pub IsMemoryIn : Scene → Entries → ℕ → Type 0
+IsMemoryIn s entries free = IsMemory (marks_in s) (sources_in s) entries free
 
 -- the world is that of the rule set and the situation, and values are of their types
 pub record IsScene (s : Scene) : Type 0 where

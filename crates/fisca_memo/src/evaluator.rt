@@ -11,6 +11,7 @@ use fisca_situations::Situation;
 pub struct Evaluator<'r, 't, R> {
     pub(crate) rules: &'r RuleSet<'t>,
     pub(crate) neutral: &'r [bool],
+    pub(crate) wheels: &'r [u16],
     pub(crate) situation: Situation,
     pub(crate) machine: Machine<'r>,
     pub(crate) keys: Vec<Key>,

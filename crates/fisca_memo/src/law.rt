@@ -1,11 +1,20 @@
-//! Laws of what is counted, each as the contract of a function that does nothing.
+//! Laws of what is counted, and of wheels that turn, each as the contract of a function that does nothing.
 
-ghost use Rattle.std.specs.Prelude.{◌≡◌, ◌+◌, ◌<◌, ◌^◌};
+ghost use Rattle.std.specs.Prelude.{◌≡◌, ℕ, ◌+◌, ◌<◌, ◌^◌};
 ghost use Rattle.fisca_heights.specs.Entries.{Entries};
+ghost use Rattle.fisca_meaning.specs.Dialogues.{Key};
 ghost use Rattle.fisca_memo.specs.Counting.{IsCounted};
+ghost use Rattle.fisca_memo.specs.Evaluators.{IsStill, IsTurned};
 ghost use Rattle.fisca_recall.specs.declared.counts.Counts.{Counts};
+ghost use Rattle.fisca_sources.specs.Simulations.{Simulation};
 
 /// Law: the values that were remembered, whatever they read, rise by the entries that are added, as long as no count stands at its greatest.
 pub fn counts_rise_by_what_is_added()
-    ensures { (old new : Entries) (before after : Counts) (c : IsCounted old new before after) → before.free + c.count < 2 ^ 64 → after.free + after.bound ≡ before.free + before.bound + c.count }
+    ensures { (old new : Entries) (before after : Counts) (c : IsCounted old new before after) → before.free + c.more_free < 2 ^ 64 → before.bound + c.more_bound < 2 ^ 64
+        → after.free + after.bound ≡ before.free + before.bound + (c.more_free + c.more_bound) }
+{}
+
+/// Law: where a wheel turns and only inputs of its variables become others, what the values of all other keys come from stays.
+pub fn turned_situations_are_still()
+    ensures { (marks : Key → ℕ) (wheel : ℕ) (old new : Simulation) → IsTurned marks wheel old new → IsStill marks wheel old new }
 {}

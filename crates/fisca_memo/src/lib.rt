@@ -12,4 +12,4 @@ mod store;
 mod values;
 
 pub use evaluator::Evaluator;
-pub use law::counts_rise_by_what_is_added;
+pub use law::{counts_rise_by_what_is_added, turned_situations_are_still};

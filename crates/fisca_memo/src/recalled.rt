@@ -5,6 +5,8 @@ ghost use Rattle.fisca_answers.specs.Answers.{known as from_known};
 ghost use Rattle.fisca_answers.specs.Keys.{has};
 ghost use Rattle.fisca_eval.specs.Faults.{IsTold, told};
 ghost use Rattle.fisca_heights.specs.Entries.{Remembered};
+ghost use Rattle.fisca_heights.specs.Memory.{IsTrueMemory};
+ghost use Rattle.fisca_heights.specs.Reads.{AreReads};
 ghost use Rattle.fisca_heights.specs.Work.{Covered, Grows};
 ghost use Rattle.fisca_inputs.specs.Seen.{key_seen, value_seen};
 ghost use Rattle.fisca_machine.specs.Running.{rest, waiting};
@@ -37,9 +39,11 @@ fn seek<R: Recall>(
 ) -> Result<Option<Known>, EvalFault>
     requires depth { length keys.now ≤ 100 }
     requires stack { spec.IsStack (scenes.sources_in scene.now) keys.now key.now }
-    requires memory { spec.IsMemory (scenes.sources_in scene.now) (R.find recall.now) }
+    requires truth { IsTrueMemory (scenes.sources_in scene.now) (R.find recall.now) }
+    requires reads { AreReads (scenes.marks_in scene.now) (scenes.sources_in scene.now) (R.find recall.now) }
     requires passed { spec.HasPassedTo (scenes.sources_in scene.now) (R.find recall.now) keys.now key.now }
     ensures known { IfOk result (λ o. IfSome o (λ k. spec.IsKnownBelow (scenes.sources_in scene.now) keys.now key.now k)) }
+    ensures read { IfOk result (λ o. IfSome o (λ k. scenes.HasRead scene.now key.now k)) }
     ensures hit { IfOk result (λ o. IfSome o (λ k. Remembered (R.find recall.now) (key_seen key.now))) }
     ensures miss { IfOk result (λ o. IfNone o (R.find recall.now (key_seen key.now) ≡ None)) }
     ensures away { IfOk result (λ o. IfNone o (has (map key_seen keys.now) (key_seen key.now) ≡ false)) }
@@ -70,6 +74,7 @@ fn at_hand(
     requires away { has (map key_seen keys.now) (key_seen key.now) ≡ false }
     requires known { scenes.sources_in scene.now (key_seen key.now) ≡ from_known (value_seen value) }
     ensures known { IfOk result (λ k. spec.IsKnownBelow (scenes.sources_in scene.now) keys.now key.now k) }
+    ensures read { IfOk result (λ k. scenes.HasRead scene.now key.now k) }
     ensures fault { IfErr result (λ e. IsTold (told e) (scenes.wanted scene.now keys.now key.now)) }
 {
     if keys.len() >= MOST_KEYS {
@@ -78,7 +83,7 @@ fn at_hand(
     Ok(Known {
         value,
         height: 1,
-        reads: 0,
+        reads: scene.wheels_of(key),
     })
 }
 
@@ -95,11 +100,12 @@ pub(crate) fn value_below<'r, R: Recall>(
     requires scene { scenes.IsScene scene.now }
     requires depth { length keys.old.items ≤ 100 }
     requires stack { spec.IsStack (scenes.sources_in scene.now) keys.old.items key.now }
-    requires memory { spec.IsMemory (scenes.sources_in scene.now) (R.find store.old.recall) }
+    requires memory { scenes.IsMemoryIn scene.now (R.find store.old.recall) store.old.counts.free }
     requires passed { spec.HasPassedTo (scenes.sources_in scene.now) (R.find store.old.recall) keys.old.items key.now }
     ensures known { IfOk result (λ k. spec.IsKnownBelow (scenes.sources_in scene.now) keys.old.items key.now k) }
+    ensures read { IfOk result (λ k. scenes.HasRead scene.now key.now k) }
     ensures fault { IfErr result (λ e. IsTold (told e) (scenes.wanted scene.now keys.old.items key.now)) }
-    ensures memory { spec.IsMemory (scenes.sources_in scene.now) (R.find store.new.recall) }
+    ensures memory { scenes.IsMemoryIn scene.now (R.find store.new.recall) store.new.counts.free }
     ensures grows { Grows (R.find store.old.recall) (R.find store.new.recall) (spec.work_below (scenes.sources_in scene.now) keys.old.items key.now) }
     ensures covered { OnOk result (Covered (scenes.sources_in scene.now) (Remembered (R.find store.new.recall)) (key_seen key.now)) }
     ensures stopped { IfErr result (λ e. spec.IfTold (told e) (spec.IsDoneBelow (scenes.sources_in scene.now) (R.find store.new.recall) keys.old.items key.now)) }
@@ -127,7 +133,7 @@ pub(crate) fn value_below<'r, R: Recall>(
     }
 }
 
-/// The value of a key of which nothing is remembered, by its formula, below others. It is remembered.
+/// The value of a key of which nothing is remembered, by its formula, below others.
 #[cycle(value)]
 fn by_formula<'r, R: Recall>(
     scene: &Scene<'r, '_, '_>,
@@ -143,12 +149,13 @@ fn by_formula<'r, R: Recall>(
     requires depth { length keys.old.items ≤ 100 }
     requires stack { spec.IsStack (scenes.sources_in scene.now) keys.old.items key.now }
     requires away { has (map key_seen keys.old.items) (key_seen key.now) ≡ false }
-    requires memory { spec.IsMemory (scenes.sources_in scene.now) (R.find store.old.recall) }
+    requires memory { scenes.IsMemoryIn scene.now (R.find store.old.recall) store.old.counts.free }
     requires miss { R.find store.old.recall (key_seen key.now) ≡ None }
     requires passed { spec.HasPassedTo (scenes.sources_in scene.now) (R.find store.old.recall) keys.old.items key.now }
     ensures known { IfOk result (λ k. spec.IsKnownBelow (scenes.sources_in scene.now) keys.old.items key.now k) }
+    ensures read { IfOk result (λ k. scenes.HasRead scene.now key.now k) }
     ensures fault { IfErr result (λ e. IsTold (told e) (scenes.wanted scene.now keys.old.items key.now)) }
-    ensures memory { spec.IsMemory (scenes.sources_in scene.now) (R.find store.new.recall) }
+    ensures memory { scenes.IsMemoryIn scene.now (R.find store.new.recall) store.new.counts.free }
     ensures grows { Grows (R.find store.old.recall) (R.find store.new.recall) (spec.work_below (scenes.sources_in scene.now) keys.old.items key.now) }
     ensures covered { OnOk result (Covered (scenes.sources_in scene.now) (Remembered (R.find store.new.recall)) (key_seen key.now)) }
     ensures stopped { IfErr result (λ e. spec.IfTold (told e) (spec.IsDoneBelow (scenes.sources_in scene.now) (R.find store.new.recall) keys.old.items key.now)) }
@@ -165,15 +172,14 @@ fn by_formula<'r, R: Recall>(
         Ok(()) => {
             let worked = work_out(scene, store, machine, keys, variable, formula, key);
             let _ = keys.pop();
-            let known = worked?;
-            remember(scene, store, key, &known)?;
-            Ok(known)
+            worked
         }
         Err(_) => Err(EvalFault::Memory),
     }
 }
 
-/// Works out the formula of the last of the keys. Its height is one more than the greatest height of what it asks for.
+/// Works out the formula of the last of the keys, of which nothing is remembered, and remembers its value. Its height is one more than the
+/// greatest height of what it asks for, and it reads what that reads, and the wheels of its variable. No other function works out a formula.
 #[cycle(value)]
 fn work_out<'r, R: Recall>(
     scene: &Scene<'r, '_, '_>,
@@ -188,16 +194,16 @@ fn work_out<'r, R: Recall>(
     requires work { scenes.IsWork scene.now variable.now formula.now key.now }
     requires depth { length keys.old.items ≤ 100 }
     requires stack { spec.IsWorking (scenes.sources_in scene.now) keys.old.items key.now }
-    requires memory { spec.IsMemory (scenes.sources_in scene.now) (R.find store.old.recall) }
+    requires memory { scenes.IsMemoryIn scene.now (R.find store.old.recall) store.old.counts.free }
+    requires miss { R.find store.old.recall (key_seen key.now) ≡ None }
     requires passed { spec.HasPassed (scenes.sources_in scene.now) (R.find store.old.recall) keys.old.items }
     ensures known { IfOk result (λ k. spec.IsKnownAt (scenes.sources_in scene.now) keys.old.items key.now k) }
-    ensures read { IfOk result (λ k. k.reads ≡ 0) }
+    ensures read { IfOk result (λ k. scenes.HasRead scene.now key.now k) }
     ensures fault { IfErr result (λ e. IsTold (told e) (scenes.wanted_of_work scene.now keys.old.items variable.now formula.now key.now)) }
-    ensures memory { spec.IsMemory (scenes.sources_in scene.now) (R.find store.new.recall) }
+    ensures memory { scenes.IsMemoryIn scene.now (R.find store.new.recall) store.new.counts.free }
     ensures grows { Grows (R.find store.old.recall) (R.find store.new.recall) (spec.work_at (scenes.sources_in scene.now) keys.old.items key.now) }
-    ensures worked { OnOk result (spec.IsAllButItself (scenes.sources_in scene.now) (R.find store.new.recall) key.now) }
+    ensures covered { OnOk result (Covered (scenes.sources_in scene.now) (Remembered (R.find store.new.recall)) (key_seen key.now)) }
     ensures stopped { IfErr result (λ e. spec.IfTold (told e) (spec.IsDoneAt (scenes.sources_in scene.now) (R.find store.new.recall) keys.old.items key.now)) }
-    ensures apart { Remembered (R.find store.new.recall) (key_seen key.now) → Remembered (R.find store.old.recall) (key_seen key.now) }
     ensures counted { IsCounted (R.find store.old.recall) (R.find store.new.recall) store.old.counts store.new.counts }
     ensures lost { AreLost result store.old.counts.lost store.new.counts.lost }
     ensures keys { keys.new.items ≡ keys.old.items }
@@ -222,20 +228,24 @@ fn work_out<'r, R: Recall>(
         Err(_) => return Err(EvalFault::Memory),
     };
     let mut tallest = 0;
+    let mut reads = 0;
     loop {
         match machine.run(&scene.world, control) {
             Step::Done(value) => {
-                return Ok(Known {
+                let known = Known {
                     value,
                     height: tallest + 1,
-                    reads: 0,
-                });
+                    reads: reads | scene.wheels_of(key),
+                };
+                remember(scene, store, key, &known)?;
+                return Ok(known);
             }
             Step::Failed(fault) => return Err(told_of(fault, *key)),
             Step::Memory => return Err(EvalFault::Memory),
             Step::Needs(asked) => {
                 let known = value_below(scene, store, machine, keys, &asked)?;
                 tallest = tallest.max(known.height);
+                reads |= known.reads;
                 control = machine.give(known.value);
             }
         }

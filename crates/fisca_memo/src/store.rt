@@ -1,7 +1,7 @@
 //! What is remembered, and counts of it.
 
 ghost use Rattle.std.specs.Prelude.{◌≡◌, OnOk, OnErr, IfErr};
-ghost use Rattle.fisca_heights.specs.Entries.{with_entry};
+ghost use Rattle.fisca_heights.specs.Entries.{Remembered, with_entry};
 ghost use Rattle.fisca_heights.specs.Memory.{HasFormula};
 ghost use Rattle.fisca_inputs.specs.Seen.{key_seen};
 ghost use Rattle.fisca_memo.specs.Recalled as spec;
@@ -21,7 +21,7 @@ pub(crate) struct Store<R> {
     pub(crate) counts: Counts,
 }
 
-/// Remembers the value of a key that its formula gave, and counts it. Nothing else remembers or counts.
+/// Remembers the value that its formula gave of a key of which nothing was remembered, and counts it. Nothing else remembers or counts.
 pub(crate) fn remember<R: Recall>(
     scene: &Scene<'_, '_, '_>,
     store: &mut Store<R>,
@@ -29,12 +29,13 @@ pub(crate) fn remember<R: Recall>(
     known: &Known,
 ) -> Result<(), EvalFault>
     requires known { spec.IsKnownOf (scenes.sources_in scene.now) key.now known.now }
-    requires read { known.now.reads ≡ 0 }
-    requires memory { spec.IsMemory (scenes.sources_in scene.now) (R.find store.old.recall) }
+    requires read { scenes.HasRead scene.now key.now known.now }
+    requires memory { scenes.IsMemoryIn scene.now (R.find store.old.recall) store.old.counts.free }
+    requires miss { Remembered (R.find store.old.recall) (key_seen key.now) → ⊥ }
     requires formula { HasFormula (scenes.sources_in scene.now) (key_seen key.now) }
     requires work { spec.IsAllButItself (scenes.sources_in scene.now) (R.find store.old.recall) key.now }
     ensures fault { IfErr result (λ e. e ≡ EvalFault.Memory) }
-    ensures memory { spec.IsMemory (scenes.sources_in scene.now) (R.find store.new.recall) }
+    ensures memory { scenes.IsMemoryIn scene.now (R.find store.new.recall) store.new.counts.free }
     ensures ok { OnOk result (R.find store.new.recall ≡ with_entry (R.find store.old.recall) (key_seen key.now) (entry_seen known.now)) }
     ensures err { OnErr result (R.find store.new.recall ≡ R.find store.old.recall) }
     ensures kept { OnOk result (store.new.counts ≡ with_kept known.now.reads store.old.counts) }

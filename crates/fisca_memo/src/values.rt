@@ -1,16 +1,19 @@
 //! What an evaluator answers, and what it remembers then.
 
-ghost use Rattle.std.specs.Prelude.{◌≡◌, ◌≢◌, None, Err};
+ghost use Rattle.std.specs.Prelude.{◌≡◌, ◌≢◌, ◌<◌, None, Err};
 ghost use Rattle.fisca_eval.specs.Faults.{IsAnswer};
 ghost use Rattle.fisca_eval.specs.Told.{IsReady};
 ghost use Rattle.fisca_heights.specs.Entries.{Remembered};
+ghost use Rattle.fisca_heights.specs.Reads.{unless_moved};
 ghost use Rattle.fisca_heights.specs.Work.{Grows};
 ghost use Rattle.fisca_meaning.specs.Dialogues as meaning;
 ghost use Rattle.fisca_memo.specs.Counting.{AreLost, IsCounted};
 ghost use Rattle.fisca_memo.specs.Evaluators as spec;
+ghost use Rattle.fisca_memo.specs.Recalled.{marks_of};
 ghost use Rattle.fisca_recall.specs.Counted.{no_counts};
 ghost use Rattle.fisca_rules.specs.Views.{rule_set};
 ghost use Rattle.fisca_situations.specs.Views.{situation as situation_view};
+ghost use Rattle.fisca_sources.specs.Simulations.{Simulation};
 ghost use Rattle.fisca_sources.specs.Sound.{InputsFit, IsSafeRules};
 
 use crate::evaluator::Evaluator;
@@ -28,24 +31,28 @@ use std::alloc::Global;
 
 impl<'r, 't, R: Recall> Evaluator<'r, 't, R> {
     /// An evaluator of the keys of a situation, which was read under this rule set, with a memory that holds nothing. The variables that
-    /// have a mark, by their places, are neutralised: they have no formulas. There is none past the last mark.
+    /// have a mark, by their places, are neutralised: they have no formulas. There is none past the last mark. The wheels of variables are
+    /// given by their places, as bits: those that may change inputs of the variable. Past the last there are none.
     pub fn new(
         alloc: Global,
         rules: &'r RuleSet<'t>,
         neutral: &'r [bool],
+        wheels: &'r [u16],
         situation: Situation,
         recall: R,
     ) -> Evaluator<'r, 't, R>
         requires empty { (k : meaning.Key) → R.find recall k ≡ None }
         ensures simulation { spec.simulation_of result ≡ record { rules = rule_set rules.now; situation = situation_view situation; neutral = neutral.now } }
-        ensures memory { spec.IsMemoryOf (spec.simulation_of result) (R.find result.store.recall) }
-        ensures ready { IsReady (record { rules = rule_set rules.now; situation = situation_view situation; neutral = neutral.now }) → spec.CanAnswer (spec.simulation_of result) (R.find result.store.recall) }
+        ensures wheels { spec.marks_in result ≡ marks_of wheels.now }
+        ensures memory { spec.IsMemoryOf (spec.marks_in result) (spec.simulation_of result) (R.find result.store.recall) result.store.counts.free }
+        ensures ready { IsReady (record { rules = rule_set rules.now; situation = situation_view situation; neutral = neutral.now }) → spec.CanAnswer (spec.marks_in result) (spec.simulation_of result) (R.find result.store.recall) result.store.counts.free }
         ensures recall { result.store.recall ≡ recall }
         ensures counts { result.store.counts ≡ no_counts }
     {
         Evaluator {
             rules,
             neutral,
+            wheels,
             situation,
             machine: Machine::new(alloc),
             keys: Vec::new(alloc),
@@ -66,15 +73,17 @@ impl<'r, 't, R: Recall> Evaluator<'r, 't, R> {
     ///   `Cycle` with the first of the chain that stands again in it, else `TooDeep` with the key that is handed in.
     /// - `Memory` only where a growth was refused.
     ///
-    /// After any of these what is remembered is still true, and each formula that gave a value is counted.
+    /// After any of these what is remembered is still true and tells just the wheels that its work reads, each formula that gave a value is
+    /// counted, and the keys that read no wheel are as many as the count of these.
     /// (OpenFisca's values, by exact fractions; limits and the order of faults are this project's own.)
     pub fn value(&mut self, key: Key) -> Result<Value, EvalFault>
         requires safe { IsSafeRules (spec.simulation_of self.old).rules }
         requires fit { InputsFit (spec.simulation_of self.old).rules (spec.simulation_of self.old).situation }
-        requires memory { spec.IsMemoryOf (spec.simulation_of self.old) (R.find self.old.store.recall) }
+        requires memory { spec.IsMemoryOf (spec.marks_in self.old) (spec.simulation_of self.old) (R.find self.old.store.recall) self.old.store.counts.free }
         ensures answer { IsAnswer (spec.answer_in self.old key) result }
         ensures same { spec.simulation_of self.new ≡ spec.simulation_of self.old }
-        ensures memory { spec.IsMemoryOf (spec.simulation_of self.old) (R.find self.new.store.recall) }
+        ensures wheels { spec.marks_in self.new ≡ spec.marks_in self.old }
+        ensures memory { spec.IsMemoryOf (spec.marks_in self.old) (spec.simulation_of self.old) (R.find self.new.store.recall) self.new.store.counts.free }
         ensures grows { Grows (R.find self.old.store.recall) (R.find self.new.store.recall) (spec.work_in self.old key) }
         ensures work { result ≢ Err EvalFault.Memory → (k : meaning.Key) → spec.work_in self.old key k → Remembered (R.find self.new.store.recall) k }
         ensures counted { IsCounted (R.find self.old.store.recall) (R.find self.new.store.recall) self.old.store.counts self.new.store.counts }
@@ -83,7 +92,7 @@ impl<'r, 't, R: Recall> Evaluator<'r, 't, R> {
         self.machine.clear();
         self.keys.clear();
         let situation = &self.situation;
-        let scene = scene_of(self.rules, situation, self.neutral);
+        let scene = scene_of(self.rules, situation, self.neutral, self.wheels);
         let own = own_key(self.rules, key);
         let known = value_below(
             &scene,
@@ -93,6 +102,21 @@ impl<'r, 't, R: Recall> Evaluator<'r, 't, R> {
             &own,
         )?;
         Ok(known.value)
+    }
+
+    /// A wheel turns: forgets what reads it. What is left is true also in each situation in which only inputs of the wheel's variables are
+    /// others. The counts stay.
+    pub fn turn_wheel(&mut self, wheel: u32)
+        requires wheel { wheel < 16 }
+        ensures dropped { (k : meaning.Key) → R.find self.new.store.recall k ≡ unless_moved wheel (R.find self.old.store.recall k) }
+        ensures same { spec.simulation_of self.new ≡ spec.simulation_of self.old }
+        ensures wheels { spec.marks_in self.new ≡ spec.marks_in self.old }
+        ensures counts { self.new.store.counts ≡ self.old.store.counts }
+        ensures memory { (turned : Simulation) → spec.IsStill (spec.marks_in self.old) wheel (spec.simulation_of self.old) turned
+            → spec.IsMemoryOf (spec.marks_in self.old) (spec.simulation_of self.old) (R.find self.old.store.recall) self.old.store.counts.free
+            → spec.IsMemoryOf (spec.marks_in self.old) turned (R.find self.new.store.recall) self.new.store.counts.free }
+    {
+        self.store.recall.drop_moved(wheel);
     }
 
     /// The situation.

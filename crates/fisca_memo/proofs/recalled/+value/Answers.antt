@@ -1,5 +1,5 @@
 use Rattle.std.proofs.Common.{◌≡◌, ◌+◌, ◌<◌, ◌∷◌, [], length, length-append, map, None, Err, false, refl, arith, rules, sym, ap, subst, ◌∙◌, ⊎_elim}
-use Rattle.std.proofs.lemmas.Result.{err_from_is_err_and}
+use Rattle.std.proofs.lemmas.Result.{IfErr-weaker, IfOk-weaker, err_from_is_err_and}
 use Rattle.fisca_answers.specs.Inquiry.{fault_at, too_deep}
 use Rattle.fisca_answers.specs.Keys.{has}
 use Rattle.fisca_answers.specs.Stacks.{IsAskable}
@@ -9,6 +9,7 @@ use Rattle.fisca_heights.specs.Entries.{Remembered}
 use Rattle.fisca_heights.specs.Work.{Covered, IsWork}
 use Rattle.fisca_heights.proofs.Gathering.{gathered_wider}
 use Rattle.fisca_heights.proofs.Growing.{grows_on, grows_wider}
+use Rattle.fisca_heights.proofs.Reading.{none_read}
 use Rattle.fisca_heights.proofs.Steps.{covered_wider}
 use Rattle.fisca_heights.proofs.WorkDone.{covered_known, passed_path_more, work_refused}
 use Rattle.fisca_inputs.specs.Seen.{key_seen, value_seen}
@@ -18,14 +19,15 @@ use Rattle.fisca_sources.specs.Sound.{GivesOnly}
 use Rattle.fisca_sources.proofs.Origins.{of_none, of_input, of_formula, of_default, of_nothing}
 use Rattle.fisca_sources.proofs.Sources.{works_soundly}
 use Rattle.fisca_variables.specs.VariableForms.{written}
+use Rattle.fisca_eval.specs.Faults.{told}
 use Rattle.fisca_memo.proofs.Memories.{none_there}
 use Rattle.fisca_memo.proofs.Outcomes.{on_ok_any, told_any}
 use Rattle.fisca_memo.proofs.Recalls.{full_below, full_done}
 use Rattle.fisca_memo.proofs.Remembering.{grows_none, pushed_working, pushed_passed, popped_known, popped_grows, popped_done, popped_fault, own_known, own_work, kept_grows, kept_covered, kept_counted, lost_counted}
 use Rattle.fisca_memo.proofs.Risen.{counted_none, counted_on}
-use Rattle.fisca_memo.proofs.Working.{begins, nothing_asked, done_known, done_all, failed_fault, failed_done, next_stack, next_passed, next_fault, next_work, next_apart, next_done, next_more, next_sound}
+use Rattle.fisca_memo.proofs.Working.{begins, nothing_asked, done_known, done_all, done_read, failed_fault, failed_done, next_stack, next_passed, next_fault, next_work, next_apart, next_done, next_more, next_read, next_reading, next_sound}
 use Rattle.fisca_memo.specs.Recalled.{HasPassedTo, IsStack, work_at, work_below}
-use Rattle.fisca_memo.specs.Scenes.{known_in, seen, sources_in, work}
+use Rattle.fisca_memo.specs.Scenes.{known_in, marks_in, seen, sources_in, work}
 use Rattle.fisca_memo.specs.Scenes as scenes
 use Rattle.fisca_memo.proofs.recalled.+value.Goals as goal
 
@@ -37,6 +39,8 @@ work_out-loop-value-init g t c =
     let begun = (rw c.as_slice-locals.ensures.value at c.in-Ok.ensures.begun) ∙ begins s c.args.variable.now c.args.formula.now c.args.key.now c.requires.scene in
     record {
       gathered = nothing_asked s c.args.variable.now c.args.formula.now c.args.key.now _ _ _ begun;
+      reading = nothing_asked s c.args.variable.now c.args.formula.now c.args.key.now _ _ _ begun;
+      read = none_read (marks_in s) (sources_in s) _ _;
       sound = subst (GivesOnly (known_in s) (IsValueOf (known_in s) c.args.key.now.variable)) (sym begun) c.requires.work.sound;
       waits = c.in-Ok.ensures.waits;
       memory = c.requires.memory;
@@ -47,21 +51,64 @@ work_out-loop-value-init g t c =
       lost = refl;
     }
 
+pub work_out-remember-requires : goal.work_out-remember-requires
+work_out-remember-requires g t c =
+    let s = c.args.scene.now in
+    let i = c.loop-value.invariant in
+    let keys = c.args.keys.now.items in
+    let r = resume s.world c.loop-value.machine c.loop-value.control in
+    let M = Remembered (g.R.Recall.find c.loop-value.store.recall) in
+    let told = c.in-Done.ensures.told.0 in
+    let known = done_known s c.args.variable.now c.args.formula.now c.args.key.now keys r c.loop-value.tallest M c.requires.work i.gathered c.in-Done.value told in
+    record {
+      known = own_known s keys c.args.key.now (value_seen c.in-Done.value) (c.loop-value.tallest + 1) known;
+      read = rw c.wheels_of.ensures (done_read s c.args.variable.now c.args.formula.now c.args.key.now keys r c.loop-value.tallest c.loop-value.reads c.requires.work i.reading i.read c.in-Done.value told);
+      memory = i.memory;
+      miss = λ x. none_there (g.R.Recall.find c.args.store.now.recall) (key_seen c.args.key.now) c.requires.miss (i.apart x);
+      formula = (_, c.requires.work.source);
+      work = done_all s c.args.variable.now c.args.formula.now c.args.key.now keys r c.loop-value.tallest M c.requires.work i.gathered c.in-Done.value told;
+    }
+
 pub work_out-returns-in-Done-clause-known : goal.work_out-returns-in-Done-clause-known
 work_out-returns-in-Done-clause-known g t c =
     let s = c.args.scene.now in
-    let i = c.loop-value.invariant in
     let r = resume s.world c.loop-value.machine c.loop-value.control in
     let M = Remembered (g.R.Recall.find c.loop-value.store.recall) in
-    done_known s c.args.variable.now c.args.formula.now c.args.key.now c.args.keys.now.items r c.loop-value.tallest M c.requires.work i.gathered c.in-Done.value c.in-Done.ensures.told.0
+    done_known s c.args.variable.now c.args.formula.now c.args.key.now c.args.keys.now.items r c.loop-value.tallest M c.requires.work c.loop-value.invariant.gathered c.in-Done.value c.in-Done.ensures.told.0
 
-pub work_out-returns-in-Done-clause-worked : goal.work_out-returns-in-Done-clause-worked
-work_out-returns-in-Done-clause-worked g t c =
+pub work_out-returns-in-Done-clause-read : goal.work_out-returns-in-Done-clause-read
+work_out-returns-in-Done-clause-read g t c =
     let s = c.args.scene.now in
     let i = c.loop-value.invariant in
     let r = resume s.world c.loop-value.machine c.loop-value.control in
+    rw c.wheels_of.ensures (done_read s c.args.variable.now c.args.formula.now c.args.key.now c.args.keys.now.items r c.loop-value.tallest c.loop-value.reads c.requires.work i.reading i.read c.in-Done.value c.in-Done.ensures.told.0)
+
+pub work_out-returns-in-Done-clause-grows : goal.work_out-returns-in-Done-clause-grows
+work_out-returns-in-Done-clause-grows g t c =
+    let s = c.args.scene.now in
+    let i = c.loop-value.invariant in
+    let keys = c.args.keys.now.items in
+    let r = resume s.world c.loop-value.machine c.loop-value.control in
     let M = Remembered (g.R.Recall.find c.loop-value.store.recall) in
-    done_all s c.args.variable.now c.args.formula.now c.args.key.now c.args.keys.now.items r c.loop-value.tallest M c.requires.work i.gathered c.in-Done.value c.in-Done.ensures.told.0
+    let known = done_known s c.args.variable.now c.args.formula.now c.args.key.now keys r c.loop-value.tallest M c.requires.work i.gathered c.in-Done.value c.in-Done.ensures.told.0 in
+    kept_grows _ _ _ _ _ c.in_ok-remember-in-Done.ensures.ok (work_at (sources_in s) keys c.args.key.now) (own_work s keys c.args.key.now (value_seen c.in-Done.value) (c.loop-value.tallest + 1) known (_, c.requires.work.source)) i.grows
+
+pub work_out-returns-in-Done-clause-covered : goal.work_out-returns-in-Done-clause-covered
+work_out-returns-in-Done-clause-covered g t c =
+    kept_covered _ _ (g.R.Recall.find c.args.store.now.recall) _ _ c.in_ok-remember-in-Done.ensures.ok (sources_in c.args.scene.now) c.remember.ensures.memory.truth
+
+pub work_out-returns-in-Done-clause-counted : goal.work_out-returns-in-Done-clause-counted
+work_out-returns-in-Done-clause-counted g t c =
+    let i = c.loop-value.invariant in
+    kept_counted _ _ _ _ _ c.in_ok-remember-in-Done.ensures.ok _ _ _ i.counted c.in_ok-remember-in-Done.ensures.kept
+    (λ x. none_there (g.R.Recall.find c.args.store.now.recall) (key_seen c.args.key.now) c.requires.miss (i.apart x))
+
+pub work_out-returns-in_err-remember-in-Done-clause-grows : goal.work_out-returns-in_err-remember-in-Done-clause-grows
+work_out-returns-in_err-remember-in-Done-clause-grows g t c = rw c.in_err-remember-in-Done.ensures.err c.loop-value.invariant.grows
+
+pub work_out-returns-in_err-remember-in-Done-clause-counted : goal.work_out-returns-in_err-remember-in-Done-clause-counted
+work_out-returns-in_err-remember-in-Done-clause-counted g t c =
+    lost_counted _ _ _ _ _ _ c.in_err-remember-in-Done.ensures.err c.in_err-remember-in-Done.ensures.lost c.loop-value.invariant.counted
 
 pub work_out-returns-in-Failed-clause-fault : goal.work_out-returns-in-Failed-clause-fault
 work_out-returns-in-Failed-clause-fault g t c =
@@ -103,7 +150,7 @@ work_out-returns-in_err-known-in-Needs-clause-fault g t c =
     let r = resume s.world c.loop-value.machine c.loop-value.control in
     let M = Remembered (g.R.Recall.find c.loop-value.store.recall) in
     let told = c.in-Needs.ensures.told in
-    let p = err_from_is_err_and c.from_residual.result c.from_residual.ensures.1 in
+    let p = err_from_is_err_and c.from_residual-in_err-known-in-Needs.result c.from_residual-in_err-known-in-Needs.ensures.1 in
     let h = rw i.keys at c.in_err-known-in-Needs.ensures.fault in
     rw (p.1, p.2) (next_fault s c.args.variable.now c.args.formula.now c.args.key.now keys r c.loop-value.tallest M c.requires.work i.gathered c.in-Needs.asked (rest s.world c.run.new.self) told.0 c.requires.stack _ h)
 
@@ -117,7 +164,7 @@ work_out-returns-in_err-known-in-Needs-clause-stopped g t c =
     let M = Remembered (g.R.Recall.find c.loop-value.store.recall) in
     let new = Remembered (g.R.Recall.find c.value_below.new.store.recall) in
     let told = c.in-Needs.ensures.told in
-    let p = err_from_is_err_and c.from_residual.result c.from_residual.ensures.1 in
+    let p = err_from_is_err_and c.from_residual-in_err-known-in-Needs.result c.from_residual-in_err-known-in-Needs.ensures.1 in
     let h = rw i.keys at c.in_err-known-in-Needs.ensures.fault in
     let below = rw i.keys at c.in_err-known-in-Needs.ensures.stopped in
     let wide = gathered_wider src _ _ _ c.loop-value.tallest (Covered src M) (Covered src new) (covered_wider src M new c.in_err-known-in-Needs.ensures.grows.kept) i.gathered in
@@ -133,19 +180,6 @@ work_out-returns-in_err-known-in-Needs-clause-grows g t c =
     let told = c.in-Needs.ensures.told in
     let h = rw i.keys at c.in_err-known-in-Needs.ensures.grows in
     grows_on _ _ _ (work_at (sources_in s) keys c.args.key.now) i.grows (grows_wider _ _ _ _ h (next_work s c.args.variable.now c.args.formula.now c.args.key.now keys r c.loop-value.tallest M c.requires.work i.gathered c.in-Needs.asked (rest s.world c.run.new.self) told.0))
-
-pub work_out-returns-in_err-known-in-Needs-clause-apart : goal.work_out-returns-in_err-known-in-Needs-clause-apart
-work_out-returns-in_err-known-in-Needs-clause-apart g t c =
-    let s = c.args.scene.now in
-    let i = c.loop-value.invariant in
-    let keys = c.args.keys.now.items in
-    let r = resume s.world c.loop-value.machine c.loop-value.control in
-    let M = Remembered (g.R.Recall.find c.loop-value.store.recall) in
-    let told = c.in-Needs.ensures.told in
-    let h = rw i.keys at c.in_err-known-in-Needs.ensures.grows in
-    λ x. ⊎_elim (λ (a : M (key_seen c.args.key.now)). i.apart a)
-    (λ (b : work_below (sources_in s) keys c.in-Needs.asked (key_seen c.args.key.now)). absurd (next_apart s c.args.variable.now c.args.formula.now c.args.key.now keys r c.loop-value.tallest M c.requires.work i.gathered c.in-Needs.asked (rest s.world c.run.new.self) told.0 b))
-    (h.only (key_seen c.args.key.now) x)
 
 pub work_out-returns-in_err-known-in-Needs-clause-counted : goal.work_out-returns-in_err-known-in-Needs-clause-counted
 work_out-returns-in_err-known-in-Needs-clause-counted g t c = counted_on _ _ _ _ _ _ c.loop-value.invariant.counted c.in_err-known-in-Needs.ensures.counted
@@ -168,6 +202,8 @@ work_out-loop-value-preserved g t c =
     let grown = rw i.keys at below.grows in
     record {
       gathered = rw (c.give-control.ensures.machine, c.give-control.ensures.control, below.rest, c.max-tallest.ensures) (next_more s c.args.variable.now c.args.formula.now c.args.key.now keys r c.loop-value.tallest M c.requires.work i.gathered j go told.0 x known new grown.kept below.covered);
+      reading = rw (c.give-control.ensures.machine, c.give-control.ensures.control, below.rest, c.max-tallest.ensures) (next_reading s c.args.variable.now c.args.formula.now c.args.key.now keys r c.loop-value.tallest c.loop-value.reads c.requires.work i.reading i.read j go told.0 x known below.read);
+      read = next_read s c.args.variable.now c.args.formula.now c.args.key.now keys r c.loop-value.tallest c.loop-value.reads c.requires.work i.reading i.read j go told.0 x known below.read;
       sound = rw (c.give-control.ensures.machine, c.give-control.ensures.control, below.rest) (next_sound s c.args.variable.now c.args.formula.now c.args.key.now keys r c.loop-value.tallest M c.requires.work i.gathered j go told.0 x known c.requires.scene i.sound);
       waits = rw c.give-control.ensures.machine (below.waits ∙ sym told.1 ∙ i.waits);
       memory = below.memory;
@@ -216,86 +252,40 @@ by_formula-work_out-worked-requires g t c κs within =
             c.requires.work,
             (
               omega arith,
-              (rw pushed (pushed_working s keys c.args.key.now c.requires.stack c.requires.away room), (c.requires.memory, rw pushed (pushed_passed s keys c.args.key.now _ c.requires.passed))),
+              (rw pushed (pushed_working s keys c.args.key.now c.requires.stack c.requires.away room), (c.requires.memory, (c.requires.miss, rw pushed (pushed_passed s keys c.args.key.now _ c.requires.passed)))),
             ),
           ),
         ),
       ),
     )
 
-pub by_formula-returns-in_err-known-in-Ok-clause-fault : goal.by_formula-returns-in_err-known-in-Ok-clause-fault
-by_formula-returns-in_err-known-in-Ok-clause-fault g t c =
+pub by_formula-returns-in-Ok-clause-known : goal.by_formula-returns-in-Ok-clause-known
+by_formula-returns-in-Ok-clause-known g t c =
     let keys = c.args.keys.now.items in
     let room : length keys < 100 = omega arith in
-    let p = err_from_is_err_and c.from_residual.result c.from_residual.ensures.1 in
-    let h = rw c.in-Ok.ensures.items at c.in_err-known-in-Ok.ensures.fault in
-    rw (p.1, p.2) (popped_fault c.args.scene.now keys c.args.key.now room c.args.variable.now c.args.formula.now c.requires.work _ h)
+    let h = rw c.in-Ok.ensures.items at c.work_out-worked.ensures.known in
+    IfOk-weaker c.work_out-worked.result _ _ (λ k is. popped_known c.args.scene.now keys c.args.key.now room k is) h
 
-pub by_formula-returns-in_err-known-in-Ok-clause-grows : goal.by_formula-returns-in_err-known-in-Ok-clause-grows
-by_formula-returns-in_err-known-in-Ok-clause-grows g t c =
+pub by_formula-returns-in-Ok-clause-fault : goal.by_formula-returns-in-Ok-clause-fault
+by_formula-returns-in-Ok-clause-fault g t c =
+    let keys = c.args.keys.now.items in
+    let room : length keys < 100 = omega arith in
+    let h = rw c.in-Ok.ensures.items at c.work_out-worked.ensures.fault in
+    IfErr-weaker c.work_out-worked.result _ _ (λ e is. popped_fault c.args.scene.now keys c.args.key.now room c.args.variable.now c.args.formula.now c.requires.work (told e) is) h
+
+pub by_formula-returns-in-Ok-clause-grows : goal.by_formula-returns-in-Ok-clause-grows
+by_formula-returns-in-Ok-clause-grows g t c =
     let keys = c.args.keys.now.items in
     let room : length keys < 100 = omega arith in
     let h = rw c.in-Ok.ensures.items at c.work_out-worked.ensures.grows in
     popped_grows c.args.scene.now keys c.args.key.now room _ _ h
 
-pub by_formula-returns-in_err-known-in-Ok-clause-stopped : goal.by_formula-returns-in_err-known-in-Ok-clause-stopped
-by_formula-returns-in_err-known-in-Ok-clause-stopped g t c =
+pub by_formula-returns-in-Ok-clause-stopped : goal.by_formula-returns-in-Ok-clause-stopped
+by_formula-returns-in-Ok-clause-stopped g t c =
     let keys = c.args.keys.now.items in
     let room : length keys < 100 = omega arith in
-    let p = err_from_is_err_and c.from_residual.result c.from_residual.ensures.1 in
-    let h = rw c.in-Ok.ensures.items at c.in_err-known-in-Ok.ensures.stopped in
-    rw (p.1, p.2) (popped_done c.args.scene.now keys c.args.key.now room _ _ h)
-
-pub by_formula-remember-requires : goal.by_formula-remember-requires
-by_formula-remember-requires g t c =
-    let s = c.args.scene.now in
-    let keys = c.args.keys.now.items in
-    record {
-      known = own_known s c.push.new.self.items c.args.key.now c.in_ok-known-in-Ok.known c.in_ok-known-in-Ok.ensures.known;
-      read = c.in_ok-known-in-Ok.ensures.read;
-      memory = c.work_out-worked.ensures.memory;
-      formula = (_, c.requires.work.source);
-      work = c.in_ok-known-in-Ok.ensures.worked;
-    }
-
-pub by_formula-returns-in_ok-remember-in-Ok-clause-known : goal.by_formula-returns-in_ok-remember-in-Ok-clause-known
-by_formula-returns-in_ok-remember-in-Ok-clause-known g t c =
-    let keys = c.args.keys.now.items in
-    let room : length keys < 100 = omega arith in
-    let h = rw c.in-Ok.ensures.items at c.in_ok-known-in-Ok.ensures.known in
-    popped_known c.args.scene.now keys c.args.key.now room c.in_ok-known-in-Ok.known h
-
-pub by_formula-returns-in_ok-remember-in-Ok-clause-grows : goal.by_formula-returns-in_ok-remember-in-Ok-clause-grows
-by_formula-returns-in_ok-remember-in-Ok-clause-grows g t c =
-    let s = c.args.scene.now in
-    let keys = c.args.keys.now.items in
-    let k = c.in_ok-known-in-Ok.known in
-    let room : length keys < 100 = omega arith in
-    let known = popped_known s keys c.args.key.now room k (rw c.in-Ok.ensures.items at c.in_ok-known-in-Ok.ensures.known) in
-    let grown = popped_grows s keys c.args.key.now room _ _ (rw c.in-Ok.ensures.items at c.in_ok-known-in-Ok.ensures.grows) in
-    kept_grows (sources_in s) c.args.key.now k _ _ _ c.in_ok-remember-in-Ok.ensures.ok _ (own_work s keys c.args.key.now k (_, c.requires.work.source) known) grown
-
-pub by_formula-returns-in_ok-remember-in-Ok-clause-covered : goal.by_formula-returns-in_ok-remember-in-Ok-clause-covered
-by_formula-returns-in_ok-remember-in-Ok-clause-covered g t c =
-    kept_covered (sources_in c.args.scene.now) c.args.key.now c.in_ok-known-in-Ok.known (g.R.Recall.find c.args.store.now.recall) _ _ c.in_ok-remember-in-Ok.ensures.ok c.remember.ensures.memory
-
-pub by_formula-returns-in_ok-remember-in-Ok-clause-counted : goal.by_formula-returns-in_ok-remember-in-Ok-clause-counted
-by_formula-returns-in_ok-remember-in-Ok-clause-counted g t c =
-    let k = c.in_ok-known-in-Ok.known in
-    kept_counted (sources_in c.args.scene.now) c.args.key.now k _ _ _ c.in_ok-remember-in-Ok.ensures.ok _ _ _ c.work_out-worked.ensures.counted c.in_ok-remember-in-Ok.ensures.kept c.in_ok-known-in-Ok.ensures.read
-    (λ r. none_there (g.R.Recall.find c.args.store.now.recall) (key_seen c.args.key.now) c.requires.miss (c.work_out-worked.ensures.apart r))
-
-pub by_formula-returns-in_err-remember-in-Ok-clause-grows : goal.by_formula-returns-in_err-remember-in-Ok-clause-grows
-by_formula-returns-in_err-remember-in-Ok-clause-grows g t c =
-    let s = c.args.scene.now in
-    let keys = c.args.keys.now.items in
-    let room : length keys < 100 = omega arith in
-    let grown = popped_grows s keys c.args.key.now room _ _ (rw c.in-Ok.ensures.items at c.work_out-worked.ensures.grows) in
-    rw c.in_err-remember-in-Ok.ensures.err grown
-
-pub by_formula-returns-in_err-remember-in-Ok-clause-counted : goal.by_formula-returns-in_err-remember-in-Ok-clause-counted
-by_formula-returns-in_err-remember-in-Ok-clause-counted g t c =
-    lost_counted _ _ _ _ _ _ c.in_err-remember-in-Ok.ensures.err c.in_err-remember-in-Ok.ensures.lost c.work_out-worked.ensures.counted
+    let h = rw c.in-Ok.ensures.items at c.work_out-worked.ensures.stopped in
+    IfErr-weaker c.work_out-worked.result _ _ (λ e is. popped_done c.args.scene.now keys c.args.key.now room _ (told e) is) h
 
 pub work_out-returns-in-Err-clause-counted : goal.work_out-returns-in-Err-clause-counted
 work_out-returns-in-Err-clause-counted g t c = counted_none _ _

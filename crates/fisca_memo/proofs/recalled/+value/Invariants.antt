@@ -6,13 +6,14 @@ use Rattle.fisca_answers.specs.Stacks.{left_below}
 use Rattle.fisca_heights.specs.Entries.{Remembered}
 use Rattle.fisca_heights.specs.Gathered.{IsGathered}
 use Rattle.fisca_heights.specs.Work.{Covered, Grows}
+use Rattle.fisca_heights.proofs.Reading.{AreRead, ReadsWithin}
 use Rattle.fisca_inputs.specs.Seen.{key_seen}
 use Rattle.fisca_inputs.specs.Typed.{IsValueOf}
 use Rattle.fisca_machine.specs.Running.{rest, resume, waiting}
 use Rattle.fisca_sources.specs.Sound.{GivesOnly}
 use Rattle.fisca_memo.specs.Counting.{IsCounted}
-use Rattle.fisca_memo.specs.Recalled.{IsMemory, work_at}
-use Rattle.fisca_memo.specs.Scenes.{known_in, sources_in, work}
+use Rattle.fisca_memo.specs.Recalled.{work_at}
+use Rattle.fisca_memo.specs.Scenes.{IsMemoryIn, known_in, marks_in, sources_in, work}
 use Rattle.fisca_memo.proofs.recalled.+value.Given as goal
 
 abbrev pub decreases-value_below : goal.decreases-value_below
@@ -31,9 +32,12 @@ invariant-work_out-loop-value g l =
     let left = resume l.scene.world l.machine l.control in
     record {
       gathered : IsGathered src (left_below (map key_seen l.fn.keys.items)) (of_key (key_seen l.key) (work l.scene l.variable l.formula l.key)) (of_key (key_seen l.key) left) l.tallest (Covered src (Remembered (g.R.Recall.find l.store.recall)));
+      reading : IsGathered src (left_below (map key_seen l.fn.keys.items)) (of_key (key_seen l.key) (work l.scene l.variable l.formula l.key)) (of_key (key_seen l.key) left) l.tallest
+        (ReadsWithin (marks_in l.scene) src (left_below (map key_seen l.fn.keys.items)) l.reads);
+      read : AreRead (marks_in l.scene) src (left_below (map key_seen l.fn.keys.items)) (of_key (key_seen l.key) (work l.scene l.variable l.formula l.key)) l.reads;
       sound : GivesOnly (known_in l.scene) (IsValueOf (known_in l.scene) l.key.variable) left;
       waits : waiting l.scene.world l.machine ≡ rest l.scene.world l.fn.machine ∷ waiting l.scene.world l.fn.machine;
-      memory : IsMemory src (g.R.Recall.find l.store.recall);
+      memory : IsMemoryIn l.scene (g.R.Recall.find l.store.recall) l.store.counts.free;
       keys : l.keys.items ≡ l.fn.keys.items;
       grows : Grows (g.R.Recall.find l.fn.store.recall) (g.R.Recall.find l.store.recall) (work_at src l.fn.keys.items l.key);
       apart : Remembered (g.R.Recall.find l.store.recall) (key_seen l.key) → Remembered (g.R.Recall.find l.fn.store.recall) (key_seen l.key);

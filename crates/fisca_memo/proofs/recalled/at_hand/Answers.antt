@@ -1,7 +1,10 @@
 use Rattle.std.proofs.Common.{◌≡◌, ◌<◌, Err, length, sym, ap, subst, ◌∙◌, arith}
 use Rattle.fisca_answers.specs.Inquiry.{fault_at, too_deep}
 use Rattle.fisca_answers.specs.Stacks.{IsAskable}
-use Rattle.fisca_memo.proofs.Recalls.{full_below, hand_below}
+use Rattle.fisca_heights.specs.Reads.{IsReads}
+use Rattle.fisca_inputs.specs.Seen.{key_seen}
+use Rattle.fisca_memo.proofs.Recalls.{full_below, hand_below, hand_read}
+use Rattle.fisca_memo.specs.Scenes.{marks_in, sources_in}
 use Rattle.fisca_memo.proofs.recalled.at_hand.Goals as goal
 
 pub returns-then-keys-ge-MOST_KEYS-clause-fault : goal.returns-then-keys-ge-MOST_KEYS-clause-fault
@@ -14,3 +17,8 @@ pub returns-clause-known : goal.returns-clause-known
 returns-clause-known c =
     let room : length c.args.keys.now < 100 = omega arith in
     hand_below c.args.scene.now c.args.keys.now c.args.key.now c.args.value c.requires.known room
+
+pub returns-clause-read : goal.returns-clause-read
+returns-clause-read c =
+    let s = c.args.scene.now in
+    subst (IsReads (marks_in s) (sources_in s) (key_seen c.args.key.now)) (sym c.wheels_of.ensures) (hand_read s c.args.keys.now c.args.key.now c.args.value c.requires.known)

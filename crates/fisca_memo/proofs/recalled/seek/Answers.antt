@@ -5,18 +5,22 @@ use Rattle.fisca_heights.specs.Entries.{Remembered}
 use Rattle.fisca_heights.proofs.Settled.{cycle_answer}
 use Rattle.fisca_heights.proofs.WorkDone.{stack_work}
 use Rattle.fisca_inputs.specs.Seen.{key_seen}
-use Rattle.fisca_memo.proofs.Recalls.{hit_below, hit_tall}
+use Rattle.fisca_memo.proofs.Recalls.{hit_below, hit_read, hit_tall}
 use Rattle.fisca_memo.specs.Scenes.{sources_in}
 use Rattle.fisca_memo.proofs.recalled.seek.Goals as goal
 
 pub returns-then-known-keys-clause-fault : goal.returns-then-known-keys-clause-fault
 returns-then-known-keys-clause-fault g c =
-    hit_tall c.args.scene.now c.args.keys.now c.args.key.now (g.R.Recall.find c.args.recall.now) c.look.result c.in-Some.known c.requires.memory c.in-Some.is c.look.ensures c.requires.stack (omega (arith, c.if-known-keys.true))
+    hit_tall c.args.scene.now c.args.keys.now c.args.key.now (g.R.Recall.find c.args.recall.now) c.look.result c.in-Some.known c.requires.truth c.in-Some.is c.look.ensures c.requires.stack (omega (arith, c.if-known-keys.true))
     ∙ ap (λ k. Err (fault_at too_deep k)) (sym c.first_of.ensures)
 
 pub returns-in-Some-clause-known : goal.returns-in-Some-clause-known
 returns-in-Some-clause-known g c =
-    hit_below c.args.scene.now c.args.keys.now c.args.key.now (g.R.Recall.find c.args.recall.now) c.look.result c.in-Some.known c.requires.memory c.in-Some.is c.look.ensures (omega (arith, c.if-known-keys.false))
+    hit_below c.args.scene.now c.args.keys.now c.args.key.now (g.R.Recall.find c.args.recall.now) c.look.result c.in-Some.known c.requires.truth c.in-Some.is c.look.ensures (omega (arith, c.if-known-keys.false))
+
+pub returns-in-Some-clause-read : goal.returns-in-Some-clause-read
+returns-in-Some-clause-read g c =
+    hit_read c.args.scene.now c.args.keys.now c.args.key.now (g.R.Recall.find c.args.recall.now) c.look.result c.in-Some.known c.requires.truth c.in-Some.is c.look.ensures c.requires.reads
 
 pub returns-then-stands_in-clause-fault : goal.returns-then-stands_in-clause-fault
 returns-then-stands_in-clause-fault g c =

@@ -1,0 +1,34 @@
+-- Situations in which only inputs of a wheel's variables are others.
+use Rattle.std.proofs.Common.{◌≡◌, ℕ, Option, None, Some, refl, ap, ◌∙◌}
+use Rattle.fisca_inputs.specs.Entries.{value_at}
+use Rattle.fisca_inputs.specs.Seen.{key_of}
+use Rattle.fisca_inputs.specs.declared.given.Value.{Value}
+use Rattle.fisca_meaning.specs.Dialogues.{Key}
+use Rattle.fisca_heights.specs.Reads.{Moves}
+use Rattle.fisca_sources.specs.Simulations.{Simulation, computed, formula_of, given_or_computed, source_of, sources, variable_of}
+use Rattle.fisca_typing.specs.Formulas.{Formula}
+use Rattle.fisca_variables.specs.VariableForms.{Written}
+use Rattle.fisca_memo.specs.Evaluators.{IsStill, IsTurned}
+
+module _ (marks : Key → ℕ) (wheel : ℕ) (old new : Simulation) (turned : IsTurned marks wheel old new) where
+  -- the old rule set and the old members with the new inputs
+  abbrev between : Simulation
+  between = record { rules = old.rules; situation = record { members = old.situation.members; inputs = new.situation.inputs }; neutral = old.neutral }
+
+  same : new ≡ between
+  same = λ i. record { rules = turned.rules i; situation = record { members = turned.members i; inputs = new.situation.inputs }; neutral = turned.neutral i }
+
+  same_computed : (k : Key) (v : Written) (f : Option Formula) → computed between v k f ≡ computed old v k f
+  same_computed k v None = refl
+  same_computed k v (Some f) = refl
+
+  same_given : (k : Key) (v : Written) (o : Option Value) → given_or_computed between v k o ≡ given_or_computed old v k o
+  same_given k v None = same_computed k v (formula_of old.rules old.neutral v k)
+  same_given k v (Some x) = refl
+
+  same_source : (k : Key) → value_at new.situation.inputs (key_of k) ≡ value_at old.situation.inputs (key_of k) → (o : Option Written) → source_of between k o ≡ source_of old k o
+  same_source k e None = refl
+  same_source k e (Some v) = ap (given_or_computed between v k) e ∙ same_given k v (value_at old.situation.inputs (key_of k))
+
+  pub turned_still : IsStill marks wheel old new
+  turned_still k away = ap (λ m. sources m k) same ∙ same_source k (turned.inputs k away) (variable_of old.rules k)

@@ -1,5 +1,5 @@
 -- What is remembered stays so.
-use Rattle.std.proofs.Common.{◌≡◌, ◌⊎◌, ℕ, zero, suc, ◌==◌, eqb-true, eq-eqb, Bool, true, false, if◌then◌else◌, None, refl, sym, ap, ◌∙◌}
+use Rattle.std.proofs.Common.{◌≡◌, ◌⊎◌, ℕ, suc, ◌==◌, eqb-true, eq-eqb, Bool, true, false, if◌then◌else◌, None, refl, sym, ap, ◌∙◌}
 use Rattle.std.proofs.lemmas.Bool.{false≢true}
 use Rattle.fisca_meaning.specs.Dialogues.{Key}
 use Rattle.fisca_answers.specs.Answers.{Sources}

@@ -23,7 +23,6 @@ use Rattle.fisca_recall.specs.declared.counts.Counts.{Counts}
 use Rattle.fisca_recall.specs.declared.known.Known.{Known}
 use Rattle.fisca_tables.specs.declared.variable.Variable.{Variable}
 use Rattle.fisca_eval.specs.Faults.{IsTold}
-use Rattle.fisca_eval.specs.declared.fault.EvalFault.TheVariants as fault
 use Rattle.fisca_eval.proofs.Steps.{one_behind}
 use Rattle.fisca_memo.proofs.Risen.{counted_entry, counted_on}
 use Rattle.fisca_memo.specs.Counting.{IsCounted}

@@ -4,7 +4,6 @@ use Rattle.fisca_inputs.specs.Entries.{value_at}
 use Rattle.fisca_inputs.specs.Seen.{key_of}
 use Rattle.fisca_inputs.specs.declared.given.Value.{Value}
 use Rattle.fisca_meaning.specs.Dialogues.{Key}
-use Rattle.fisca_heights.specs.Reads.{Moves}
 use Rattle.fisca_sources.specs.Simulations.{Simulation, computed, formula_of, given_or_computed, source_of, sources, variable_of}
 use Rattle.fisca_typing.specs.Formulas.{Formula}
 use Rattle.fisca_variables.specs.VariableForms.{Written}

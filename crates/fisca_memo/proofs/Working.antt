@@ -139,7 +139,7 @@ module _ (s : Scene) (v : Variable) (f : Formula) (key : Key) (keys : List Key) 
 -- of the formula's dialogue r is left, and all that was asked for so far reads just these wheels
 module _ (s : Scene) (v : Variable) (f : Formula) (key : Key) (keys : List Key) (r : Dialogue) (tallest reads : ℕ) (is : scenes.IsWork s v f key)
     (g : IsGathered (sources_in s) (left_below (map key_seen keys)) (of_key (key_seen key) (work s v f key)) (of_key (key_seen key) r) tallest
-      (ReadsWithin (marks_in s) (sources_in s) (left_below (map key_seen keys)) reads))
+    (ReadsWithin (marks_in s) (sources_in s) (left_below (map key_seen keys)) reads))
     (read : AreRead (marks_in s) (sources_in s) (left_below (map key_seen keys)) (of_key (key_seen key) (work s v f key)) reads) where
   abbrev fuel : ℕ
   fuel = left_below (map key_seen keys)

@@ -6,7 +6,7 @@ use Rattle.fisca_answers.specs.Stacks.{IsAskable}
 use Rattle.fisca_answers.proofs.Below.{below_refused}
 use Rattle.fisca_formula.specs.Formulas.{formula_view}
 use Rattle.fisca_heights.specs.Entries.{Remembered}
-use Rattle.fisca_heights.specs.Work.{Covered, IsWork}
+use Rattle.fisca_heights.specs.Work.{Covered}
 use Rattle.fisca_heights.proofs.Gathering.{gathered_wider}
 use Rattle.fisca_heights.proofs.Growing.{grows_on, grows_wider}
 use Rattle.fisca_heights.proofs.Reading.{none_read}

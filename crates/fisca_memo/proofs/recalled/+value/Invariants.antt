@@ -33,7 +33,7 @@ invariant-work_out-loop-value g l =
     record {
       gathered : IsGathered src (left_below (map key_seen l.fn.keys.items)) (of_key (key_seen l.key) (work l.scene l.variable l.formula l.key)) (of_key (key_seen l.key) left) l.tallest (Covered src (Remembered (g.R.Recall.find l.store.recall)));
       reading : IsGathered src (left_below (map key_seen l.fn.keys.items)) (of_key (key_seen l.key) (work l.scene l.variable l.formula l.key)) (of_key (key_seen l.key) left) l.tallest
-        (ReadsWithin (marks_in l.scene) src (left_below (map key_seen l.fn.keys.items)) l.reads);
+          (ReadsWithin (marks_in l.scene) src (left_below (map key_seen l.fn.keys.items)) l.reads);
       read : AreRead (marks_in l.scene) src (left_below (map key_seen l.fn.keys.items)) (of_key (key_seen l.key) (work l.scene l.variable l.formula l.key)) l.reads;
       sound : GivesOnly (known_in l.scene) (IsValueOf (known_in l.scene) l.key.variable) left;
       waits : waiting l.scene.world l.machine ≡ rest l.scene.world l.fn.machine ∷ waiting l.scene.world l.fn.machine;

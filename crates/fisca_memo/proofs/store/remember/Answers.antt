@@ -12,7 +12,7 @@ returns-in-Ok-clause-memory g c =
     let s = c.args.scene.now in
     let old = c.args.store.now in
     let kept = kept_memory (marks_in s) (sources_in s) (g.R.Recall.find old.recall) old.counts.free (key_seen c.args.key.now) (entry_seen c.args.known.now)
-        c.requires.memory c.requires.known c.requires.read c.requires.work c.requires.formula c.requires.miss in
+    c.requires.memory c.requires.known c.requires.read c.requires.work c.requires.formula c.requires.miss in
     let entries = with_entry (g.R.Recall.find old.recall) (key_seen c.args.key.now) (entry_seen c.args.known.now) in
     subst (λ m. IsMemoryIn s m c.count_kept.new.self.free) (sym (same_entries _ _ c.in-Ok.ensures.ok)) (subst (IsMemoryIn s entries) (sym (ap (λ w. w.free) c.count_kept.ensures)) kept)
 

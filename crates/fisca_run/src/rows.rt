@@ -190,7 +190,8 @@ fn work_out_in(
     ensures members { result.1 ≡ (situation_view situation).members }
 {
     let recall = IndexRecall::new(alloc);
-    let mut evaluator = Evaluator::new(alloc, rules, run.neutral.as_slice(), &[], situation, recall);
+    let neutral = run.neutral.as_slice();
+    let mut evaluator = Evaluator::new(alloc, rules, neutral, &[], situation, recall);
     let asked = Asked {
         position,
         moved,

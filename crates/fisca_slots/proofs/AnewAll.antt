@@ -89,8 +89,7 @@ module _ (rules : List Rule) (to : Anew) (even : IsEven to) where
           → (and_then (shared r (here t) (set to es)) (all_shared rules (map here ts)) ≡ Ok (set to new)) × AllThere new (t ∷ ts)
       one later r is (Ok mid) first rest =
           let more = later mid (all_free_after r t ts es mid first is sound.1.0 free.1) rest in
-          let again = shared_set to even r t.given t.value es mid (sound.0.1 r is) (free.0 r is) (sound.0.0 r is) first in
-          (
+          let again = shared_set to even r t.given t.value es mid (sound.0.1 r is) (free.0 r is) (sound.0.0 r is) first in (
             ap (λ o. and_then o (all_shared rules (map here ts))) again ∙ more.0,
             (
               λ s at moved q inside.

@@ -72,9 +72,9 @@ module _ (c : Tables) where
       let g : Given = record { variable = x.variable; member = x.member; period = key_period x.declared.definition_period p; value = w; line = line } in
       one_given gs g hs all
       (normal g (λ y at eternal.
-        let found : Some x.declared ≡ Some y = sym there ∙ at in
-        let same : x.declared ≡ y = cc in
-        key_eternal x.declared.definition_period p (ap (λ (v : Variable). is_eternity v.definition_period) same ∙ eternal))) h
+      let found : Some x.declared ≡ Some y = sym there ∙ at in
+      let same : x.declared ≡ y = cc in
+      key_eternal x.declared.definition_period p (ap (λ (v : Variable). is_eternity v.definition_period) same ∙ eternal))) h
 
   -- what axes move
 
@@ -100,9 +100,9 @@ module _ (c : Tables) where
           let same : moved_at a x.0 p ≡ g = cc in
           subst (IsNormal (map rule_of c.variables)) same
           (normal (moved_at a x.0 p) (λ y at eternal.
-            let found : Some x.1 ≡ Some y = sym there ∙ at in
-            let one : x.1 ≡ y = cc in
-            moved_eternal x.1 o p (ap (λ (v : Variable). is_eternity v.definition_period) one ∙ eternal) is))
+          let found : Some x.1 ≡ Some y = sym there ∙ at in
+          let one : x.1 ≡ y = cc in
+          moved_eternal x.1 o p (ap (λ (v : Variable). is_eternity v.definition_period) one ∙ eternal) is))
 
   placed : (place : ℕ) (y : Variable) (x : ℕ × Variable) → slice_get c.variables place ≡ Some y → if_numbers place y ≡ Some x → slice_get c.variables x.0 ≡ Some x.1
   placed place y x is h = by (has_numbers y.value_type) h

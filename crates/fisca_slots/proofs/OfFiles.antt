@@ -105,7 +105,7 @@ module _ (c : Tables) (marks : List Bool) (wheel : ℕ) (g : Given) (v : Number)
   slot_is false None es left is = refl
   slot_is true (Some x) es left is =
       set_elsewhere marks (own_axis (Some x)) es left (λ k w unmarked.
-        stand_out (share_for (rule_of x) g (cut_for x.value_type v)) (input_keys (rule_of x) g) k (outside k unmarked) w)
+      stand_out (share_for (rule_of x) g (cut_for x.value_type v)) (input_keys (rule_of x) g) k (outside k unmarked) w)
       ∙ sym (set_none es)
     where
       outside : (k : Key) → is_marked marks k.variable ≡ false → list_any (same_key k) (input_keys (rule_of x) g) ≡ false
@@ -168,8 +168,7 @@ module _ (c : Tables) (zs : List Moving) where
   placed_all [] vs periods parts normals inside = tt
   placed_all (g ∷ gs) [] periods parts normals inside = tt
   placed_all (g ∷ gs) (v ∷ vs) periods parts normals inside =
-      let w = cut_by (slice_get c.variables g.variable) v in
-      (
+      let w = cut_by (slice_get c.variables g.variable) v in (
         record {
           sound = moved_sound (map rule_of c.variables) g w periods.0 (cut_parts (slice_get c.variables g.variable) v parts.0);
           normal = normals.0;

@@ -234,8 +234,7 @@ module _ (P : Moving → Type 0) (period : (t : Moving) → P t → is_period t.
   each_apart z given before (u ∷ us) p all met none =
       let x = u.given.variable in
       let m = u.given.member in
-      let apart : across z u ≡ false = met x m u.given.period (either_false (meets before x m u.given.period) (overlaps given x m u.given.period) none.0).0 in
-      (
+      let apart : across z u ≡ false = met x m u.given.period (either_false (meets before x m u.given.period) (overlaps given x m u.given.period) none.0).0 in (
         record { keys = other_keys z u (period z p) (period u all.0) apart; days = λ moved. apart },
         each_apart z given (before ++ u.given ∷ []) us p all.1 (met_more z.given u.given before met) none.1,
       )

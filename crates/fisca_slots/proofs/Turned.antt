@@ -189,9 +189,9 @@ module _ (rules : List Rule) where
     -- what no axis moves has no key of one
     plain_apart : (t : Moving) → Among t sorted → is_some t.value ≡ false → Each KeysApart t zs
     plain_apart t m plain = each_from KeysApart t zs (λ z n.
-      let other : t ≡ z → ⊥ = λ e. true≢false (sym (moved z n) ∙ (ap (λ (x : Moving). is_some x.value) (sym e) ∙ plain)) in
-      placed_apart t z (holds_at (IsPlaced zs) Apart sorted sorted_apart t m) (holds_at (IsPlaced zs) Apart sorted sorted_apart z (in_sorted z n))
-      (pair_at (IsPlaced zs) Apart turned sorted sorted_apart t z m (in_sorted z n) other) (moved z n))
+        let other : t ≡ z → ⊥ = λ e. true≢false (sym (moved z n) ∙ (ap (λ (x : Moving). is_some x.value) (sym e) ∙ plain)) in
+        placed_apart t z (holds_at (IsPlaced zs) Apart sorted sorted_apart t m) (holds_at (IsPlaced zs) Apart sorted sorted_apart z (in_sorted z n))
+        (pair_at (IsPlaced zs) Apart turned sorted sorted_apart t z m (in_sorted z n) other) (moved z n))
 
     agrees_at : (t : Moving) → Among t sorted → (r : Rule) → slice_get rules t.given.variable ≡ Some r → Agrees (to_of zs) r t
     agrees_at t m r is q inside x = by t.value refl

@@ -2,7 +2,7 @@
 ghost use Rattle.std.specs.Prelude.{◌≡◌, ◌≢◌, ◌<◌, ◌≤◌, ◌+◌, ◌*◌, ◌||◌, ◌↔◌, [], length, slice_get, IfSome, IfOk, IfErr, IsTrue, string_bytes, if◌then◌else◌, pos, ◌-ℤ◌};
 ghost use Rattle.fisca_time.specs.Calendar.{first_day, end_day};
 ghost use Rattle.fisca_time.specs.Unit.{is_month, is_year, months_in};
-ghost use Rattle.fisca_time.specs.Period.{eternity, is_period, is_eternal, is_of_months, unit_of, first_of, size_of, months_of, days_of, month_start, month_of, start_day, stop_day, start_of, months_from, days_from, days_from_month, months_moved, days_moved, moved_by, later_month, day_at, month_at, year_at, this_year_of, first_month_of, first_day_of, last_month_of, last_year_of, n_2_of, last_3_months_of, subs, Overlaps};
+ghost use Rattle.fisca_time.specs.Period.{eternity, days, is_period, is_eternal, is_of_months, unit_of, first_of, size_of, months_of, days_of, month_start, month_of, start_day, stop_day, start_of, months_from, days_from, days_from_month, months_moved, days_moved, moved_by, later_month, day_at, month_at, year_at, this_year_of, first_month_of, first_day_of, last_month_of, last_year_of, n_2_of, last_3_months_of, subs, Overlaps};
 ghost use Rattle.fisca_time.specs.Kept.{span_of, is_kept};
 ghost use Rattle.fisca_time.specs.PeriodText.{period_of_form, period_of_text, text_of, IsShortest};
 
@@ -130,13 +130,13 @@ impl Period {
     pub const ETERNITY: Period = Period { key: 3 << 48 };
 
     /// The period with these parts.
-    fn of(unit: Unit, first: u32, size: u16) -> Period
+    fn of(unit: Unit, first: u64, size: u16) -> Period
         requires { IsTrue (is_kept unit first size) }
         ensures { result ≡ span_of unit first size }
     {
         let unit = u64::from(unit as u8);
         Period {
-            key: (unit * (1 << 32) + u64::from(first)) * (1 << 16) + u64::from(size),
+            key: (unit * (1 << 32) + first) * (1 << 16) + u64::from(size),
         }
     }
 
@@ -281,10 +281,9 @@ impl Period {
     fn month_count(self) -> u32
         ensures { result ≡ months_of self }
     {
-        // The months in one of its unit, by the unit's place among all: 0 where none are counted. A place is below 4, and the
-        // remainder tells the compiler so.
+        // The months in one of its unit, by the unit's place among all: 0 where none are counted.
         const MONTHS: [u32; 4] = [0, 1, 12, 0];
-        MONTHS[(self.key >> 48) as usize % 4] * (self.key % (1 << 16)) as u32
+        MONTHS[(self.key >> 48) as usize] * (self.key % (1 << 16)) as u32
     }
 
     /// The number of days, 1 to 438,291. `None` for eternity.
@@ -413,7 +412,7 @@ impl Period {
         if self.is_of_months() {
             Ok(self.first())
         } else if self.key >> 48 == Unit::Day as u64 {
-            Ok(Instant::of_day(self.first()).month_number())
+            Ok(month_of_day(self.first()))
         } else {
             Err(TimeFault::OutOfRange)
         }
@@ -561,7 +560,7 @@ impl Period {
         if month < FIRST_MONTH + months {
             return Err(TimeFault::OutOfRange);
         }
-        Ok(Period::of(unit, month - months, size))
+        Ok(Period::of(unit, u64::from(month) - u64::from(months), size))
     }
 
     /// The period of that unit and size from a month on.
@@ -575,7 +574,7 @@ impl Period {
         if first < i64::from(FIRST_MONTH) || first > i64::from(END_MONTH - months) {
             return Err(TimeFault::OutOfRange);
         }
-        Ok(Period::of(unit, first as u32, size))
+        Ok(Period::of(unit, first as u64, size))
     }
 
     /// So many days from a day on.
@@ -587,7 +586,7 @@ impl Period {
         if first < i128::from(FIRST_DAY) || first > i128::from(END_DAY - u32::from(size)) {
             return Err(TimeFault::OutOfRange);
         }
-        Ok(Period::of(Unit::Day, first as u32, size))
+        Ok(Period::of(Unit::Day, first as u64, size))
     }
 
     /// So many days from that day of a month on, or from its last one where it is too short.
@@ -619,6 +618,19 @@ fn later_month(month: u32, k: i64, unit: Unit) -> i128
     i128::from(month) + i128::from(k) * i128::from(months_in(unit))
 }
 
+/// The number of the month that a day lies in. Most of what is moved by name starts with a month, so this is kept out of its way.
+#[cold]
+#[inline(never)]
+fn month_of_day(day: u32) -> u32
+    requires from { first_day ≤ day }
+    requires to { day < end_day }
+    ensures value { result ≡ month_of (days day 1) }
+    ensures from { 12 ≤ result }
+    ensures to { result < 120_000 }
+{
+    Instant::of_day(day).month_number()
+}
+
 /// The number of the first day of a month, and of the day after 9999-12-31 for the month after it.
 fn month_start(month: u32) -> u32
     requires from { 12 ≤ month }
@@ -637,7 +649,7 @@ fn day_at(day: u32) -> Period
     requires to { day < end_day }
     ensures { result ≡ day_at day }
 {
-    Period::of(Unit::Day, day, 1)
+    Period::of(Unit::Day, u64::from(day), 1)
 }
 
 fn month_at(month: u32) -> Period
@@ -645,7 +657,7 @@ fn month_at(month: u32) -> Period
     requires to { month < 120_000 }
     ensures { result ≡ month_at month }
 {
-    Period::of(Unit::Month, month, 1)
+    Period::of(Unit::Month, u64::from(month), 1)
 }
 
 fn year_at(year: u32) -> Period
@@ -653,5 +665,5 @@ fn year_at(year: u32) -> Period
     requires to { year < 10_000 }
     ensures { result ≡ year_at year }
 {
-    Period::of(Unit::Year, 12 * year, 1)
+    Period::of(Unit::Year, 12 * u64::from(year), 1)
 }

@@ -1,2 +1,4 @@
 pub mod Readings
+pub mod Sets
 pub mod Slots
+pub mod Views

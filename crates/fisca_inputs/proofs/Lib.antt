@@ -1,3 +1,4 @@
+pub mod Anew
 pub mod Beside
 pub mod Givens
 pub mod Looked

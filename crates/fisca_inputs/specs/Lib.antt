@@ -1,3 +1,4 @@
+pub mod Anew
 pub mod Defaults
 pub mod Entries
 pub mod Faults

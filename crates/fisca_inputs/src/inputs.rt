@@ -1,6 +1,7 @@
 //! The table of inputs.
 
-ghost use Rattle.std.specs.Prelude.{◌≡◌, [], false, not, IfOk};
+ghost use Rattle.std.specs.Prelude.{◌≡◌, [], ◌∷◌, false, not, IfOk};
+ghost use Rattle.fisca_inputs.specs.Anew.{set_keys};
 ghost use Rattle.fisca_inputs.specs.Inputs.{is_marked, without_marked};
 ghost use Rattle.fisca_inputs.specs.Defaults.{rows_of};
 ghost use Rattle.fisca_inputs.specs.Entries as spec;
@@ -99,6 +100,15 @@ impl Inputs {
             })?;
         }
         Ok(rows)
+    }
+
+    /// Gives this value to a key, where it has one: no key comes or goes. It costs one look-up, and takes no memory.
+    pub fn set(&mut self, key: &Key, value: Value)
+        ensures { self.new ≡ set_keys (key.now ∷ []) value self.old }
+    {
+        if let Some(place) = self.entries.get_mut(key) {
+            *place = value;
+        }
     }
 
     /// Takes out the inputs of the variables that have a mark, by their places. There is none past the last mark.

@@ -21,4 +21,5 @@ pub use across::overlaps;
 pub use condition::{Condition, read_condition};
 pub use conditions::Conditions;
 pub use moved::MovedInputs;
+pub use positions::cut_for;
 pub use run_file::RunFile;

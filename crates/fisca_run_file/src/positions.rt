@@ -29,8 +29,8 @@ fn whole_part(value: Fraction) -> Fraction
     }
 }
 
-/// The value of an axis for a variable of this type: whole numbers are cut.
-fn cut_for(value_type: DeclaredType, value: Fraction) -> Fraction
+/// The value of an axis for a variable of this type: whole numbers are cut towards zero. This project's own rule.
+pub fn cut_for(value_type: DeclaredType, value: Fraction) -> Fraction
     ensures { result ≡ spec.cut_for value_type value }
 {
     match value_type {

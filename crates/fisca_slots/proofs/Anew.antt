@@ -1,6 +1,6 @@
 -- Inputs that differ in the values of axes alone are shared alike: what comes of them differs in what is set anew, and in nothing else.
-use Rattle.std.proofs.Common.{◌≡◌, ℕ, suc, pos, List, [], ◌∷◌, ◌++◌, map, length, Bool, true, false, cond, Option, Some, None, is_some, slice_get, refl, sym, ap, subst, ◌∙◌, if◌then◌else◌, ◌||◌}
-use Rattle.std.specs.Prelude.{⊤, Result, Ok, Err, nat_lt, ◌==◌, option_map}
+use Rattle.std.proofs.Common.{◌≡◌, ℕ, suc, pos, List, [], ◌∷◌, ◌++◌, map, length, Bool, true, false, cond, Option, Some, None, is_some, refl, sym, ap, subst, ◌∙◌, if◌then◌else◌, ◌||◌}
+use Rattle.std.specs.Prelude.{Result, Ok, Err, nat_lt, ◌==◌, option_map}
 use Rattle.std.specs.List.{list_any}
 use Rattle.std.specs.Ordering.{int_eq}
 use Rattle.fisca_inputs.proofs.Looked.{looked-put, looked-put_all}
@@ -21,7 +21,7 @@ use Rattle.fisca_num.specs.Operations.{number_of}
 use Rattle.fisca_num.specs.declared.faults.NumFault.{NumFault}
 use Rattle.fisca_num.specs.declared.faults.NumFault.TheVariants.{ZeroDivisor}
 use Rattle.fisca_params.specs.Results.{and_then}
-use Rattle.fisca_slots.proofs.Both.{At, HasParts, Moving, behind, count_alike, first, here, keys, keys_of, length_parts, rest_alike, same_has, shared_both, some_count, spread_all, value_here}
+use Rattle.fisca_slots.proofs.Both.{At, HasParts, Moving, behind, count_alike, keys, keys_of, length_parts, rest_alike, same_has, shared_both, some_count, spread_all, value_here}
 use Rattle.fisca_slots.specs.Slots.{divides, is_divided, share_by}
 use Rattle.fisca_tables.specs.declared.variable.SetInput.{SetInput}
 use Rattle.fisca_tables.specs.declared.variable.SetInput.TheVariants.{DivideByPeriod, DispatchByPeriod}

@@ -1,5 +1,5 @@
 -- All inputs of a situation, with those that differ in the values of axes alone set anew.
-use Rattle.std.proofs.Common.{◌≡◌, true≢false, ℕ, List, [], ◌∷◌, map, Bool, true, false, Option, Some, None, is_some, slice_get, refl, sym, ap, subst, ◌∙◌, ◌||◌}
+use Rattle.std.proofs.Common.{◌≡◌, ℕ, List, [], ◌∷◌, map, Bool, true, false, Option, Some, None, is_some, slice_get, refl, sym, ap, subst, ◌∙◌, ◌||◌}
 use Rattle.std.specs.Prelude.{⊤, Result, Ok, Err}
 use Rattle.std.specs.List.{list_any}
 use Rattle.fisca_inputs.specs.Defaults.{beside, beside_by, count_of, first_line, row_of, row_with, rows_of, with_defaults}

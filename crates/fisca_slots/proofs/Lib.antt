@@ -11,6 +11,7 @@ pub mod Placed
 pub mod Positions
 pub mod Reading
 pub mod Said
+pub mod Sets
 pub mod Shared
 pub mod Situated
 pub mod Standing

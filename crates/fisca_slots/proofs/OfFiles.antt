@@ -1,16 +1,14 @@
 -- The slots of run files: with them the inputs of one position become those of another.
-use Rattle.std.proofs.Common.{◌≡◌, true≢false, codes, length-append, ℕ, suc, ◌+◌, ◌<◌, ◌≤◌, List, [], ◌∷◌, ◌++◌, map, length, drop, Bool, true, false, cond, not, Option, Some, None, is_some, slice_get, refl, sym, ap, ap₂, subst, ◌∙◌, arith, inl, inr, if◌then◌else◌}
-use Rattle.std.specs.Prelude.{⊤, ◌⊎◌, Result, Ok, Err, nat_lt, option_map}
+use Rattle.std.proofs.Common.{◌≡◌, true≢false, codes, length-append, ℕ, suc, ◌+◌, ◌<◌, ◌≤◌, List, [], ◌∷◌, ◌++◌, map, length, Bool, true, false, cond, not, Option, Some, None, is_some, slice_get, refl, sym, ap, ap₂, subst, ◌∙◌, arith, inl, inr, if◌then◌else◌}
+use Rattle.std.specs.Prelude.{⊤, Ok, nat_lt, option_map}
 use Rattle.std.specs.List.{list_any}
 use Rattle.std.specs.Option.{unwrap_or}
 use Rattle.std.proofs.lemmas.Bool.{lt-ltb}
 use Rattle.fisca_calc.specs.Calc.{default_in}
 use Rattle.fisca_grid.specs.AxesRow.{values_of}
-use Rattle.fisca_grid.specs.Grid.{axes_at, axes_in, counts_of}
-use Rattle.fisca_lines.specs.Odometer.{places_at}
-use Rattle.fisca_inputs.proofs.Typed.{then_ok}
-use Rattle.fisca_inputs.specs.Entries.{Entries, key, same_key, value_at}
-use Rattle.fisca_inputs.specs.Inputs.{inputs_of, is_marked, key_given, without_marked}
+use Rattle.fisca_grid.specs.Grid.{axes_at, axes_in}
+use Rattle.fisca_inputs.specs.Entries.{Entries, key, same_key}
+use Rattle.fisca_inputs.specs.Inputs.{inputs_of, is_marked, without_marked}
 use Rattle.fisca_inputs.specs.Rules.{Rule, rule_of}
 use Rattle.fisca_inputs.specs.declared.given.Given.{Given}
 use Rattle.fisca_inputs.specs.declared.key.Key.{Key}
@@ -30,21 +28,21 @@ use Rattle.fisca_slots.proofs.Reading.{all_kept}
 use Rattle.fisca_slots.proofs.Said.{IsWhole, default_read, said_whole}
 use Rattle.fisca_yaml.specs.Find.{get, line_at}
 use Rattle.fisca_yaml.specs.Node.{Node, null}
-use Rattle.fisca_slots.proofs.Both.{Moving, here, keys_of as input_keys, length_parts}
+use Rattle.fisca_slots.proofs.Both.{Moving, keys_of as input_keys, length_parts}
 use Rattle.fisca_slots.proofs.Normal.{AreNormal, kept_normal, moved_normal, rule_at}
-use Rattle.fisca_slots.proofs.Parts.{given_sound, in_parts, key_variable, moved_sound}
+use Rattle.fisca_slots.proofs.Parts.{given_sound, key_variable, moved_sound}
 use Rattle.fisca_slots.proofs.Placed.{AllOf, Distinct, NoneOverlaps}
 use Rattle.fisca_slots.proofs.Positions.{ArePeriods, cut_parts, given_are, grid_parts, here_moving, length_specs, moved_periods, moving, none_overlaps, read_moving, shared_first}
-use Rattle.fisca_slots.proofs.Shared.{Each, Pairwise, given_of}
+use Rattle.fisca_slots.proofs.Shared.{Pairwise, given_of}
 use Rattle.fisca_slots.proofs.Situated.{AreGiven}
 use Rattle.fisca_slots.proofs.Standing.{Among}
-use Rattle.fisca_slots.proofs.Steps.{AllPart, CanPart, axes_grouped, values_at}
+use Rattle.fisca_slots.proofs.Steps.{AllPart, axes_grouped, values_at}
 use Rattle.fisca_slots.proofs.Turned.{IsMoved, IsPlaced, KeysApart, axis, inputs_turned, keys_of_zs, stand, stand_out, to_of}
-use Rattle.fisca_slots.proofs.Turns.{AreBelow, set_alike, set_none, set_twice, turned_is}
-use Rattle.fisca_slots.specs.Slots.{Slot, is_divided, keys_of, periods_of, share_by, share_in, slot_by, slot_of, slots_of, slots_with, turned, turned_below, wheels_from}
+use Rattle.fisca_slots.proofs.Turns.{set_none, set_twice, turned_is}
+use Rattle.fisca_slots.specs.Slots.{is_divided, periods_of, share_by, slot_by, slot_of, slots_of, slots_with, turned, turned_below, wheels_from}
 use Rattle.fisca_tables.specs.declared.tables.Tables.{Tables}
 use Rattle.fisca_tables.specs.declared.variable.Variable.{Variable}
-use Rattle.fisca_time.specs.Period.{Span, subs}
+use Rattle.fisca_time.specs.Period.{subs}
 
 -- Neutralised variables
 

@@ -1,6 +1,6 @@
 -- The slots of run files between two positions: it is enough to turn those of the groups that have other places.
-use Rattle.std.proofs.Common.{◌≡◌, true≢false, ℕ, suc, ◌<◌, ◌≤◌, List, [], ◌∷◌, map, length, drop, Bool, true, false, Option, Some, None, slice_get, refl, sym, ap, subst, ◌∙◌, arith, if◌then◌else◌}
-use Rattle.std.specs.Prelude.{⊤, ◌==◌, Result, Ok, Err, nat_lt, option_map}
+use Rattle.std.proofs.Common.{◌≡◌, ℕ, suc, ◌≤◌, List, [], ◌∷◌, map, length, drop, Bool, true, false, Option, Some, None, slice_get, refl, sym, ap, subst, ◌∙◌, arith, if◌then◌else◌}
+use Rattle.std.specs.Prelude.{◌==◌, Ok, Err, nat_lt, option_map}
 use Rattle.std.specs.List.{list_any}
 use Rattle.std.proofs.lemmas.Bool.{eqb-true}
 use Rattle.fisca_grid.specs.AxesRow.{values_of}
@@ -27,7 +27,7 @@ use Rattle.fisca_slots.proofs.Steps.{AllPart, CanPart, most_parts}
 use Rattle.fisca_slots.proofs.Turned.{IsPlaced, KeysApart}
 use Rattle.fisca_slots.proofs.Turns.{AreApart, AreBelow, CanStand, IsLong, NoneAt, is_at, still_there, turned_again, wheels_in}
 use Rattle.fisca_slots.proofs.Wheels.{Same, same_for, same_from, values_at_places}
-use Rattle.fisca_slots.specs.Slots.{AreSamePlaces, IsSamePlace, Slot, is_divided, part_of, periods_of, places_of, share_by, share_in, slot_by, slot_of, slots_of, slots_with, turned_below, wheels_from}
+use Rattle.fisca_slots.specs.Slots.{AreSamePlaces, IsSamePlace, is_divided, periods_of, places_of, share_by, share_in, slot_by, slot_of, slots_of, slots_with, turned_below, wheels_from}
 use Rattle.fisca_tables.specs.declared.tables.Tables.{Tables}
 use Rattle.fisca_tables.specs.declared.variable.Variable.{Variable}
 use Rattle.fisca_time.specs.Period.{Span, is_period, subs}

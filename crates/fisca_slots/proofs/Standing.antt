@@ -1,37 +1,29 @@
 -- What stands at the keys that axes move, among inputs with those of axes put in.
-use Rattle.std.proofs.Common.{◌≡◌, true≢false, ℕ, zero, suc, ◌+◌, ◌*◌, ◌<◌, ◌≤◌, List, [], ◌∷◌, ◌++◌, map, Bool, true, false, Option, Some, None, is_some, slice_get, refl, sym, ap, ap₂, subst, ◌∙◌, arith, inl, inr, if◌then◌else◌, ◌||◌, ◌&&◌}
-use Rattle.std.specs.Prelude.{⊤, ◌⊎◌, Result, Ok, Err, ◌==◌, nat_le}
+use Rattle.std.proofs.Common.{◌≡◌, true≢false, ℕ, ◌+◌, ◌*◌, ◌<◌, List, [], ◌∷◌, ◌++◌, map, Bool, true, false, refl, sym, ap, ap₂, subst, ◌∙◌, arith, inl, inr, if◌then◌else◌, ◌||◌, ◌&&◌}
+use Rattle.std.specs.Prelude.{◌⊎◌, nat_le}
 use Rattle.std.specs.Cmp.{unsigned_ties}
 use Rattle.std.specs.List.{list_any}
 use Rattle.std.specs.Ordering.{eq_by_cmp, is_eq, is_lt, nat_cmp, ordering_then}
 use Rattle.std.proofs.lemmas.Bool.{and_parts, eqb-true, eq-eqb, leb-true, lt-ltb}
 use Rattle.std.proofs.lemmas.List.Folds.{list_any-append}
 use Rattle.fisca_grid.proofs.Groups.{either_false}
-use Rattle.fisca_inputs.specs.Entries.{key, same_key}
-use Rattle.fisca_inputs.specs.Inputs.{key_given}
+use Rattle.fisca_inputs.specs.Entries.{same_key}
 use Rattle.fisca_inputs.specs.Order.{given_cmp}
 use Rattle.fisca_inputs.specs.Rules.{Rule}
 use Rattle.fisca_inputs.specs.Sharing.{own_key, parts_of}
-use Rattle.fisca_inputs.specs.contracts.key.KeyEq.TheImpl.Laws.{laws-law}
 use Rattle.fisca_inputs.specs.declared.given.Given.{Given}
-use Rattle.fisca_inputs.specs.declared.given.Value.{Value}
-use Rattle.fisca_inputs.specs.declared.given.Value.TheVariants.{Number as number}
 use Rattle.fisca_inputs.specs.declared.key.Key.{Key}
-use Rattle.fisca_meaning.specs.Questions.{fits, is_eternity, key_period}
-use Rattle.fisca_num.specs.Number.{Number}
-use Rattle.fisca_num.specs.declared.faults.NumFault.{NumFault}
-use Rattle.fisca_run_file.specs.Moved.{is_overlap}
-use Rattle.fisca_run_file.specs.Overlaps.{is_across, is_other, meets, overlaps, shares_day, starts_before}
-use Rattle.fisca_slots.proofs.Anew.{Agrees, Anew, IsEven, Stands, share_for}
+use Rattle.fisca_meaning.specs.Questions.{fits}
+use Rattle.fisca_run_file.specs.Overlaps.{is_across, meets, overlaps, shares_day, starts_before}
 use Rattle.fisca_slots.proofs.Both.{Moving, keys_of}
 use Rattle.fisca_slots.proofs.Months.{month_before}
-use Rattle.fisca_slots.proofs.Parts.{IsSound, all_disjoint, any_key, both_equal, key_parts, key_variable, meets_common, part_key}
-use Rattle.fisca_slots.proofs.Placed.{AllOf, Apart, Distinct, NoneOverlaps, across, key_of, place, place_all, turned}
+use Rattle.fisca_slots.proofs.Parts.{both_equal, key_parts, part_key}
+use Rattle.fisca_slots.proofs.Placed.{AllOf, Apart, NoneOverlaps, across, key_of, place, place_all}
 use Rattle.fisca_slots.proofs.Shared.{Each, Pairwise, given_of, order_moving, put_moving}
 use Rattle.fisca_time.specs.Calendar.{first_day, end_day}
 use Rattle.fisca_time.specs.Instant.{is_between}
 use Rattle.fisca_time.specs.Kept.{span_of}
-use Rattle.fisca_time.specs.Period.{Span, eternity, months, days, first_of, is_period, is_within, month_start, size_of, span_cmp, start_day, stop_day, unit_of}
+use Rattle.fisca_time.specs.Period.{Span, eternity, months, days, first_of, is_period, is_within, month_start, size_of, span_cmp, unit_of}
 use Rattle.fisca_time.specs.Unit.{is_month, is_year, months_in, rank, unit_ranked}
 use Rattle.fisca_time.specs.declared.unit.Unit.{Unit}
 use Rattle.fisca_time.specs.declared.unit.Unit.TheVariants.{Day, Month, Year, Eternity}

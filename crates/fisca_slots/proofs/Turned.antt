@@ -1,8 +1,8 @@
 -- Inputs with those of axes: what comes of them with other values of the axes is the same, but at the keys that the axes move.
 use Rattle.std.proofs.Common.{◌≡◌, true≢false, ℕ, List, [], ◌∷◌, map, Bool, true, false, Option, Some, None, is_some, slice_get, refl, sym, ap, ap₂, subst, ◌∙◌, inl, inr, if◌then◌else◌, ◌||◌}
-use Rattle.std.specs.Prelude.{⊤, ◌⊎◌, Result, Ok, Err}
+use Rattle.std.specs.Prelude.{⊤, Result, Ok, Err}
 use Rattle.std.specs.List.{list_any}
-use Rattle.fisca_inputs.specs.Entries.{Entries, has, key, same_key}
+use Rattle.fisca_inputs.specs.Entries.{Entries, same_key}
 use Rattle.fisca_inputs.specs.Inputs.{inputs_of}
 use Rattle.fisca_inputs.specs.Rules.{Rule}
 use Rattle.fisca_inputs.specs.contracts.key.KeyEq.TheImpl.Laws.{laws-law}

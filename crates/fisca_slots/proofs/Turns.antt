@@ -1,9 +1,8 @@
 -- Slots that are turned: what stands at each key.
-use Rattle.std.proofs.Common.{◌≡◌, true≢false, ℕ, List, [], ◌∷◌, map, Bool, true, false, Option, Some, None, refl, sym, ap, ap₂, subst, ◌∙◌, if◌then◌else◌, ◌||◌}
+use Rattle.std.proofs.Common.{◌≡◌, ℕ, List, [], ◌∷◌, map, Bool, true, false, Option, Some, None, refl, sym, ap, ap₂, ◌∙◌, if◌then◌else◌}
 use Rattle.std.specs.Prelude.{⊤, Result, Ok, Err, nat_lt, option_map}
 use Rattle.std.specs.List.{list_any}
-use Rattle.fisca_slots.specs.Anew.{set_keys}
-use Rattle.fisca_inputs.specs.Entries.{Entries, key, same_key, value_at}
+use Rattle.fisca_inputs.specs.Entries.{Entries, same_key, value_at}
 use Rattle.fisca_inputs.specs.declared.given.Value.{Value}
 use Rattle.fisca_inputs.specs.declared.given.Value.TheVariants.{Number as number}
 use Rattle.fisca_inputs.specs.declared.key.Key.{Key}
@@ -14,7 +13,6 @@ use Rattle.fisca_slots.proofs.Parts.{in_parts}
 use Rattle.fisca_slots.proofs.Turned.{stand, stand_even, stand_out}
 use Rattle.fisca_slots.proofs.Wheels.{Same}
 use Rattle.fisca_slots.specs.Slots.{AreSamePlaces, IsSamePlace, Slot, keys_of, set_share, share_in, turned, turned_below}
-use Rattle.fisca_time.specs.Period.{Span}
 
 -- One after another
 

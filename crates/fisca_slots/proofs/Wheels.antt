@@ -4,9 +4,9 @@ use Rattle.std.specs.Prelude.{⊤, Result, Ok, Err, nat_lt}
 use Rattle.std.proofs.lemmas.Bool.{cases_lt, lt-ltb}
 use Rattle.fisca_grid.specs.Axes.{step_of}
 use Rattle.fisca_grid.specs.AxesRow.{before_values, values_of}
-use Rattle.fisca_grid.specs.Grid.{axes_at, count_of, counts_of, with_places}
-use Rattle.fisca_lines.specs.Odometer.{places_at}
+use Rattle.fisca_grid.specs.Grid.{axes_at, count_of, counts_of}
 use Rattle.fisca_grid.specs.declared.axes.AxisSpec.{AxisSpec}
+use Rattle.fisca_lines.specs.Odometer.{places_at}
 use Rattle.fisca_num.specs.Number.{Number}
 use Rattle.fisca_num.specs.declared.faults.NumFault.{NumFault}
 use Rattle.fisca_slots.specs.Slots.{IsSamePlace, wheels_from}

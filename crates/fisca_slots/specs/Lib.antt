@@ -1,3 +1,4 @@
-pub mod Anew
 pub mod Readings
+pub mod Sets
 pub mod Slots
+pub mod Views

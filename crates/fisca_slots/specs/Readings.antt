@@ -1,5 +1,5 @@
 -- What the input of a run file says.
-use Rattle.std.specs.Prelude.{ℕ, Result, codes}
+use Rattle.std.specs.Prelude.{Result, codes}
 use Rattle.std.specs.Option.{unwrap_or}
 use Rattle.fisca_calc.specs.Calc.{default_in}
 use Rattle.fisca_inputs.specs.declared.fault.SituationFault.{SituationFault}

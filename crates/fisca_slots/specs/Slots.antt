@@ -3,7 +3,7 @@
 use Rattle.std.specs.Prelude.{◌≡◌, ⊤, ℕ, suc, ◌==◌, nat_lt, List, [], ◌∷◌, ◌++◌, length, map, Bool, true, false, if◌then◌else◌, Option, Some, None, Result, Ok, Err, slice_get}
 use Rattle.fisca_grid.specs.Grid.{counts_of}
 use Rattle.fisca_lines.specs.Odometer.{places_at}
-use Rattle.fisca_slots.specs.Anew.{set_keys}
+use Rattle.fisca_inputs.specs.Anew.{set_keys}
 use Rattle.fisca_inputs.specs.Entries.{Entries, key}
 use Rattle.fisca_inputs.specs.Inputs.{is_marked}
 use Rattle.fisca_inputs.specs.Rules.{Rule, rule_of}

@@ -2,5 +2,7 @@
 #![tactic(auto)]
 
 mod law;
+mod slot;
 
 pub use law::{other_variables_stay, slots_turn_between_positions, slots_turn_from_the_start};
+pub use slot::Slot;

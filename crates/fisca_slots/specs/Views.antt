@@ -1,0 +1,13 @@
+-- How definitions see what the code keeps of a slot.
+use Rattle.fisca_slots.specs.Slots as slots
+use Rattle.fisca_slots.specs.declared.slot.Slot.{Slot}
+
+abbrev pub slot : Slot → slots.Slot
+slot s = record {
+  variable = s.variable;
+  member = s.member;
+  wheel = s.wheel;
+  value_type = s.value_type;
+  is_divided = s.is_divided;
+  periods = s.periods.items;
+}

@@ -115,7 +115,6 @@ fn line_of(key: usize, said: &SaidAxes, fault: AxesFault) -> usize
 }
 
 /// The grid of the axes, or the first of its faults.
-#[tactic(auto, using(crate::proofs::Lefts::lengths_of_groups))]
 pub(crate) fn grid_of(alloc: Global, key: usize, said: &SaidAxes) -> Result<Axes, RunFileFault>
     ensures grid { Tells (λ a. a) (spec.grid_of key (said_axes_view said.now)) result }
     ensures grouped { IfOk result (λ a. map length a ≡ said.now.lengths.items) }

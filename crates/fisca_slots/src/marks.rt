@@ -1,6 +1,6 @@
 //! Which wheels move the inputs of each variable.
 
-ghost use Rattle.std.specs.Prelude.{◌≡◌, IfOk, OnOk, map, ◌++◌, ◌∷◌, []};
+ghost use Rattle.std.specs.Prelude.{◌≡◌, IfOk, OnOk, ◌++◌, ◌∷◌, []};
 ghost use Rattle.fisca_slots.specs.Marks as spec;
 ghost use Rattle.fisca_slots.specs.Views.{slot as slot_view, slot_list};
 

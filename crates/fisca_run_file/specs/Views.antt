@@ -3,8 +3,8 @@ use Rattle.std.specs.Prelude.{List, map, string_bytes}
 use Rattle.fisca_situations.specs.Views.{situation}
 use Rattle.fisca_run_file.specs.RunFiles as files
 use Rattle.fisca_run_file.specs.SaidAxes as said
-use Rattle.fisca_run_file.specs.declared.run_file.RunFile.{RunFile}
-use Rattle.fisca_run_file.specs.declared.movement.Movement.{Movement}
+use Rattle.fisca_run_file.specs.declared.file.RunFile.{RunFile}
+use Rattle.fisca_run_file.specs.declared.file.Movement.{Movement}
 use Rattle.fisca_run_file.specs.declared.said_axis.SaidAxis.{SaidAxis}
 use Rattle.fisca_run_file.specs.declared.said.SaidAxes.{SaidAxes}
 use Rattle.fisca_run_file.specs.declared.setting.Setting.{Setting}

@@ -1,6 +1,6 @@
 //! The grid that the axes of a run file make.
 
-ghost use Rattle.std.specs.Prelude.{◌≡◌, IfOk, is_some, length, sum};
+ghost use Rattle.std.specs.Prelude.{◌≡◌, IfOk, is_some, length, map, sum};
 ghost use Rattle.fisca_calc.specs.Outcomes.{Tells};
 ghost use Rattle.fisca_grid.specs.Axes.{axis_fault, is_bound};
 ghost use Rattle.fisca_grid.specs.Grid.{groups_of};
@@ -116,7 +116,8 @@ fn line_of(key: usize, said: &SaidAxes, fault: AxesFault) -> usize
 
 /// The grid of the axes, or the first of its faults.
 pub(crate) fn grid_of(alloc: Global, key: usize, said: &SaidAxes) -> Result<Axes, RunFileFault>
-    ensures { Tells (λ a. a) (spec.grid_of key (said_axes_view said.now)) result }
+    ensures grid { Tells (λ a. a) (spec.grid_of key (said_axes_view said.now)) result }
+    ensures grouped { IfOk result (λ a. map length a ≡ said.now.lengths.items) }
 {
     let specs = specs_of(alloc, said.axes.as_slice())?;
     match Axes::build(alloc, specs.as_slice(), said.lengths.as_slice()) {

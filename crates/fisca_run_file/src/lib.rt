@@ -4,6 +4,7 @@
 mod across;
 mod condition;
 mod conditions;
+mod file;
 mod grids;
 mod keys;
 mod moved;
@@ -20,6 +21,6 @@ mod sharing;
 pub use across::overlaps;
 pub use condition::{Condition, read_condition};
 pub use conditions::Conditions;
+pub use file::RunFile;
 pub use moved::MovedInputs;
 pub use positions::cut_for;
-pub use run_file::RunFile;

@@ -6,6 +6,7 @@ ghost use Rattle.fisca_run_file.specs.RunFiles as spec;
 ghost use Rattle.fisca_run_file.specs.Views.{movement as movement_view, said_axes as said_axes_view, said_list, setting as setting_view};
 ghost use Rattle.fisca_yaml.specs.Views.{node};
 
+use crate::file::Movement;
 use crate::grids::grid_of;
 use crate::moved::{MovedInputs, all_moved, check_apart};
 use crate::said::SaidAxes;
@@ -14,20 +15,10 @@ use crate::said_axis::SaidAxis;
 use crate::setting::Setting;
 use crate::sharing::check_sharing;
 use fisca_calc::{RunFileFault, default_in};
-use fisca_grid::Axes;
 use fisca_tables::Tables;
 use fisca_time::Period;
 use fisca_yaml::Tree;
 use std::alloc::Global;
-
-/// A grid, and the input that each of its axes moves.
-#[derive(Drop)]
-pub(crate) struct Movement {
-    /// The grid.
-    pub(crate) axes: Axes,
-    /// The inputs, in the order of the axes.
-    pub(crate) moved: MovedInputs,
-}
 
 /// The inputs that the axes move, each fault of an axis at its line.
 #[tactic(auto, unfolding(crate::specs::RunFiles::moved_in))]
@@ -63,13 +54,18 @@ fn movement_of(
     key: usize,
     default: Option<Period>,
     setting: &Setting,
-    said: &SaidAxes,
+    said: SaidAxes,
 ) -> Result<Movement, RunFileFault>
-    ensures { Tells movement_view (spec.movement_of tables.now key default (setting_view setting.now) (said_axes_view said.now)) result }
+    ensures { Tells movement_view (spec.movement_of tables.now key default (setting_view setting.now) (said_axes_view said)) result }
 {
-    let axes = grid_of(alloc, key, said)?;
+    let axes = grid_of(alloc, key, &said)?;
     let moved = moved_in(alloc, tables, key, default, setting, said.axes.as_slice())?;
-    Ok(Movement { axes, moved })
+    let SaidAxes { axes: _, lengths } = said;
+    Ok(Movement {
+        axes,
+        lengths,
+        moved,
+    })
 }
 
 /// What stands at `axes`, whose key stands on this line.
@@ -85,7 +81,7 @@ fn movement_at(
     ensures { Tells movement_view (spec.movement_at tables.now key default (setting_view setting.now) (node tree.now)) result }
 {
     let said = axes_said(alloc, key, tree)?;
-    movement_of(alloc, tables, key, default, setting, &said)
+    movement_of(alloc, tables, key, default, setting, said)
 }
 
 /// The axes of the file.

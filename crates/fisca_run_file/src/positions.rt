@@ -8,8 +8,8 @@ ghost use Rattle.fisca_run_file.specs.Positions as spec;
 ghost use Rattle.fisca_run_file.specs.Views.{run_file as run_file_view};
 ghost use Rattle.fisca_situations.specs.Views.{situation as situation_view};
 
+use crate::file::RunFile;
 use crate::moved::push_input;
-use crate::run_file::RunFile;
 use crate::sharing::put_all_in;
 use fisca_grid::Axes;
 use fisca_inputs::{Given, Inputs, SituationFault, Value};

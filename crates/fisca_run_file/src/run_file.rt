@@ -1,6 +1,6 @@
 //! Files of `fisca run`.
 
-ghost use Rattle.std.specs.Prelude.{◌≡◌};
+ghost use Rattle.std.specs.Prelude.{◌≡◌, length, map};
 ghost use Rattle.fisca_calc.specs.Outcomes.{Tells};
 ghost use Rattle.fisca_run_file.specs.Overlaps.{overlaps as overlaps_spec};
 ghost use Rattle.fisca_run_file.specs.RunFiles as spec;
@@ -9,38 +9,17 @@ ghost use Rattle.fisca_situations.specs.Views.{situation as situation_view};
 ghost use Rattle.fisca_yaml.specs.Views.{node};
 
 use crate::across::overlaps;
-use crate::conditions::{Conditions, conditions_in};
+use crate::conditions::conditions_in;
+use crate::file::{Movement, RunFile};
 use crate::keys::check_file;
-use crate::moved::MovedInputs;
-use crate::movement::{Movement, movement_in};
+use crate::movement::movement_in;
 use crate::setting::{Setting, setting_in};
-use fisca_calc::{Columns, RunFileFault, columns_in};
-use fisca_grid::Axes;
-use fisca_inputs::GivenInputs;
+use fisca_calc::{RunFileFault, columns_in};
 use fisca_situations::Situation;
 use fisca_tables::Tables;
 use fisca_time::Period;
 use fisca_yaml::Tree;
 use std::alloc::Global;
-
-/// What `fisca run` works out: at each position of a grid the columns of a situation, where conditions hold.
-#[derive(Drop)]
-pub struct RunFile {
-    /// The situation without the axes, in which neutralised variables have no inputs.
-    pub situation: Situation,
-    /// The inputs as they are given.
-    pub given: GivenInputs,
-    /// A mark for each variable that is neutralised, by its place.
-    pub neutral: Vec<bool>,
-    /// The grid.
-    pub axes: Axes,
-    /// The inputs that the axes move, in the order of the axes.
-    pub moved: MovedInputs,
-    /// The keys of the columns in order.
-    pub columns: Columns,
-    /// The conditions of the filter in order.
-    pub conditions: Conditions,
-}
 
 /// The columns and the conditions of the file.
 #[tactic(auto, unfolding(crate::specs::RunFiles::asked_of))]
@@ -58,7 +37,11 @@ fn asked_of(
         neutral,
         situation,
     } = setting;
-    let Movement { axes, moved } = movement;
+    let Movement {
+        axes,
+        lengths,
+        moved,
+    } = movement;
     let columns = columns_in(alloc, tables, &situation, tree)?;
     let conditions = conditions_in(alloc, tables, &situation, tree)?;
     Ok(RunFile {
@@ -66,6 +49,7 @@ fn asked_of(
         given,
         neutral,
         axes,
+        lengths,
         moved,
         columns,
         conditions,
@@ -119,6 +103,13 @@ impl RunFile {
         check_file(alloc, tree)?;
         let setting = setting_in(alloc, tables, tree)?;
         run_file_by(alloc, tables, tree, setting)
+    }
+
+    /// How many axes there are in each group of the grid, of which the first turns fastest.
+    pub fn lengths(&self) -> &[u32]
+        ensures { result.now ≡ map length (run_file_view self.now).groups }
+    {
+        self.lengths.as_slice()
     }
 
     /// The situation without the axes.

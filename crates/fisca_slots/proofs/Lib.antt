@@ -2,6 +2,8 @@ pub mod Anew
 pub mod AnewAll
 pub mod Both
 pub mod Files
+pub mod Grouped
+pub mod Marked
 pub mod Months
 pub mod Normal
 pub mod OfFiles
@@ -19,3 +21,4 @@ pub mod Steps
 pub mod Turned
 pub mod Turns
 pub mod Wheels
+pub mod Within

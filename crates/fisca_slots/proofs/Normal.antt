@@ -119,7 +119,7 @@ module _ (c : Tables) where
   found place None x is h = cc
   found place (Some y) x is h = placed place y x is h
 
-  named : (o : Option ℕ) (x : ℕ × Variable) → option_and_then (λ place. option_and_then (if_numbers place) (slice_get c.variables place)) o ≡ Some x
+  pub named : (o : Option ℕ) (x : ℕ × Variable) → option_and_then (λ place. option_and_then (if_numbers place) (slice_get c.variables place)) o ≡ Some x
       → slice_get c.variables x.0 ≡ Some x.1
   named None x h = cc
   named (Some place) x h = found place (slice_get c.variables place) x refl h

@@ -1,3 +1,5 @@
+pub mod Groups
+pub mod Marks
 pub mod Readings
 pub mod Sets
 pub mod Slots

@@ -1,4 +1,5 @@
 -- How definitions see what the code keeps of a slot.
+use Rattle.std.specs.Prelude.{List, map}
 use Rattle.fisca_slots.specs.Slots as slots
 use Rattle.fisca_slots.specs.declared.slot.Slot.{Slot}
 
@@ -11,3 +12,6 @@ slot s = record {
   is_divided = s.is_divided;
   periods = s.periods.items;
 }
+
+abbrev pub slot_list : List Slot → List slots.Slot
+slot_list = map slot

@@ -1,6 +1,6 @@
 //! Laws of the slots of run files.
 
-ghost use Rattle.std.specs.Prelude.{◌≡◌, ℕ, List, drop, length, Some, Ok};
+ghost use Rattle.std.specs.Prelude.{◌≡◌, ◌<◌, ℕ, List, drop, length, slice_get, true, Some, Ok};
 ghost use Rattle.fisca_grid.specs.AxesRow.{values_of};
 ghost use Rattle.fisca_grid.specs.Grid.{axes_at};
 ghost use Rattle.fisca_inputs.specs.Entries.{Entries, value_at};
@@ -9,7 +9,8 @@ ghost use Rattle.fisca_inputs.specs.declared.key.Key.{Key};
 ghost use Rattle.fisca_num.specs.Number.{Number};
 ghost use Rattle.fisca_run_file.specs.Positions.{inputs_with, moved_at};
 ghost use Rattle.fisca_run_file.specs.RunFiles.{RunFile, run_file_of};
-ghost use Rattle.fisca_slots.specs.Slots.{AreSamePlaces, places_of, slots_of, turned_below};
+ghost use Rattle.fisca_slots.specs.Marks.{AreWithin, IsMoved, has_mark, wheels_of};
+ghost use Rattle.fisca_slots.specs.Slots.{AreSamePlaces, Slot, places_of, slots_of, turned_below};
 ghost use Rattle.fisca_tables.specs.declared.tables.Tables.{Tables};
 ghost use Rattle.fisca_yaml.specs.Node.{Node};
 
@@ -36,4 +37,17 @@ pub fn other_variables_stay()
         → moved_at tables f here ≡ Some before → values_of (axes_at f.groups here) ≡ Some old → moved_at tables f there ≡ Some after
         → values_of (axes_at f.groups there) ≡ Some new → (inputs others : Entries) → inputs_with tables f before ≡ Ok inputs → inputs_with tables f after ≡ Ok others
         → (key : Key) → AreSamePlaces (places_of f here) (places_of f there) (slots_of tables f) key.variable → value_at inputs key ≡ value_at others key }
+{}
+
+/// Law: each slot that moves one of so many variables marks it with its wheel, where that is below 16, and a variable has no mark but those of the slots
+/// that move it.
+pub fn marks_are_of_slots()
+    ensures all { (variables : ℕ) (slots : List Slot) (i : ℕ) (slot : Slot) → slice_get slots i ≡ Some slot → slot.variable < variables → slot.wheel < 16
+        → has_mark (wheels_of variables slots) slot.variable slot.wheel ≡ true }
+    ensures only { (variables : ℕ) (slots : List Slot) (variable wheel : ℕ) → has_mark (wheels_of variables slots) variable wheel ≡ true → IsMoved slots variable wheel }
+{}
+
+/// Law: the slots of an accepted run file move variables of its rule set, and their wheels are below 16.
+pub fn slots_are_within()
+    ensures { (tables : Tables) (n : Node) (f : RunFile) → run_file_of tables n ≡ Ok f → AreWithin (length tables.variables) (slots_of tables f) }
 {}

@@ -2,7 +2,14 @@
 #![tactic(auto)]
 
 mod law;
+mod marks;
 mod slot;
+mod slots;
 
-pub use law::{other_variables_stay, slots_turn_between_positions, slots_turn_from_the_start};
+pub use law::{
+    marks_are_of_slots, other_variables_stay, slots_are_within, slots_turn_between_positions,
+    slots_turn_from_the_start,
+};
+pub use marks::wheels_of;
 pub use slot::Slot;
+pub use slots::slots_of;

@@ -1,0 +1,11 @@
+-- The places of groups of axes, by how many axes each has.
+use Rattle.std.specs.Prelude.{ℕ, zero, suc, List, [], ◌∷◌, ◌++◌}
+
+abbrev pub so_many : ℕ → ℕ → List ℕ
+so_many zero wheel = []
+so_many (suc count) wheel = wheel ∷ so_many count wheel
+
+-- for each axis of groups of these lengths the place of its group, where the first group has this one
+abbrev pub wheels_by : ℕ → List ℕ → List ℕ
+wheels_by wheel [] = []
+wheels_by wheel (n ∷ ns) = so_many n wheel ++ wheels_by (suc wheel) ns

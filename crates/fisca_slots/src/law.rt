@@ -1,6 +1,6 @@
 //! Laws of the slots of run files.
 
-ghost use Rattle.std.specs.Prelude.{◌≡◌, ℕ, List, drop, length, Some, Ok};
+ghost use Rattle.std.specs.Prelude.{◌≡◌, ◌≢◌, ℕ, List, drop, length, Some, Ok};
 ghost use Rattle.fisca_grid.specs.AxesRow.{values_of};
 ghost use Rattle.fisca_grid.specs.Grid.{axes_at};
 ghost use Rattle.fisca_inputs.specs.Entries.{Entries, value_at};
@@ -9,7 +9,7 @@ ghost use Rattle.fisca_inputs.specs.declared.key.Key.{Key};
 ghost use Rattle.fisca_num.specs.Number.{Number};
 ghost use Rattle.fisca_run_file.specs.Positions.{inputs_with, moved_at};
 ghost use Rattle.fisca_run_file.specs.RunFiles.{RunFile, run_file_of};
-ghost use Rattle.fisca_slots.specs.Slots.{AreSamePlaces, places_of, slots_of, turned_below};
+ghost use Rattle.fisca_slots.specs.Slots.{AreSamePlaces, Slot, places_of, slots_of, turned, turned_below};
 ghost use Rattle.fisca_tables.specs.declared.tables.Tables.{Tables};
 ghost use Rattle.fisca_yaml.specs.Node.{Node};
 
@@ -36,4 +36,9 @@ pub fn other_variables_stay()
         → moved_at tables f here ≡ Some before → values_of (axes_at f.groups here) ≡ Some old → moved_at tables f there ≡ Some after
         → values_of (axes_at f.groups there) ≡ Some new → (inputs others : Entries) → inputs_with tables f before ≡ Ok inputs → inputs_with tables f after ≡ Ok others
         → (key : Key) → AreSamePlaces (places_of f here) (places_of f there) (slots_of tables f) key.variable → value_at inputs key ≡ value_at others key }
+{}
+
+/// Law: where a slot is turned, the keys of all other variables keep their inputs.
+pub fn turning_keeps_other_variables()
+    ensures { (slot : Slot) (value : Number) (inputs : Entries) (key : Key) → key.variable ≢ slot.variable → value_at (turned slot value inputs) key ≡ value_at inputs key }
 {}

@@ -4,5 +4,8 @@
 mod law;
 mod slot;
 
-pub use law::{other_variables_stay, slots_turn_between_positions, slots_turn_from_the_start};
+pub use law::{
+    other_variables_stay, slots_turn_between_positions, slots_turn_from_the_start,
+    turning_keeps_other_variables,
+};
 pub use slot::Slot;

@@ -9,6 +9,7 @@ mod law;
 mod recalled;
 mod scene;
 mod store;
+mod turns;
 mod values;
 
 pub use evaluator::Evaluator;

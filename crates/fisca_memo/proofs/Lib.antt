@@ -1,4 +1,5 @@
 pub mod Apart
+pub mod Fitting
 pub mod Memories
 pub mod Outcomes
 pub mod Recalls

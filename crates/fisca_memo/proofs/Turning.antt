@@ -1,13 +1,17 @@
 -- Situations in which only inputs of a wheel's variables are others.
-use Rattle.std.proofs.Common.{◌≡◌, ℕ, Option, None, Some, refl, ap, ◌∙◌}
-use Rattle.fisca_inputs.specs.Entries.{value_at}
+use Rattle.std.proofs.Common.{◌≡◌, ℕ, Option, None, Some, refl, sym, ap, subst, ◌∙◌}
+use Rattle.fisca_inputs.specs.Entries.{Entries, value_at}
 use Rattle.fisca_inputs.specs.Seen.{key_of}
 use Rattle.fisca_inputs.specs.declared.given.Value.{Value}
 use Rattle.fisca_meaning.specs.Dialogues.{Key}
+use Rattle.fisca_num.specs.Number.{Number}
+use Rattle.fisca_slots.proofs.Turns.{turned_other}
+use Rattle.fisca_slots.specs.Slots as slots
+use Rattle.fisca_slots.specs.Slots.{Slot}
 use Rattle.fisca_sources.specs.Simulations.{Simulation, computed, formula_of, given_or_computed, source_of, sources, variable_of}
 use Rattle.fisca_typing.specs.Formulas.{Formula}
 use Rattle.fisca_variables.specs.VariableForms.{Written}
-use Rattle.fisca_memo.specs.Evaluators.{IsStill, IsTurned}
+use Rattle.fisca_memo.specs.Evaluators.{AreMarked, IsStill, IsTurned, turned_by}
 
 module _ (marks : Key → ℕ) (wheel : ℕ) (old new : Simulation) (turned : IsTurned marks wheel old new) where
   -- the old rule set and the old members with the new inputs
@@ -31,3 +35,23 @@ module _ (marks : Key → ℕ) (wheel : ℕ) (old new : Simulation) (turned : Is
 
   pub turned_still : IsStill marks wheel old new
   turned_still k away = ap (λ m. sources m k) same ∙ same_source k (turned.inputs k away) (variable_of old.rules k)
+
+-- An axis takes another value
+
+pub slot_turned : (marks : Key → ℕ) (s : Slot) (v : Number) (m : Simulation) → AreMarked marks s → IsTurned marks s.wheel m (turned_by s v m)
+slot_turned marks s v m marked = record {
+  rules = refl;
+  members = refl;
+  neutral = refl;
+  inputs = λ k away. turned_other s v m.situation.inputs (key_of k) (λ own. away (marked k own));
+}
+
+-- a simulation with other inputs
+abbrev pub with_inputs : Simulation → Entries → Simulation
+with_inputs m es = record { rules = m.rules; situation = record { members = m.situation.members; inputs = es }; neutral = m.neutral }
+
+pub slot_still : (marks : Key → ℕ) (s : Slot) (v : Number) (old new : Simulation) (es : Entries) → AreMarked marks s → new ≡ old → es ≡ slots.turned s v new.situation.inputs
+    → IsStill marks s.wheel old (with_inputs new es)
+slot_still marks s v old new es marked stays anew =
+    let is : with_inputs new es ≡ turned_by s v old = ap (with_inputs new) anew ∙ ap (turned_by s v) stays in
+    subst (IsStill marks s.wheel old) (sym is) (turned_still marks s.wheel old (turned_by s v old) (slot_turned marks s v old marked))

@@ -10,8 +10,10 @@ use Rattle.fisca_inputs.specs.Entries.{value_at}
 use Rattle.fisca_inputs.specs.Seen.{key_of, key_seen}
 use Rattle.fisca_inputs.specs.declared.key.Key.{Key}
 use Rattle.fisca_meaning.specs.Dialogues as meaning
+use Rattle.fisca_num.specs.Number.{Number}
 use Rattle.fisca_rules.specs.Views.{rule_set}
 use Rattle.fisca_situations.specs.Views.{situation}
+use Rattle.fisca_slots.specs.Slots.{Slot, turned}
 use Rattle.fisca_sources.specs.Simulations.{Simulation, normal_key, sources}
 use Rattle.fisca_memo.specs.Recalled.{IsMemory, marks_of}
 use Rattle.fisca_memo.specs.declared.evaluator.Evaluator.{Evaluator}
@@ -56,3 +58,13 @@ pub record IsTurned (marks : meaning.Key → ℕ) (wheel : ℕ) (old new : Simul
   pub members : new.situation.members ≡ old.situation.members
   pub neutral : new.neutral ≡ old.neutral
   pub inputs : (k : meaning.Key) → (Moves marks wheel k → ⊥) → value_at new.situation.inputs (key_of k) ≡ value_at old.situation.inputs (key_of k)
+
+-- An axis takes another value
+
+-- each key of the slot's variable has the mark of the slot's wheel
+abbrev pub AreMarked : (meaning.Key → ℕ) → Slot → Type 0
+AreMarked marks s = (k : meaning.Key) → k.variable ≡ s.variable → Moves marks s.wheel k
+
+-- the same rule set, members and marks, where the inputs of the slot's keys are set anew
+abbrev pub turned_by : Slot → Number → Simulation → Simulation
+turned_by s v m = record { rules = m.rules; situation = record { members = m.situation.members; inputs = turned s v m.situation.inputs }; neutral = m.neutral }

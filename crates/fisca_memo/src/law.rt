@@ -1,12 +1,18 @@
-//! Laws of what is counted, and of wheels that turn, each as the contract of a function that does nothing.
+//! Laws of what is counted, and of wheels and axes that turn, each as the contract of a function that does nothing.
 
-ghost use Rattle.std.specs.Prelude.{◌≡◌, ℕ, ◌+◌, ◌<◌, ◌^◌};
+ghost use Rattle.std.specs.Prelude.{◌≡◌, ℕ, ◌+◌, ◌<◌, ◌^◌, Some};
 ghost use Rattle.fisca_heights.specs.Entries.{Entries};
+ghost use Rattle.fisca_inputs.specs.Entries.{value_at};
+ghost use Rattle.fisca_inputs.specs.declared.given.Value.TheVariants as v;
+ghost use Rattle.fisca_inputs.specs.declared.key.Key as inputs;
 ghost use Rattle.fisca_meaning.specs.Dialogues.{Key};
 ghost use Rattle.fisca_memo.specs.Counting.{IsCounted};
-ghost use Rattle.fisca_memo.specs.Evaluators.{IsStill, IsTurned};
+ghost use Rattle.fisca_memo.specs.Evaluators.{IsStill, IsTurned, turned_by};
+ghost use Rattle.fisca_num.specs.Number.{Number};
 ghost use Rattle.fisca_recall.specs.declared.counts.Counts.{Counts};
+ghost use Rattle.fisca_slots.specs.Slots.{Slot};
 ghost use Rattle.fisca_sources.specs.Simulations.{Simulation};
+ghost use Rattle.fisca_sources.specs.Sound.{InputsFit};
 
 /// Law: the values that were remembered, whatever they read, rise by the entries that are added, as long as no count stands at its greatest.
 pub fn counts_rise_by_what_is_added()
@@ -17,4 +23,10 @@ pub fn counts_rise_by_what_is_added()
 /// Law: where a wheel turns and only inputs of its variables become others, what the values of all other keys come from stays.
 pub fn turned_situations_are_still()
     ensures { (marks : Key → ℕ) (wheel : ℕ) (old new : Simulation) → IsTurned marks wheel old new → IsStill marks wheel old new }
+{}
+
+/// Law: where an axis takes another value, and some input of its variable is a number, each input is of its variable's type as before.
+pub fn inputs_fit_when_turned()
+    ensures { (slot : Slot) (value : Number) (m : Simulation) → InputsFit m.rules m.situation → (key : inputs.Key) (n : Number) → key.variable ≡ slot.variable
+        → value_at m.situation.inputs key ≡ Some (v.Number n) → InputsFit m.rules (turned_by slot value m).situation }
 {}

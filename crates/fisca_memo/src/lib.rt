@@ -9,7 +9,8 @@ mod law;
 mod recalled;
 mod scene;
 mod store;
+mod turns;
 mod values;
 
 pub use evaluator::Evaluator;
-pub use law::{counts_rise_by_what_is_added, turned_situations_are_still};
+pub use law::{counts_rise_by_what_is_added, inputs_fit_when_turned, turned_situations_are_still};

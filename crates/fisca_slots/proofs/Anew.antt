@@ -151,7 +151,7 @@ module _ (to : Anew) where
         by true is h = ap Some (sym (even q e.0 is e.1))
         by false other h = h
 
-    same_there : (es : Entries) (q : Key) → ((x : Value) → to q x ≡ x) → value_at (set to es) q ≡ value_at es q
+    pub same_there : (es : Entries) (q : Key) → ((x : Value) → to q x ≡ x) → value_at (set to es) q ≡ value_at es q
     same_there es q same = looked_set es q ∙ by (value_at es q)
       where
         by : (o : Option Value) → option_map (to q) o ≡ o

@@ -8,7 +8,7 @@ use Rattle.fisca_inputs.specs.declared.given.Value.TheVariants.{Number as number
 use Rattle.fisca_inputs.specs.declared.key.Key.{Key}
 use Rattle.fisca_num.specs.Number.{Number}
 use Rattle.fisca_num.specs.declared.faults.NumFault.{NumFault}
-use Rattle.fisca_slots.proofs.Anew.{Anew, IsEven, looked_set, set}
+use Rattle.fisca_slots.proofs.Anew.{Anew, IsEven, looked_set, same_there, set}
 use Rattle.fisca_slots.proofs.Parts.{in_parts}
 use Rattle.fisca_slots.proofs.Turned.{stand, stand_even, stand_out}
 use Rattle.fisca_slots.proofs.Wheels.{Same}
@@ -166,6 +166,15 @@ turned_again most wheel ss ps qs es apart low old new long wide same =
 -- a slot's keys are of its variable
 other_variable : (k : Key) (s : Slot) → is_at k s ≡ true → s.variable ≡ k.variable
 other_variable k s inside = sym (in_parts k s.variable s.member s.periods inside).0
+
+pub turned_other : (s : Slot) (v : Number) (es : Entries) (k : Key) → (k.variable ≡ s.variable → ⊥) → value_at (turned s v es) k ≡ value_at es k
+turned_other s v es k other =
+    ap (λ fs. value_at fs k) (turned_is s v es)
+    ∙ same_there (stand (share_in s v) (keys_of s)) (stand_even (share_in s v) (keys_of s)) es k (stand_out (share_in s v) (keys_of s) k (by (is_at k s) refl))
+  where
+    by : (b : Bool) → is_at k s ≡ b → b ≡ false
+    by true inside = absurd (other (sym (other_variable k s inside)))
+    by false out = refl
 
 below_same : (wheel : ℕ) (here there : List ℕ) (ss : List Slot) (ps qs : List Number) (k : Key) → Same (IsSamePlace here there) (wheels_in ss) ps qs
     → IsLong ss ps → IsLong ss qs → AreSamePlaces here there ss k.variable → (x : Value) → below wheel ss ps k x ≡ below wheel ss qs k x

@@ -1,6 +1,6 @@
 //! Laws of the slots of run files.
 
-ghost use Rattle.std.specs.Prelude.{◌≡◌, ◌<◌, ℕ, List, drop, length, slice_get, true, Some, Ok};
+ghost use Rattle.std.specs.Prelude.{◌≡◌, ◌≢◌, ◌<◌, ℕ, List, drop, length, slice_get, true, Some, Ok};
 ghost use Rattle.fisca_grid.specs.AxesRow.{values_of};
 ghost use Rattle.fisca_grid.specs.Grid.{axes_at};
 ghost use Rattle.fisca_inputs.specs.Entries.{Entries, value_at};
@@ -10,7 +10,7 @@ ghost use Rattle.fisca_num.specs.Number.{Number};
 ghost use Rattle.fisca_run_file.specs.Positions.{inputs_with, moved_at};
 ghost use Rattle.fisca_run_file.specs.RunFiles.{RunFile, run_file_of};
 ghost use Rattle.fisca_slots.specs.Marks.{AreWithin, IsMoved, has_mark, wheels_of};
-ghost use Rattle.fisca_slots.specs.Slots.{AreSamePlaces, Slot, places_of, slots_of, turned_below};
+ghost use Rattle.fisca_slots.specs.Slots.{AreSamePlaces, Slot, places_of, slots_of, turned, turned_below};
 ghost use Rattle.fisca_tables.specs.declared.tables.Tables.{Tables};
 ghost use Rattle.fisca_yaml.specs.Node.{Node};
 
@@ -50,4 +50,9 @@ pub fn marks_are_of_slots()
 /// Law: the slots of an accepted run file move variables of its rule set, and their wheels are below 16.
 pub fn slots_are_within()
     ensures { (tables : Tables) (n : Node) (f : RunFile) → run_file_of tables n ≡ Ok f → AreWithin (length tables.variables) (slots_of tables f) }
+{}
+
+/// Law: where a slot is turned, the keys of all other variables keep their inputs.
+pub fn turning_keeps_other_variables()
+    ensures { (slot : Slot) (value : Number) (inputs : Entries) (key : Key) → key.variable ≢ slot.variable → value_at (turned slot value inputs) key ≡ value_at inputs key }
 {}

@@ -8,7 +8,7 @@ mod slots;
 
 pub use law::{
     marks_are_of_slots, other_variables_stay, slots_are_within, slots_turn_between_positions,
-    slots_turn_from_the_start,
+    slots_turn_from_the_start, turning_keeps_other_variables,
 };
 pub use marks::wheels_of;
 pub use slot::Slot;

@@ -1,9 +1,16 @@
 -- Keys that are asked for one after the other.
 use Rattle.std.proofs.Common.{◌≡◌, ◌⊎◌, List, [], ◌∷◌, ◌++◌, Result, Ok, Err, append_assoc, refl, subst, sym, ◌∙◌, inl, inr, ⊎_elim}
-use Rattle.fisca_calc.specs.Asked.{Asks, AsksSome, HaveAsked}
+use Rattle.std.specs.Prelude.{⊤}
+use Rattle.fisca_calc.specs.Asked.{Asks, AsksSome, HaveAsked, IsStep}
 use Rattle.fisca_inputs.specs.declared.key.Key.{Key}
 use Rattle.fisca_lines.specs.declared.fault.RowFault.{RowFault}
 use Rattle.fisca_lines.specs.declared.fault.RowFault.TheVariants as fault
+
+-- what remembers nothing may go from any state to any other
+pub steps_freely : {F X : Type 0} (result : Result X (RowFault F)) → IsStep ⊤ ⊤ result
+steps_freely (Ok x) = tt
+steps_freely (Err (fault.Eval f)) = tt
+steps_freely (Err fault.Memory) = tt
 
 module _ {S : Type 0} (worked : S → Key → S → Type 0) where
   -- all of these keys, and then those behind them

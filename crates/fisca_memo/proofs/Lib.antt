@@ -1,4 +1,5 @@
 pub mod Apart
+pub mod Asking
 pub mod Memories
 pub mod Outcomes
 pub mod Recalls

@@ -18,6 +18,17 @@ use Rattle.fisca_run_file.specs.declared.condition.Condition.{Condition}
 first_left : {X : Type 0} (xs : List X) (i : ℕ) (x : X) → x ≡ get_or xs i x → i < length xs → drop i xs ≡ x ∷ drop (i + 1) xs
 first_left xs i x at inside = drop_more xs i x inside ∙ ap (λ y. y ∷ drop (i + 1) xs) (sym at)
 
+-- a fault that is handed on, whatever is answered beside it
+pub handed_on : {S F X : Type 0} (worked refused : S → Key → S → Type 0) (keys : List Key) (old new : S) (result : Result X (RowFault F)) (y e : RowFault F) → result ≡ Err y → y ≡ e
+    → HaveAsked {X = Unit {0}} worked refused keys old new (Err e)
+    → HaveAsked worked refused keys old new result
+handed_on {S} {F} {X} worked refused keys old new result y e is same asked =
+    subst (λ r. HaveAsked worked refused keys old new r) (sym (is ∙ ap (λ f. Err f) same)) (by e asked)
+  where
+    by : (f : RowFault F) → HaveAsked {X = Unit {0}} worked refused keys old new (Err f) → HaveAsked {X = X} worked refused keys old new (Err f)
+    by (fault.Eval f) h = h
+    by fault.Memory h = h
+
 module _ {S F : Type 0} (worked refused : S → Key → S → Type 0) (answer : Key → Result Value F) where
   told : (now : Key → Result Value F) (k : Key) (r : Result Value F) → now ≡ answer → now k ≡ r → answer k ≡ r
   told now k r same is = sym (ap (λ a. a k) same) ∙ is
@@ -85,16 +96,16 @@ module _ {S F : Type 0} (worked refused : S → Key → S → Type 0) (answer : 
       (subst (λ left. AreLeft worked (keys_written answer ks) left old between) keys here) step
 
   -- one that has none
-  pub written_fault : (X : Type 0) (ks : List Key) (i : ℕ) (k : Key) (e : RowFault F) (now : Key → Result Value F) (old between new : S) → k ≡ get_or ks i k → i < length ks → now ≡ answer
+  pub written_fault : (ks : List Key) (i : ℕ) (k : Key) (e : RowFault F) (now : Key → Result Value F) (old between new : S) → k ≡ get_or ks i k → i < length ks → now ≡ answer
       → IsAnswer (now k) (Err e)
       → IsStep {X = Value} (worked between k new) (refused between k new) (Err e)
       → AreLeft worked (keys_written answer ks) (keys_written answer (drop i ks)) old between
-      → HaveAsked {X = X} worked refused (keys_written answer ks) old new (Err e)
-  written_fault X ks i k (fault.Eval f) now old between new at inside same is step here =
+      → HaveAsked {X = Unit {0}} worked refused (keys_written answer ks) old new (Err e)
+  written_fault ks i k (fault.Eval f) now old between new at inside same is step here =
       let keys : keys_written answer (drop i ks) ≡ k ∷ [] =
           written_first ks i k at inside ∙ ap (λ r. k ∷ behind r (λ v. keys_written answer (drop (i + 1) ks))) (told now k (Err f) same is) in
       asks_left worked old between new (keys_written answer ks) (k ∷ []) (subst (λ left. AreLeft worked (keys_written answer ks) left old between) keys here) (new, step, refl)
-  written_fault X ks i k fault.Memory now old between new at inside same is step here =
+  written_fault ks i k fault.Memory now old between new at inside same is step here =
       some_left worked refused old between new (keys_written answer ks) (k ∷ behind (answer k) (λ w. keys_written answer (drop (i + 1) ks)))
       (subst (λ left. AreLeft worked (keys_written answer ks) left old between) (written_first ks i k at inside) here) (inr (inl step))
 
@@ -119,11 +130,11 @@ module _ {S F : Type 0} (worked refused : S → Key → S → Type 0) (answer : 
       subst (λ more. Asks worked old (keys_met answer conditions ++ more) new) (sym left) (asks_on worked old new new (keys_met answer conditions) [] asked refl)
 
   -- by a fault
-  pub row_fault : (X : Type 0) (conditions : List Condition) (columns : List Key) (e : RowFault F) (old new : S) → IsOutcome {X = Bool} (all_met answer conditions) (Err e)
+  pub row_fault : (conditions : List Condition) (columns : List Key) (e : RowFault F) (old new : S) → IsOutcome {X = Bool} (all_met answer conditions) (Err e)
       → HaveAsked {X = Bool} worked refused (keys_met answer conditions) old new (Err e)
-      → HaveAsked {X = X} worked refused (keys_asked answer conditions columns) old new (Err e)
-  row_fault X conditions columns (fault.Eval f) old new is asked = asked_met conditions columns (Err f) old new is refl asked
-  row_fault X conditions columns fault.Memory old new is asked =
+      → HaveAsked {X = Unit {0}} worked refused (keys_asked answer conditions columns) old new (Err e)
+  row_fault conditions columns (fault.Eval f) old new is asked = asked_met conditions columns (Err f) old new is refl asked
+  row_fault conditions columns fault.Memory old new is asked =
       some_first worked refused old new (keys_met answer conditions) (keys_if_met (all_met answer conditions) (keys_written answer columns)) asked
 
   -- where all conditions hold

@@ -1,7 +1,7 @@
 use Rattle.std.proofs.Common.{◌∙◌, arith}
 use Rattle.std.proofs.lemmas.Grind.{common_steps}
 use Rattle.std.proofs.lemmas.Result.{err_from_is_err_and}
-use Rattle.fisca_run.proofs.Asking.{written_fault, written_more, written_part}
+use Rattle.fisca_run.proofs.Asking.{handed_on, written_fault, written_more, written_part}
 use Rattle.fisca_run.proofs.lines.write_columns.Goals as goal
 
 pub returns-in_err-value-clause-asked : goal.returns-in_err-value-clause-asked
@@ -9,7 +9,8 @@ returns-in_err-value-clause-asked g c =
     let p = err_from_is_err_and c.from_residual.result c.from_residual.ensures.1 in
     let i = c.loop-key.invariant in
     let k = c.key-item in
-    rw (p.1, p.2) (written_fault g.A.Answers.worked g.A.Answers.refused (g.A.Answers.answer c.args.answers.now) _ c.args.columns.now c.loop-key.key-index k.result _ _ _ _ _ k.is c.loop-key-test.true i.same
+    handed_on g.A.Answers.worked g.A.Answers.refused _ _ _ c.from_residual.result p.0 c.in_err-value.field-0.0 p.1 p.2
+    (written_fault g.A.Answers.worked g.A.Answers.refused (g.A.Answers.answer c.args.answers.now) c.args.columns.now c.loop-key.key-index k.result c.in_err-value.field-0.0 _ _ _ _ k.is c.loop-key-test.true i.same
     c.in_err-value.ensures.answered c.in_err-value.ensures.step i.asked)
 
 pub returns-then-is_err-clause-asked : goal.returns-then-is_err-clause-asked

@@ -91,7 +91,7 @@ module _ {S F : Type 0} (worked refused : S → Key → S → Type 0) (answer : 
       → AreLeft worked (keys_written answer ks) (keys_written answer (drop (i + 1) ks)) old new
   written_more ks i k w now old between new at inside same is step here =
       let keys : keys_written answer (drop i ks) ≡ k ∷ keys_written answer (drop (i + 1) ks) =
-          written_first ks i k at inside ∙ ap (λ r. k ∷ behind r (λ v. keys_written answer (drop (i + 1) ks))) (told now k (Ok w) same is) in
+      written_first ks i k at inside ∙ ap (λ r. k ∷ behind r (λ v. keys_written answer (drop (i + 1) ks))) (told now k (Ok w) same is) in
       left_more worked old between new (keys_written answer ks) (keys_written answer (drop (i + 1) ks)) k
       (subst (λ left. AreLeft worked (keys_written answer ks) left old between) keys here) step
 
@@ -103,7 +103,7 @@ module _ {S F : Type 0} (worked refused : S → Key → S → Type 0) (answer : 
       → HaveAsked {X = Unit {0}} worked refused (keys_written answer ks) old new (Err e)
   written_fault ks i k (fault.Eval f) now old between new at inside same is step here =
       let keys : keys_written answer (drop i ks) ≡ k ∷ [] =
-          written_first ks i k at inside ∙ ap (λ r. k ∷ behind r (λ v. keys_written answer (drop (i + 1) ks))) (told now k (Err f) same is) in
+      written_first ks i k at inside ∙ ap (λ r. k ∷ behind r (λ v. keys_written answer (drop (i + 1) ks))) (told now k (Err f) same is) in
       asks_left worked old between new (keys_written answer ks) (k ∷ []) (subst (λ left. AreLeft worked (keys_written answer ks) left old between) keys here) (new, step, refl)
   written_fault ks i k fault.Memory now old between new at inside same is step here =
       some_left worked refused old between new (keys_written answer ks) (k ∷ behind (answer k) (λ w. keys_written answer (drop (i + 1) ks)))

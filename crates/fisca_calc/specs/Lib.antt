@@ -1,3 +1,4 @@
+pub mod Asked
 pub mod Calc
 pub mod Faults
 pub mod Lines

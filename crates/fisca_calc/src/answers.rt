@@ -9,6 +9,7 @@ use fisca_situations::Situation;
 /// To answer may change what is remembered, but never what a key's answer is.
 pub trait Answers {
     ghost use Rattle.std.specs.Prelude.{◌≡◌, List, Result};
+    ghost use Rattle.fisca_calc.specs.Asked.{IsStep};
     ghost use Rattle.fisca_calc.specs.Lines.{IsAnswer};
     ghost use Rattle.fisca_inputs.specs.declared.given.Value.{Value};
     ghost use Rattle.fisca_inputs.specs.declared.key.Key.{Key};
@@ -27,10 +28,17 @@ pub trait Answers {
     // what has to hold before a key is asked for
     ghost ready: { Self → Type 0 };
 
+    // a key was asked for, and its value was worked out, or that it has none, between one state and another
+    ghost worked: { Self → Key → Self → Type 0 };
+
+    // memory was refused meanwhile
+    ghost refused: { Self → Key → Self → Type 0 };
+
     /// The value of a key. `Eval` where it has none, and `Memory` only where memory was refused.
     fn value(&mut self, key: Key) -> Result<Value, RowFault<Self::Fault>>
         requires ready { ready self.old }
         ensures answered { IsAnswer (answer self.old key) result }
+        ensures step { IsStep (worked self.old key self.new) (refused self.old key self.new) result }
         ensures ready { ready self.new }
         ensures same_answers { answer self.new ≡ answer self.old }
         ensures same_members { members self.new ≡ members self.old };

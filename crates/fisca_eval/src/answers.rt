@@ -11,6 +11,7 @@ use fisca_lines::RowFault;
 use fisca_situations::Situation;
 
 impl<'r, 't> Answers for Evaluator<'r, 't> {
+    ghost use Rattle.std.specs.Prelude.{⊤};
     ghost use Rattle.fisca_eval.specs.Evaluators.{simulation_of};
     ghost use Rattle.fisca_eval.specs.Told.{IsReady, told_in};
 
@@ -21,6 +22,11 @@ impl<'r, 't> Answers for Evaluator<'r, 't> {
     ghost members = { λ e. (simulation_of e).situation.members };
 
     ghost ready = { λ e. IsReady (simulation_of e) };
+
+    // nothing is remembered
+    ghost worked = { λ _ _ _. ⊤ };
+
+    ghost refused = { λ _ _ _. ⊤ };
 
     fn value(&mut self, key: Key) -> Result<Value, RowFault<EvalFault>> {
         match Evaluator::value(self, key) {

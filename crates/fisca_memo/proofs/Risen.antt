@@ -9,7 +9,7 @@ use Rattle.fisca_recall.specs.Counted.{one_more, with_kept}
 use Rattle.fisca_recall.specs.declared.counts.Counts.{Counts}
 use Rattle.fisca_memo.specs.Counting.{raised, IsCounted, IsLost}
 
-raised_on : (count m n : ℕ) → raised (raised count m) n ≡ raised count (m + n)
+pub raised_on : (count m n : ℕ) → raised (raised count m) n ≡ raised count (m + n)
 raised_on count m zero = let e : m ≡ m + zero = omega arith in ap (raised count) e
 raised_on count m (suc n) = let e : suc (m + n) ≡ m + suc n = omega arith in ap one_more (raised_on count m n) ∙ ap (raised count) e
 

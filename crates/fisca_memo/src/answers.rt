@@ -13,6 +13,7 @@ use fisca_situations::Situation;
 
 impl<'r, 't, R: Recall> Answers for Evaluator<'r, 't, R> {
     ghost use Rattle.fisca_eval.specs.Told.{told_in};
+    ghost use Rattle.fisca_memo.specs.Asked.{HasRefused, HasWorked};
     ghost use Rattle.fisca_memo.specs.Evaluators.{CanAnswer, marks_in, simulation_of};
 
     type Fault = EvalFault;
@@ -22,6 +23,10 @@ impl<'r, 't, R: Recall> Answers for Evaluator<'r, 't, R> {
     ghost members = { λ e. (simulation_of e).situation.members };
 
     ghost ready = { λ e. CanAnswer (marks_in e) (simulation_of e) (R.find e.store.recall) e.store.counts.free };
+
+    ghost worked = { HasWorked R.find };
+
+    ghost refused = { HasRefused R.find };
 
     fn value(&mut self, key: Key) -> Result<Value, RowFault<EvalFault>> {
         match Evaluator::value(self, key) {

@@ -1,3 +1,4 @@
+pub mod Asking
 pub mod Fitting
 pub mod Givens
 pub mod Numbers

@@ -1,3 +1,4 @@
+pub mod Asked
 pub mod Conditions
 pub mod Lines
 pub mod Outcomes

@@ -1,6 +1,8 @@
 //! When values meet the conditions of a filter.
 
 ghost use Rattle.std.specs.Prelude.{◌≡◌};
+ghost use Rattle.fisca_calc.specs.Asked.{HaveAsked};
+ghost use Rattle.fisca_run.specs.Asked.{keys_met};
 ghost use Rattle.fisca_run.specs.Conditions as spec;
 ghost use Rattle.fisca_run.specs.Outcomes.{IsOutcome};
 
@@ -71,7 +73,7 @@ pub fn meets(condition: &Condition, value: Value) -> bool
     }
 }
 
-/// Whether all conditions hold. They are worked out in order, up to the first that does not hold.
+/// Whether all conditions hold. They are worked out in order, each once, up to the first that does not hold.
 ///
 /// `Eval` where the key of one that is worked out has no value: its fault. `Memory` only where memory was refused. This project's own rule.
 pub fn all_met<A: Answers>(
@@ -80,6 +82,7 @@ pub fn all_met<A: Answers>(
 ) -> Result<bool, RowFault<A::Fault>>
     requires { A.ready answers.old }
     ensures met { IsOutcome (spec.all_met (A.answer answers.old) conditions.now) result }
+    ensures asked { HaveAsked A.worked A.refused (keys_met (A.answer answers.old) conditions.now) answers.old answers.new result }
     ensures ready { A.ready answers.new }
     ensures same_answers { A.answer answers.new ≡ A.answer answers.old }
     ensures same_members { A.members answers.new ≡ A.members answers.old }

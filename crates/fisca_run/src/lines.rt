@@ -2,6 +2,8 @@
 
 ghost use Rattle.std.specs.Prelude.{◌≡◌, ◌++◌, [], OnOk, string_bytes};
 ghost use Rattle.std.specs.Fmt.{decimal};
+ghost use Rattle.fisca_calc.specs.Asked.{HaveAsked};
+ghost use Rattle.fisca_run.specs.Asked.{keys_written};
 ghost use Rattle.fisca_run.specs.Lines as spec;
 ghost use Rattle.fisca_run.specs.Outcomes.{IsWritten};
 ghost use Rattle.fisca_tables.specs.Known.{tables as known};
@@ -64,7 +66,7 @@ pub(crate) fn write_front(
     write_moved(alloc, tables, moved, line)
 }
 
-/// Appends the cells of columns, in order.
+/// Appends the cells of columns, in order. Each column is worked out once, up to the first that has no value.
 ///
 /// `Eval` where a column has no value: the fault of the first. `Memory` only where memory was refused.
 pub(crate) fn write_columns<A: Answers>(
@@ -76,6 +78,7 @@ pub(crate) fn write_columns<A: Answers>(
 ) -> Result<(), RowFault<A::Fault>>
     requires { A.ready answers.old }
     ensures written { IsWritten (spec.with_columns (known tables.now) (A.answer answers.old) columns.now (string_bytes line.old)) (string_bytes line.new) result }
+    ensures asked { HaveAsked A.worked A.refused (keys_written (A.answer answers.old) columns.now) answers.old answers.new result }
     ensures ready { A.ready answers.new }
     ensures same_answers { A.answer answers.new ≡ A.answer answers.old }
     ensures same_members { A.members answers.new ≡ A.members answers.old }

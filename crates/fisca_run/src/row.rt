@@ -1,7 +1,9 @@
 //! The row of a position.
 
 ghost use Rattle.std.specs.Prelude.{◌≡◌, [], string_bytes};
+ghost use Rattle.fisca_calc.specs.Asked.{HaveAsked};
 ghost use Rattle.fisca_lines.specs.Row.{IsWorkedOut};
+ghost use Rattle.fisca_run.specs.Asked.{keys_asked, keys_written};
 ghost use Rattle.fisca_run.specs.Lines as spec;
 ghost use Rattle.fisca_run.specs.Outcomes.{IsWritten};
 ghost use Rattle.fisca_tables.specs.Known.{tables as known};
@@ -39,6 +41,7 @@ fn write_line<A: Answers>(
     requires ready { A.ready answers.old }
     requires line { string_bytes line.old ≡ [] }
     ensures written { IsWorkedOut (spec.as_row (spec.with_columns (known tables.now) (A.answer answers.old) asked.now.columns.now (spec.front_of (known tables.now) asked.now.position asked.now.moved.now))) result (string_bytes line.new) }
+    ensures asked { HaveAsked A.worked A.refused (keys_written (A.answer answers.old) asked.now.columns.now) answers.old answers.new result }
     ensures ready { A.ready answers.new }
     ensures same_answers { A.answer answers.new ≡ A.answer answers.old }
     ensures same_members { A.members answers.new ≡ A.members answers.old }
@@ -53,8 +56,8 @@ fn write_line<A: Answers>(
     }
 }
 
-/// Works out the row of a position. The conditions are worked out in order, up to the first that does not hold; where all hold, then the
-/// columns in order.
+/// Works out the row of a position. The conditions are worked out in order, each once, up to the first that does not hold; where all hold,
+/// then the columns in order, each once, up to the first that has no value. Nothing else is worked out.
 ///
 /// `Kept` where all conditions hold and each column has a value: the line then has the number of the position, the values of the inputs and those
 /// of the columns, with tabs between them, and a line feed. `Dropped` where a condition does not hold. `Eval` where a key that is worked out has no
@@ -69,6 +72,7 @@ pub fn write_row<A: Answers>(
     requires ready { A.ready answers.old }
     requires line { string_bytes line.old ≡ [] }
     ensures worked_out { IsWorkedOut (spec.asked_row (known tables.now) (A.answer answers.old) asked.now.conditions.now asked.now.columns.now asked.now.position asked.now.moved.now) result (string_bytes line.new) }
+    ensures asked { HaveAsked A.worked A.refused (keys_asked (A.answer answers.old) asked.now.conditions.now asked.now.columns.now) answers.old answers.new result }
     ensures ready { A.ready answers.new }
     ensures same_answers { A.answer answers.new ≡ A.answer answers.old }
     ensures same_members { A.members answers.new ≡ A.members answers.old }

@@ -189,7 +189,7 @@ module _ (c : Tables) where
   all_moved (g ∷ gs) (v ∷ vs) z (inl e) = ap (λ (y : Moving). is_some y.value) e
   all_moved (g ∷ gs) (v ∷ vs) z (inr m) = all_moved gs vs z m
 
-length-wheels : (w : ℕ) (groups : List (List AxisSpec)) → length (wheels_from w groups) ≡ axes_in groups
+pub length-wheels : (w : ℕ) (groups : List (List AxisSpec)) → length (wheels_from w groups) ≡ axes_in groups
 length-wheels w [] = refl
 length-wheels w (group ∷ groups) =
     omega (arith, length-append (map (λ axis. w) group) (wheels_from (suc w) groups), one group, length-wheels (suc w) groups)

@@ -1,8 +1,10 @@
 use Rattle.std.proofs.Common.{◌≡◌, drop}
+use Rattle.fisca_calc.proofs.Asking.{AreLeft}
+use Rattle.fisca_run.specs.Asked.{keys_met}
 use Rattle.fisca_run.specs.Conditions.{all_met}
 use Rattle.fisca_run.proofs.conditions.all_met.Given as goal
 
--- those that are left decide
+-- those that are left decide, and the keys before them were asked for
 abbrev pub invariant-loop-condition : goal.invariant-loop-condition
 invariant-loop-condition g l =
     let answer = g.A.Answers.answer l.initial.answers in
@@ -11,4 +13,5 @@ invariant-loop-condition g l =
       same : g.A.Answers.answer l.answers ≡ answer;
       members : g.A.Answers.members l.answers ≡ g.A.Answers.members l.initial.answers;
       met : all_met answer l.conditions ≡ all_met answer (drop l.condition-index l.conditions);
+      asked : AreLeft g.A.Answers.worked (keys_met answer l.conditions) (keys_met answer (drop l.condition-index l.conditions)) l.initial.answers l.answers;
     }

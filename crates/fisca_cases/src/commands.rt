@@ -1,7 +1,8 @@
 //! The commands over texts and a sink in memory.
 
 use crate::fault::{Fault, push_refusal};
-use crate::words::{number, one, three};
+use crate::runs::{is_the_same_anew, push_end};
+use crate::words::{given, limit, number, one, three};
 use crate::written::Written;
 use fisca_commands::{
     Refusal, Task, axes_words, calc_rules, check_rules, run_rules, run_task, test_rules,
@@ -93,17 +94,6 @@ impl<'a> Asked<'a> {
     }
 }
 
-fn given(word: &str) -> Option<&str> {
-    if word == "-" { None } else { Some(word) }
-}
-
-fn limit(word: &str) -> Result<Option<u64>, Fault> {
-    match given(word) {
-        Some(limit) => Ok(Some(number(limit)?)),
-        None => Ok(None),
-    }
-}
-
 /// What is written, and the end of the run or the refusal.
 fn axes(alloc: Global, asked: &Asked<'_>) -> Result<String, Fault> {
     let mut sink = MemorySink::new(alloc);
@@ -118,12 +108,21 @@ fn axes(alloc: Global, asked: &Asked<'_>) -> Result<String, Fault> {
     ended(alloc, &sink, answer)
 }
 
-/// What is written of the run file `FROM ROWS TEXT`, where `-` stands for no limit, and the end of the run or the refusal.
+/// What is written of the run file `FROM ROWS TEXT`, where `-` stands for no limit, and the end of the run or the refusal. Where a run that remembers
+/// nothing from position to position does anything else, that is told.
 fn grid(alloc: Global, files: &[SourceFile], words: &[String]) -> Result<String, Fault> {
     let (from, rows, text) = three(words)?;
+    let (from, rows) = (number(from)?, limit(rows)?);
     let mut sink = MemorySink::new(alloc);
-    let answer = run_rules(alloc, files, text, number(from)?, limit(rows)?, &mut sink);
-    ended(alloc, &sink, answer)
+    let answer = match run_rules(alloc, files, text, from, rows, &mut sink) {
+        Ok((end, _)) => Ok(end),
+        Err(refusal) => Err(refusal),
+    };
+    match is_the_same_anew(alloc, files, from, rows, text) {
+        Ok(false) => Ok(String::from_str(alloc, "differs from a run that begins anew")?),
+        // what is refused before a run has none to compare
+        Ok(true) | Err(_) => ended(alloc, &sink, answer),
+    }
 }
 
 /// What is written, and the end of the run or the refusal.
@@ -135,11 +134,7 @@ fn ended(
     let mut shown = Written::new(alloc);
     push_sink(&mut shown, sink);
     match answer {
-        Ok(RunEnd::End) => shown.push("end"),
-        Ok(RunEnd::More(position)) => {
-            shown.push("more ");
-            shown.push_number(position);
-        }
+        Ok(end) => push_end(&mut shown, end),
         Err(refusal) => push_refusal(alloc, &mut shown, &refusal),
     }
     Ok(shown.finish()?)

@@ -15,6 +15,7 @@ mod grid;
 mod num;
 mod params;
 mod rule_sets;
+mod runs;
 mod situations;
 mod time;
 mod tokens;
@@ -118,6 +119,7 @@ fn ask(
             "columns" => columns::answer(alloc, operation.as_str(), files, rest),
             "calc" => columns::calc(alloc, operation.as_str(), files, rest),
             "grid" => grid::answer(alloc, operation.as_str(), rest),
+            "run" => runs::answer(alloc, operation.as_str(), files, rest),
             "commands" => commands::answer(alloc, operation.as_str(), files, rest),
             _ => Err(Fault::Malformed),
         },

@@ -9,12 +9,15 @@ use Rattle.fisca_lines.specs.declared.fault.RunEnd.{RunEnd}
 use Rattle.fisca_lines.specs.declared.fault.RunFault.{RunFault}
 use Rattle.fisca_lines.specs.declared.fault.RunFault.TheVariants as run
 use Rattle.fisca_params.specs.Source.{Source}
+use Rattle.fisca_recall.specs.declared.counts.Counts.{Counts}
 use Rattle.fisca_refusals.specs.declared.refusal.Refusal.{Refusal}
 use Rattle.fisca_refusals.specs.declared.refusal.Refusal.TheVariants.{RunFile, Run, Memory}
 use Rattle.fisca_refusals.specs.declared.refusal.Unanswered.{Unanswered}
 use Rattle.fisca_rule_files.specs.RuleFiles.{IsAccepted, RefusesFiles}
 use Rattle.fisca_rules.specs.Views.{rule_set}
 use Rattle.fisca_rules.specs.declared.rule_set.RuleSet.{RuleSet}
+use Rattle.fisca_run.specs.Ends.{stop_of}
+use Rattle.fisca_run.specs.Remembered.{AreCounts}
 use Rattle.fisca_run.specs.Runs.{positions, run_row}
 use Rattle.fisca_run_file.specs.RunFiles as files
 use Rattle.fisca_run_file.specs.RunFiles.{run_file_of}
@@ -72,3 +75,12 @@ abbrev pub IsRunAnswer : List Source → List ℕ → ℕ → Option ℕ → Opt
 IsRunAnswer files text from limit old new answer =
     ((refusal : Refusal) × (answer ≡ Err refusal) × RefusesRunning files text refusal × Keeps old new)
     ⊎ ((r : Running) × IsRunning files text r × IsRunTold r from limit old new answer)
+
+-- Counts
+
+-- A run that nothing stopped, and its counts: they are those of the same running as its lines, over the positions that were worked out.
+pub record IsCounted (files : List Source) (text : List ℕ) (from : ℕ) (limit : Option ℕ) (old new : Option (List ℕ)) (end : RunEnd) (counts : Counts) : Type 0 where
+  pub running : Running
+  pub is : IsRunning files text running
+  pub run : IsGridRun running from limit old new (Ok end)
+  pub counted : AreCounts running.rules running.run from (stop_of running.run end) counts

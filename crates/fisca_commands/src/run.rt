@@ -1,9 +1,11 @@
 //! `fisca run`: the lines of a run file over its grid.
 
 ghost use Rattle.std.specs.Prelude.{◌≡◌, IfOk, IfErr, Ok};
-ghost use Rattle.fisca_commands.specs.Run.{IsRunAnswer, IsRunTold, IsStopTold, RefusesRunTree};
+ghost use Rattle.fisca_commands.specs.Run.{IsCounted, IsRunAnswer, IsRunTold, IsStopTold, RefusesRunTree};
 ghost use Rattle.fisca_lines.specs.Sink.{CountsFailure};
 ghost use Rattle.fisca_refusals.specs.Refusal.{is_write};
+ghost use Rattle.fisca_run.specs.Ends.{end_of, stop_of};
+ghost use Rattle.fisca_run.specs.Remembered.{AreCounts};
 ghost use Rattle.fisca_run.specs.Runs.{IsAsked};
 ghost use Rattle.fisca_run_file.specs.RunFiles.{run_file_of};
 ghost use Rattle.fisca_run_file.specs.Views.{run_file as run_file_view};
@@ -15,6 +17,7 @@ use fisca_calc::RunFileKind;
 use fisca_eval::{EvalFault, rule_sets_are_safe};
 use fisca_lines::{RowSink, RunEnd, RunFault};
 use fisca_params::SourceFile;
+use fisca_recall::Counts;
 use fisca_refusals::Refusal;
 use fisca_rule_files::rules_of;
 use fisca_rules::RuleSet;
@@ -57,7 +60,7 @@ fn tell_stop(
     }
 }
 
-/// Writes the lines of a run file under a rule set.
+/// Writes the lines of a run file under a rule set, and answers how the run ends and how many formulas gave values.
 fn write_run<S: RowSink>(
     alloc: Global,
     rules: &RuleSet<'_>,
@@ -66,13 +69,14 @@ fn write_run<S: RowSink>(
     from: u64,
     rows: Option<u64>,
     sink: &mut S,
-) -> Result<RunEnd, Refusal>
+) -> Result<(RunEnd, Counts), Refusal>
     requires { IsAsked rules.now (node tree.now) (run_file_view run.now) }
-    ensures answer { IsRunTold (record { rules = rules.now; run = run_file_view run.now }) from rows (S.taken sink.old) (S.taken sink.new) result }
+    ensures answer { IsRunTold (record { rules = rules.now; run = run_file_view run.now }) from rows (S.taken sink.old) (S.taken sink.new) (end_of result) }
     ensures failures { CountsFailure (is_write result) (S.failures sink.old) (S.failures sink.new) }
+    ensures counts { IfOk result (λ ended. AreCounts rules.now (run_file_view run.now) from (stop_of (run_file_view run.now) ended.0) ended.1) }
 {
     match run_grid(alloc, rules, tree, run, from, rows, sink) {
-        Ok(end) => Ok(end),
+        Ok(ended) => Ok(ended),
         Err(fault) => Err(tell_stop(alloc, rules, run, fault)),
     }
 }
@@ -81,6 +85,10 @@ fn write_run<S: RowSink>(
 /// conditions of the filter hold, up to `rows` lines, and answers how the run ends: `End`, or `More` with the position from which a further run
 /// writes exactly the remaining lines. A line is the position, the values of the axes and those of the columns, with tabs between them, and a line
 /// feed. The text is a map of `axes`, and perhaps `period`, `input`, `filter`, `columns` and `neutralize`, as of [`RunFile::read`].
+///
+/// Beside the end it answers how many formulas gave values in the whole run: `free` is the number of different keys that were worked out at the
+/// positions of the run and whose work reads no axis, so that each of these was worked out once; `bound` counts the values whose work reads an
+/// axis, once for each time that one was worked out; and `lost` is 0.
 ///
 /// The first refusal in this order is told, and nothing is written before the run:
 ///
@@ -102,9 +110,10 @@ pub fn run_rules<S: RowSink>(
     from: u64,
     rows: Option<u64>,
     sink: &mut S,
-) -> Result<RunEnd, Refusal>
-    ensures answer { IsRunAnswer files.now text.now from rows (S.taken sink.old) (S.taken sink.new) result }
+) -> Result<(RunEnd, Counts), Refusal>
+    ensures answer { IsRunAnswer files.now text.now from rows (S.taken sink.old) (S.taken sink.new) (end_of result) }
     ensures failures { CountsFailure (is_write result) (S.failures sink.old) (S.failures sink.new) }
+    ensures counts { IfOk result (λ ended. IsCounted files.now text.now from rows (S.taken sink.old) (S.taken sink.new) ended.0 ended.1) }
 {
     let rules = rules_of(alloc, files)?;
     let tree = read_tree(alloc, text)?;

@@ -3,6 +3,7 @@
 ghost use Rattle.std.specs.Prelude.{◌≡◌, ◌==◌, ◌&&◌, is_ok, map, option_map, string_bytes};
 ghost use Rattle.fisca_lines.specs.Sink.{CountsFailure};
 ghost use Rattle.fisca_commands.specs.Ending.{IsAnswered, IsAxesEnding, IsCalcEnding, IsCheckEnding, IsGridEnding, IsJudged, IsRunEnding, IsTaskEnding, IsTestEnding};
+ghost use Rattle.fisca_run.specs.Ends.{end_of};
 
 use super::axes::axes_words;
 use super::calc::calc_rules;
@@ -12,6 +13,7 @@ use super::run::run_rules;
 use super::test::test_rules;
 use fisca_lines::{RowSink, RunEnd};
 use fisca_params::SourceFile;
+use fisca_recall::Counts;
 use fisca_refusals::Refusal;
 use fisca_rule_files::check_rules;
 use fisca_verdicts::Verdict;
@@ -166,7 +168,17 @@ fn run_file<S: RowSink>(
     ensures failures { CountsFailure (result.status == 5) (S.failures sink.old) (S.failures sink.new) }
 {
     let answer = run_rules(alloc, files, text, from, rows, sink);
-    end_run(alloc, answer, path, sink)
+    end_run(alloc, without_counts(answer), path, sink)
+}
+
+/// How a run ends, without its counts.
+fn without_counts(answer: Result<(RunEnd, Counts), Refusal>) -> Result<RunEnd, Refusal>
+    ensures { result ≡ end_of answer }
+{
+    match answer {
+        Ok((end, _)) => Ok(end),
+        Err(refusal) => Err(refusal),
+    }
 }
 
 /// Lists the values of axes, and answers how that ended.

@@ -16,7 +16,6 @@ use Rattle.fisca_situations.specs.Situations.{Situation}
 use Rattle.fisca_sources.specs.Simulations.{Simulation}
 use Rattle.fisca_sources.specs.Sound.{IsSafeRules}
 use Rattle.fisca_tables.specs.Known.{tables as known}
-use Rattle.fisca_tables.specs.declared.tables.Tables.{Tables}
 use Rattle.fisca_yaml.specs.Node.{Node}
 
 -- a situation under the rule set, with what the file neutralises

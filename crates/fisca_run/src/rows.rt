@@ -127,7 +127,7 @@ fn members_again(
 }
 
 /// The situation where axes move these inputs, with the members that an earlier position has left, if it has.
-fn situation_of(
+pub(crate) fn situation_of(
     alloc: Global,
     rules: &RuleSet<'_>,
     tree: &Tree<'_>,

@@ -1,26 +1,87 @@
 //! The run over the grid of a run file.
 
-ghost use Rattle.std.specs.Prelude.{◌≡◌, ◌<◌, ◌↔◌, IsErrOf};
+ghost use Rattle.std.specs.Prelude.{◌≡◌, ◌≢◌, ◌<◌, ◌≤◌, ◌↔◌, IfOk, IfSome, IfNone, IsErrOf, Some, length, map};
 ghost use Rattle.fisca_lines.specs.Run.{IsRun, is_write};
 ghost use Rattle.fisca_lines.specs.Sink.{CountsFailure};
+ghost use Rattle.fisca_run.specs.Ends.{IsAtOnce, end_of, stop_of};
+ghost use Rattle.fisca_run.specs.Kept.{IsRunFile};
+ghost use Rattle.fisca_run.specs.Remembered.{AreCounts};
 ghost use Rattle.fisca_run.specs.Runs.{IsAsked, positions, run_row};
+ghost use Rattle.fisca_run_file.specs.Positions.{situation_with};
 ghost use Rattle.fisca_run_file.specs.Views.{run_file as run_file_view};
+ghost use Rattle.fisca_situations.specs.Views.{situation as situation_view};
+ghost use Rattle.fisca_slots.specs.Marks.{wheels_of};
+ghost use Rattle.fisca_slots.specs.Slots.{slots_of};
+ghost use Rattle.fisca_slots.specs.Views.{slot_list};
 ghost use Rattle.fisca_yaml.specs.Views.{node};
 
+use crate::kept::run_with;
 use crate::rows::RunRows;
+use crate::run_start::{RunStart, start};
 use fisca_eval::EvalFault;
 use fisca_lines::{RowSink, RunEnd, RunFault, write_lines};
+use fisca_memo::Evaluator;
+use fisca_recall::{Counts, IndexRecall};
 use fisca_rules::RuleSet;
 use fisca_run_file::RunFile;
 use fisca_yaml::Tree;
 use std::alloc::Global;
 
+/// How a run ends for which no row is worked out, if it is one: there is no position from its start on, or its limit is 0.
+fn ended_at_once(size: u64, from: u64, limit: Option<u64>) -> Option<RunEnd>
+    requires { from ≤ size }
+    ensures some { IfSome result (λ end. IsAtOnce size from limit end) }
+    ensures none { IfNone result ((from < size) × (limit ≢ Some 0)) }
+{
+    if from == size {
+        return Some(RunEnd::End);
+    }
+    match limit {
+        Some(0) => Some(RunEnd::More(from)),
+        Some(_) | None => None,
+    }
+}
+
+/// Writes the lines of a run from what it begins with.
+fn run_from<S: RowSink>(
+    alloc: Global,
+    rules: &RuleSet<'_>,
+    run: &RunFile,
+    begun: RunStart,
+    from: u64,
+    limit: Option<u64>,
+    sink: &mut S,
+) -> Result<(RunEnd, Counts), RunFault<EvalFault>>
+    requires accepted { IsRunFile rules.now (run_file_view run.now) }
+    requires situation { situation_with rules.now.tables (run_file_view run.now) (run_file_view run.now).moved ≡ Ok (situation_view begun.situation) }
+    requires slots { slot_list begun.slots.items ≡ slots_of rules.now.tables (run_file_view run.now) }
+    requires wheels { begun.wheels.items ≡ wheels_of (length rules.now.tables.variables) (slots_of rules.now.tables (run_file_view run.now)) }
+    ensures run { IsRun (run_row rules.now (run_file_view run.now)) (positions (run_file_view run.now)) from limit (S.taken sink.old) (S.taken sink.new) (end_of result) }
+    ensures bad_position { IsErrOf result RunFault.BadPosition ↔ (positions (run_file_view run.now) < from) }
+    ensures failures { CountsFailure (is_write result) (S.failures sink.old) (S.failures sink.new) }
+    ensures counts { IfOk result (λ ended. AreCounts rules.now (run_file_view run.now) from (stop_of (run_file_view run.now) ended.0) ended.1) }
+{
+    let RunStart {
+        situation,
+        slots,
+        wheels,
+    } = begun;
+    let recall = IndexRecall::new(alloc);
+    let (neutral, wheels) = (run.neutral.as_slice(), wheels.as_slice());
+    let mut evaluator = Evaluator::new(alloc, rules, neutral, wheels, situation, recall);
+    let slots = slots.as_slice();
+    let end = run_with(alloc, rules, &mut evaluator, slots, run, from, limit, sink)?;
+    Ok((end, evaluator.counts()))
+}
+
 /// Writes the lines of a run file under a rule set into a sink: those of the positions of its grid from `from` on at which all conditions hold, in
 /// order, up to a limit of lines. A line has the number of its position, the values of the axes and those of the columns, with tabs between
-/// them, and a line feed. The tree is the one that says the file. Each position has a situation of its own, and an evaluator that remembers
-/// what formulas gave there; each line is worked out whole before any of it is handed over.
+/// them, and a line feed. The tree is the one that says the file. One situation goes from position to position, and one evaluator remembers what
+/// formulas gave: a value is forgotten where an axis moves that its work reads, and else worked out once in the run. Each line is worked out
+/// whole before any of it is handed over.
 ///
-/// It answers how the run ends: at the last position, or where it can be continued. Else:
+/// It answers how the run ends: at the last position, or where it can be continued; and how many formulas gave values. Of these, `free` is the
+/// number of different keys whose work reads no axis, and `lost` is 0. Else:
 ///
 /// - `BadPosition` exactly where `from` is above the number of positions.
 /// - `Eval` exactly where a condition or a column that is worked out has no value before the limit is reached: the first such position and
@@ -30,6 +91,36 @@ use std::alloc::Global;
 ///
 /// This project's own rule.
 pub fn run_grid<S: RowSink>(
+    alloc: Global,
+    rules: &RuleSet<'_>,
+    tree: &Tree<'_>,
+    run: &RunFile,
+    from: u64,
+    limit: Option<u64>,
+    sink: &mut S,
+) -> Result<(RunEnd, Counts), RunFault<EvalFault>>
+    requires { IsAsked rules.now (node tree.now) (run_file_view run.now) }
+    ensures run { IsRun (run_row rules.now (run_file_view run.now)) (positions (run_file_view run.now)) from limit (S.taken sink.old) (S.taken sink.new) (end_of result) }
+    ensures bad_position { IsErrOf result RunFault.BadPosition ↔ (positions (run_file_view run.now) < from) }
+    ensures failures { CountsFailure (is_write result) (S.failures sink.old) (S.failures sink.new) }
+    ensures counts { IfOk result (λ ended. AreCounts rules.now (run_file_view run.now) from (stop_of (run_file_view run.now) ended.0) ended.1) }
+{
+    let size = run.axes.size();
+    if from > size {
+        return Err(RunFault::BadPosition);
+    }
+    if let Some(end) = ended_at_once(size, from, limit) {
+        return Ok((end, Counts::new()));
+    }
+    match start(alloc, rules, tree, run) {
+        Ok(begun) => run_from(alloc, rules, run, begun, from, limit, sink),
+        Err(_) => Err(RunFault::Memory { position: from }),
+    }
+}
+
+/// The same lines as those of [`run_grid`], and the same answers but for want of memory, where each position has a situation and an evaluator of its
+/// own, which begins with nothing: the run as it is defined, for tests and measures. This project's own rule.
+pub fn run_anew<S: RowSink>(
     alloc: Global,
     rules: &RuleSet<'_>,
     tree: &Tree<'_>,

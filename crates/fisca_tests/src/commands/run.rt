@@ -4,6 +4,7 @@ use super::narrow::Narrow;
 use fisca_commands::{Refusal, run_rules};
 use fisca_lines::{MemorySink, RowSink, RunEnd, RunFault, StreamSink};
 use fisca_params::SourceFile;
+use fisca_recall::Counts;
 use std::alloc::{AllocError, Global};
 use std::test::Fail;
 
@@ -41,16 +42,47 @@ pub(super) fn file(alloc: Global, path: &str, text: &str) -> Result<SourceFile, 
 }
 
 /// What `run_rules` answers for the rents, and a sink.
+fn count_rents<S: RowSink>(
+    alloc: Global,
+    from: u64,
+    rows: Option<u64>,
+    sink: &mut S,
+) -> Result<(RunEnd, Counts), Refusal> {
+    let mut files = Vec::new(alloc);
+    files.push(file(alloc, "entities.py", ENTITIES)?)?;
+    files.push(file(alloc, "variables/a.py", VARIABLES)?)?;
+    run_rules(alloc, files.as_slice(), RENTS, from, rows, sink)
+}
+
+/// How a run over the rents ends.
 fn run_rents<S: RowSink>(
     alloc: Global,
     from: u64,
     rows: Option<u64>,
     sink: &mut S,
 ) -> Result<RunEnd, Refusal> {
-    let mut files = Vec::new(alloc);
-    files.push(file(alloc, "entities.py", ENTITIES)?)?;
-    files.push(file(alloc, "variables/a.py", VARIABLES)?)?;
-    run_rules(alloc, files.as_slice(), RENTS, from, rows, sink)
+    match count_rents(alloc, from, rows, sink) {
+        Ok((end, _)) => Ok(end),
+        Err(refusal) => Err(refusal),
+    }
+}
+
+/// Whether a run from this position over so many lines gives just so many values that read the axis, and no others.
+fn counts_are(alloc: Global, from: u64, rows: Option<u64>, bound: u64) -> bool {
+    match count_rents(alloc, from, rows, &mut MemorySink::new(alloc)) {
+        Ok((_, counts)) => counts.free() == 0 && counts.bound() == bound && counts.lost() == 0,
+        Err(_) => false,
+    }
+}
+
+#[test]
+fn a_run_counts_what_it_works_out(rt: HostRuntime) {
+    // each position that is reached has one allowance, which is asked for by the filter and by the columns
+    assert!(rt; counts_are(rt.alloc(), 0, None, 5));
+    assert!(rt; counts_are(rt.alloc(), 0, Some(2), 3));
+    assert!(rt; counts_are(rt.alloc(), 3, None, 2));
+    assert!(rt; counts_are(rt.alloc(), 2, Some(0), 0));
+    assert!(rt; counts_are(rt.alloc(), 5, None, 0));
 }
 
 /// The lines of all parts of a run, of which each goes on where the one before it ended.

@@ -1,27 +1,40 @@
-use Rattle.std.proofs.Common.{◌≡◌, ◌∙◌, false, cond, inl, inr, Err, ap, sym, rules}
+use Rattle.std.proofs.Common.{◌≡◌, ◌∙◌, false, cond, inl, inr, ℕ, List, Option, Result, Ok, Err, IfOk, ap, sym, rules}
 use Rattle.std.proofs.lemmas.Result.{err_from_is_err_and}
 use Rattle.std.specs.Io.KnownBytes.{Keeps}
 use Rattle.fisca_lines.specs.Sink.{one_more}
+use Rattle.fisca_lines.specs.declared.fault.RunEnd.{RunEnd}
+use Rattle.fisca_params.specs.Source.{Source}
+use Rattle.fisca_recall.specs.declared.counts.Counts.{Counts}
 use Rattle.fisca_refusals.specs.Refusal.{is_write}
+use Rattle.fisca_refusals.specs.declared.refusal.Refusal.{Refusal}
 use Rattle.fisca_rules.specs.Views.{rule_set}
+use Rattle.fisca_run.specs.Ends.{end_of, stop_of}
+use Rattle.fisca_run.specs.Remembered.{AreCounts}
 use Rattle.fisca_run_file.specs.Views.{run_file}
 use Rattle.fisca_yaml.specs.Views.{node}
-use Rattle.fisca_commands.specs.Run.{Running}
+use Rattle.fisca_commands.specs.Run.{IsCounted, IsRunTold, IsRunning, Running}
 use Rattle.fisca_rule_files.proofs.Built.{built}
 use Rattle.fisca_commands.proofs.Telling.{run_unwritten, yaml_unwritten}
 use Rattle.fisca_commands.proofs.run.run_rules.Goals as goal
+
+-- the counts are those of the running whose lines were written
+are_counted : (files : List Source) (text : List ℕ) (from : ℕ) (limit : Option ℕ) (old new : Option (List ℕ)) (r : Running) (answer : Result (RunEnd × Counts) Refusal)
+    → IsRunning files text r → IsRunTold r from limit old new (end_of answer) → IfOk answer (λ ended. AreCounts r.rules r.run from (stop_of r.run ended.0) ended.1)
+    → IfOk answer (λ ended. IsCounted files text from limit old new ended.0 ended.1)
+are_counted files text from limit old new r (Ok ended) is run counts = record { running = r; is = is; run = run; counted = counts }
+are_counted files text from limit old new r (Err refusal) is run counts = tt
 
 pub returns-in_err-rules-clause-answer : goal.returns-in_err-rules-clause-answer
 returns-in_err-rules-clause-answer g c =
     let told = err_from_is_err_and c.from_residual.result c.from_residual.ensures.1 in
     let keeps : Keeps (g.S.RowSink.taken c.args.sink.now) (g.S.RowSink.taken c.args.sink.now) = search rules in
-    inl (c.in_err-rules.field-0.0, told.1 ∙ ap Err told.2, inl c.in_err-rules.ensures.err, keeps)
+    inl (c.in_err-rules.field-0.0, ap end_of (told.1 ∙ ap Err told.2), inl c.in_err-rules.ensures.err, keeps)
 
 pub returns-in_err-tree-clause-answer : goal.returns-in_err-tree-clause-answer
 returns-in_err-tree-clause-answer g c =
     let told = err_from_is_err_and c.from_residual-in_err-tree.result c.from_residual-in_err-tree.ensures.1 in
     let keeps : Keeps (g.S.RowSink.taken c.args.sink.now) (g.S.RowSink.taken c.args.sink.now) = search rules in
-    inl (c.in_err-tree.field-0.0, told.1 ∙ ap Err told.2, inr (c.in_ok-rules.rules, c.in_ok-rules.ensures.ok, inl c.in_err-tree.ensures.err), keeps)
+    inl (c.in_err-tree.field-0.0, ap end_of (told.1 ∙ ap Err told.2), inr (c.in_ok-rules.rules, c.in_ok-rules.ensures.ok, inl c.in_err-tree.ensures.err), keeps)
 
 pub returns-in_err-tree-clause-failures : goal.returns-in_err-tree-clause-failures
 returns-in_err-tree-clause-failures g c =
@@ -33,7 +46,7 @@ pub returns-in_err-run-clause-answer : goal.returns-in_err-run-clause-answer
 returns-in_err-run-clause-answer g c =
     let told = err_from_is_err_and c.from_residual-in_err-run.result c.from_residual-in_err-run.ensures.1 in
     let keeps : Keeps (g.S.RowSink.taken c.args.sink.now) (g.S.RowSink.taken c.args.sink.now) = search rules in
-    inl (c.in_err-run.field-0.0, told.1 ∙ ap Err told.2, inr (c.in_ok-rules.rules, c.in_ok-rules.ensures.ok, inr (node c.in_ok-tree.tree, c.in_ok-tree.ensures.ok, c.in_err-run.ensures.err)), keeps)
+    inl (c.in_err-run.field-0.0, ap end_of (told.1 ∙ ap Err told.2), inr (c.in_ok-rules.rules, c.in_ok-rules.ensures.ok, inr (node c.in_ok-tree.tree, c.in_ok-tree.ensures.ok, c.in_err-run.ensures.err)), keeps)
 
 pub returns-in_err-run-clause-failures : goal.returns-in_err-run-clause-failures
 returns-in_err-run-clause-failures g c =
@@ -51,3 +64,9 @@ pub returns-clause-answer : goal.returns-clause-answer
 returns-clause-answer g c =
     let running : Running = record { rules = c.in_ok-rules.rules; run = run_file c.in_ok-run.run' } in
     inr (running, (c.in_ok-rules.ensures.ok, (node c.in_ok-tree.tree, c.in_ok-tree.ensures.ok, c.in_ok-run.ensures.ok)), c.write_run.ensures.answer)
+
+pub returns-clause-counts : goal.returns-clause-counts
+returns-clause-counts g c =
+    let running : Running = record { rules = c.in_ok-rules.rules; run = run_file c.in_ok-run.run' } in
+    are_counted c.args.files.now c.args.text.now c.args.from c.args.rows (g.S.RowSink.taken c.args.sink.now) (g.S.RowSink.taken c.write_run.new.sink) running c.write_run.result
+    (c.in_ok-rules.ensures.ok, (node c.in_ok-tree.tree, c.in_ok-tree.ensures.ok, c.in_ok-run.ensures.ok)) c.write_run.ensures.answer c.write_run.ensures.counts

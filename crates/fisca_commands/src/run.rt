@@ -86,9 +86,9 @@ fn write_run<S: RowSink>(
 /// writes exactly the remaining lines. A line is the position, the values of the axes and those of the columns, with tabs between them, and a line
 /// feed. The text is a map of `axes`, and perhaps `period`, `input`, `filter`, `columns` and `neutralize`, as of [`RunFile::read`].
 ///
-/// Beside the end it answers how many formulas gave values in the whole run: `free` is the number of different keys that were worked out at the
-/// positions of the run and whose work reads no axis, so that each of these was worked out once; `bound` counts the values whose work reads an
-/// axis, once for each time that one was worked out; and `lost` is 0.
+/// Beside the end it answers counts of the whole run: `free` is the number of different keys whose formulas give values in the work at the positions
+/// of the run, and which read no variable of an axis; `lost` is 0. `bound` counts the values that read one, once for each time that one was worked
+/// out; of it the contract says nothing.
 ///
 /// The first refusal in this order is told, and nothing is written before the run:
 ///

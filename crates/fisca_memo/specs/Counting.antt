@@ -13,7 +13,7 @@ abbrev pub raised : ℕ → ℕ → ℕ
 raised count zero = count
 raised count (suc more) = one_more (raised count more)
 
--- So many keys are remembered that were not, and each is counted: these read no wheel, and those read some.
+-- So many keys are remembered that were not, and each raises one of two counts; which one it raises follows from `CountsFree`.
 pub record IsCounted (old new : Entries) (before after : Counts) : Type 0 where
   pub more_free : ℕ
   pub more_bound : ℕ

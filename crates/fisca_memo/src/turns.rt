@@ -14,7 +14,8 @@ use fisca_slots::Slot;
 impl<'r, 't, R: Recall> Evaluator<'r, 't, R> {
     /// An axis takes another value: what reads its slot's wheel is forgotten, and the inputs of the slot's keys become what that value gives
     /// them, as `Slot::turn` tells. All other inputs stay, and all that is still remembered is true in the situation as it is then. It takes
-    /// no memory, and costs one look-up for each key of the slot, whatever is remembered. The counts stay. This project's own rule.
+    /// no memory, and costs one look-up for each key of the slot, whatever is remembered. The counts stay. The slot's wheel is below 16, and the
+    /// evaluator has it among the wheels of the slot's variable. This project's own rule.
     pub fn turn(&mut self, slot: &Slot, value: Fraction)
         requires wheel { slot.now.wheel < 16 }
         requires marked { spec.AreMarked (spec.marks_in self.old) (slot_view slot.now) }

@@ -64,8 +64,8 @@ impl<'r, 't, R: Recall> Evaluator<'r, 't, R> {
     }
 
     /// The value of a key, whatever is remembered: its input, else what the formula in force works out, else the variable's default. A key
-    /// of an eternal variable may have any period. What formulas give on the way is remembered, and the formula of a key of which something
-    /// is remembered is not worked out again.
+    /// of an eternal variable may have any period. What formulas give on the way is remembered, and a key of which something is
+    /// remembered is not counted again; that its formula is not worked out once more is not promised (a test shows it).
     ///
     /// - The first fault of a formula, in the order in which its operands are worked out, with the key whose formula it is;
     ///   `PeriodMismatch` with the key that is asked for at a period at which its variable has no value, or whose variable there is not.

@@ -66,6 +66,7 @@ module _ {R : Type 0} (find : R → Entries) (rules : RuleSet) (f : RunFile) whe
 
   run_refused : (from stop : ℕ) (old between new : Evaluator R) → HasRun find rules f from stop old between → IsRefused find between new → IsRefused find old new
   run_refused from stop old between new ran refused = record {
+    marks = refused.marks ∙ ran.marks;
     kept = λ k free. refused.kept k (ran.just.kept k free);
     raised = raised_both old.store.counts between.store.counts new.store.counts ran.raised refused.raised;
     lost = ⊎_elim (λ e. inl (e ∙ ran.lost)) (λ e. inr (e ∙ ap one_more ran.lost)) refused.lost;

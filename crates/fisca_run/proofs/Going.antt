@@ -112,6 +112,7 @@ module _ {R : Type 0} (find : R → Entries) (rules : RuleSet) (f : RunFile) (po
       let has_too = subst (λ n. IsMemoryOf (marks_in before) n (find after.store.recall) after.store.counts.free) went.gone.same
       (subst (λ ms. IsMemoryOf ms (simulation_of after) (find after.store.recall) after.store.counts.free) same has) in
       record {
+        marks = same;
         kept = λ k free. some_kept find (marks_in before) m turned after keys turned.store.counts.free after.store.counts.free had has_too went k (just.kept k free);
         raised = record {
           more_free = went.gone.counted.more_free;

@@ -1,4 +1,4 @@
--- What a run remembers of keys whose work reads no wheel: it is never forgotten, and worked out once.
+-- What a run remembers of keys whose work reads no wheel: it is never forgotten, and so counted once.
 use Rattle.std.specs.Prelude.{◌≡◌, ◌⊎◌, ◌↔◌, ◌<◌, ◌≤◌, ◌+◌, ℕ, List, [], ◌∷◌, length, Some, Result, Ok, Err}
 use Rattle.fisca_answers.specs.Answers.{most_keys}
 use Rattle.fisca_answers.specs.Keys.{In}
@@ -72,8 +72,9 @@ pub record IsPassed {R : Type 0} (find : R → Entries) (rules : RuleSet) (f : R
   pub raised : AreRaised old.store.counts new.store.counts
   pub lost : new.store.counts.lost ≡ old.store.counts.lost
 
--- memory was refused: nothing of these keys is forgotten, and one value at most was lost
+-- memory was refused: no key that reads no wheel is forgotten, and one value at most was lost; which were added is not said
 pub record IsRefused {R : Type 0} (find : R → Entries) (old new : Evaluator R) : Type 0 where
+  pub marks : marks_in new ≡ marks_in old
   pub kept : (k : Key) → IsFreeKey (find old.store.recall) k → IsFreeKey (find new.store.recall) k
   pub raised : AreRaised old.store.counts new.store.counts
   pub lost : (new.store.counts.lost ≡ old.store.counts.lost) ⊎ (new.store.counts.lost ≡ one_more old.store.counts.lost)

@@ -19,7 +19,7 @@ use fisca_run_file::RunFile;
 use fisca_slots::Slot;
 use std::alloc::Global;
 
-/// Writes the lines of rows whose values are kept.
+/// Writes the lines of rows whose values are kept. The rows hold the evaluator all along, so that what it is then is known where they were made.
 fn write_kept<R: Recall, S: RowSink>(
     alloc: Global,
     rows: &mut KeptRows<'_, '_, '_, R>,
@@ -40,12 +40,13 @@ fn write_kept<R: Recall, S: RowSink>(
 
 /// Writes the lines of a run file under a rule set into a sink, as [`run_grid`](crate::run_grid) does, by an evaluator that is handed in. Its
 /// situation is that of the file, where the axes have the values with which the file was read, or those at any position; the slots are
-/// those of the file, and each has its wheel's mark. No evaluator is made: before the first position every slot is turned, and before each
-/// later one those of the wheels that turn there, and of what is remembered just that is forgotten which reads one of these.
+/// those of the file, and the evaluator has each slot's wheel among those of its variable. No evaluator is made: before the first position every
+/// slot is turned, and before each later one those of the wheels that turn there, by which what reads one of these is forgotten.
 ///
-/// It answers as `run_grid` does. Of the keys whose work reads no wheel none is forgotten, and no count is lowered. Unless it answers `Memory`,
-/// those of which something is remembered then are the old ones and, of the keys for which the rows up to the one that ended the run asked, those
-/// whose work reads no wheel; and no value was lost. The evaluator can be handed in again. This project's own rule.
+/// It answers as `run_grid` does, but for the counts, which the evaluator tells. Of the keys that read none of the evaluator's wheels none is
+/// forgotten, and no count is lowered. Unless it answers `Memory`, those of which something is remembered then are the old ones and, of the work for
+/// the keys for which the rows up to the one that ended the run asked, those that read no wheel; and no value was lost. What is remembered of other
+/// keys is true, and no more is said of it. The evaluator can be handed in again. This project's own rule.
 pub fn run_with<'a, 't, R: Recall, S: RowSink>(
     alloc: Global,
     rules: &'a RuleSet<'t>,

@@ -22,7 +22,8 @@ use fisca_run_file::RunFile;
 use fisca_slots::Slot;
 use std::alloc::Global;
 
-/// A run file under a rule set, and an evaluator whose situation is that of the position that was worked out last.
+/// A run file under a rule set, and an evaluator whose situation is that of the position that was worked out last or, before there is one, that with
+/// which the run begins.
 #[derive(Drop)]
 pub(crate) struct KeptRows<'a, 'r, 't, R> {
     /// What grows.

@@ -1,4 +1,4 @@
-//! The rows of a run file, each in a situation of its own.
+//! The rows of a run file, each in a situation of its own: those of `run_anew`.
 
 ghost use Rattle.std.specs.Prelude.{◌≡◌, [], Some, Ok, string_bytes};
 ghost use Rattle.fisca_inputs.specs.Outcomes.{Tells};
@@ -107,7 +107,7 @@ fn reading_again(
     }
 }
 
-/// The members of the file once more: an evaluator takes those of its situation for good.
+/// The members of the file once more, where no position has left them.
 fn members_again(
     alloc: Global,
     rules: &RuleSet<'_>,

@@ -80,8 +80,9 @@ fn run_from<S: RowSink>(
 /// formulas gave: a value is forgotten where an axis moves that its work reads, and else worked out once in the run. Each line is worked out
 /// whole before any of it is handed over.
 ///
-/// It answers how the run ends: at the last position, or where it can be continued; and how many formulas gave values. Of these, `free` is the
-/// number of different keys whose work reads no axis, and `lost` is 0. Else:
+/// It answers how the run ends, at the last position or where it can be continued, and counts: `free` is the number of different keys of the work
+/// at the positions of the run that read no variable of an axis, `lost` is 0, and `bound` counts the values that read one, as often as they were
+/// worked out; of `bound` the contract says nothing. Else:
 ///
 /// - `BadPosition` exactly where `from` is above the number of positions.
 /// - `Eval` exactly where a condition or a column that is worked out has no value before the limit is reached: the first such position and
@@ -119,7 +120,7 @@ pub fn run_grid<S: RowSink>(
 }
 
 /// The same lines as those of [`run_grid`], and the same answers but for want of memory, where each position has a situation and an evaluator of its
-/// own, which begins with nothing: the run as it is defined, for tests and measures. This project's own rule.
+/// own, which begins with nothing: the run as it is defined, for tests. This project's own rule.
 pub fn run_anew<S: RowSink>(
     alloc: Global,
     rules: &RuleSet<'_>,

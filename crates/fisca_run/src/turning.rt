@@ -15,7 +15,8 @@ use fisca_memo::Evaluator;
 use fisca_recall::Recall;
 use fisca_slots::Slot;
 
-/// Turns the slots of the first `turned` wheels to the values that their axes have at a position. It takes no memory.
+/// Turns the slots of the first `turned` wheels to the values that their axes have at a position, and forgets what reads one of these. It takes no
+/// memory.
 pub(crate) fn turn_slots<R: Recall>(
     evaluator: &mut Evaluator<'_, '_, R>,
     axes: &Axes,

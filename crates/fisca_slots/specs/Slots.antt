@@ -103,7 +103,8 @@ abbrev pub set_share : List Key → Result Number NumFault → Entries → Entri
 set_share ks (Ok n) es = set_keys ks (value.Number n) es
 set_share ks (Err f) es = es
 
--- The inputs, where those of a slot are set anew. A share that is too wide sets none: no value of an axis has one, as the laws of `fisca_run` say.
+-- The inputs, where those of a slot are set anew. A share that is too wide sets none: no value of an axis of an accepted
+-- file has one, since its inputs can be shared at each position (`positions_have_situations` of `fisca_run`).
 abbrev pub turned : Slot → Number → Entries → Entries
 turned s v es = set_share (keys_of s) (share_in s v) es
 

@@ -70,8 +70,8 @@ impl Slot {
     }
 
     /// Sets the inputs of the slot's keys to what a value of the axis gives them: cut towards zero where the variable has whole numbers, and an
-    /// equal share of it where the variable divides. A key that has no input gets none, and all others keep theirs; nothing is set where a share
-    /// is too wide, which that of no axis is. It costs one look-up for each key, and takes no memory. This project's own rule.
+    /// equal share of it where the variable divides. A key that has no input gets none, and all others keep theirs; where a share is too wide nothing
+    /// is set; no axis of an accepted file has such a share. It costs one look-up for each key, and takes no memory. This project's own rule.
     #[tactic(auto, using(crate::proofs::Sets::set_untold))]
     pub fn turn(&self, inputs: &mut Inputs, value: Fraction)
         ensures { inputs.new ≡ spec.turned (slot_view self.now) value inputs.old }

@@ -209,6 +209,11 @@ struct Home {
 /// The values that are given, by their keys.
 trait Inputs {
     fn get(&self, key: &Key) -> Option<Value>;
+
+    /// The wheels that move a variable's inputs, as bits.
+    fn wheels(&self, _variable: usize) -> u16 {
+        0
+    }
 }
 
 /// A situation with one kind of groups.
@@ -218,11 +223,13 @@ struct Situation<I> {
     persons: Vec<Vec<u32>>,
 }
 
-/// What a formula gave, and the height of its key: one more than the greatest height of the keys that it asks for.
+/// What a formula gave, the height of its key: one more than the greatest height of the keys that it asks for, and the wheels that its work read, as bits.
 #[derive(Clone, Copy)]
+#[allow(dead_code)]
 struct Known {
     value: Value,
-    height: usize,
+    height: u32,
+    reads: u16,
 }
 
 /// A memory of what formulas gave, by their keys.
@@ -359,7 +366,9 @@ struct Evaluator<'r, I, R> {
     recall: R,
     keys: Vec<Key>,
     /// The greatest height of the keys that the formula has asked for so far.
-    tallest: usize,
+    tallest: u32,
+    /// The wheels that the work of these keys read.
+    reads: u16,
 }
 
 impl<'r, I: Inputs, R: Recall> Evaluator<'r, I, R> {
@@ -380,41 +389,45 @@ impl<'r, I: Inputs, R: Recall> Evaluator<'r, I, R> {
             && !variable.formulas.is_empty()
             && let Some(known) = self.recall.look(&key)
         {
-            if known.height > MOST_KEYS - self.keys.len() {
+            if known.height as usize > MOST_KEYS - self.keys.len() {
                 return Err(Fault::TooDeep(*self.keys.first().unwrap_or(&key)));
             }
             self.tallest = self.tallest.max(known.height);
+            self.reads |= known.reads;
             return Ok(known.value);
         }
         if let Some(value) = self.situation.inputs.get(&key) {
-            return if self.keys.len() < MOST_KEYS { Ok(self.at_hand(value)) } else { Err(too_long(&self.keys, key)) };
+            return if self.keys.len() < MOST_KEYS { Ok(self.at_hand(value, &key)) } else { Err(too_long(&self.keys, key)) };
         }
         if self.keys.len() >= MOST_KEYS {
             return Err(too_long(&self.keys, key));
         }
         let Some(formula) = in_force(variable, key.period) else {
-            return Ok(self.at_hand(variable.default));
+            return Ok(self.at_hand(variable.default, &key));
         };
         self.keys.push(key);
-        let above = self.tallest;
+        let (above, outside) = (self.tallest, self.reads);
         if R::REMEMBERS {
             self.tallest = 0;
+            self.reads = self.situation.inputs.wheels(key.variable);
         }
         let frame = Frame { key, locals: &formula.locals };
         let result = self.node(&formula.result, &frame, None, formula.locals.len());
         self.keys.pop();
         let value = cast(variable.kind, result?, &key)?;
         if R::REMEMBERS {
-            let height = self.tallest + 1;
+            let (height, reads) = (self.tallest + 1, self.reads);
             self.tallest = above.max(height);
-            self.recall.keep(key, Known { value, height });
+            self.reads |= outside;
+            self.recall.keep(key, Known { value, height, reads });
         }
         Ok(value)
     }
 
-    fn at_hand(&mut self, value: Value) -> Value {
+    fn at_hand(&mut self, value: Value, key: &Key) -> Value {
         if R::REMEMBERS {
             self.tallest = self.tallest.max(1);
+            self.reads |= self.situation.inputs.wheels(key.variable);
         }
         value
     }

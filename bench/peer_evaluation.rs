@@ -1,8 +1,8 @@
 // The peer of `fisca_bench evaluation`: the same keys worked out in plain Rust, by recursion over the same trees of formulas. Inputs stand in an index table
-// under the hash of Rattle's maps, numbers are exact fractions, values are not remembered, and at most a hundred keys are asked for below one another. With
-// FISCA_PEER=machine they are worked out by the same machine as ours.
+// under the same hash as ours, and so does what is remembered, where values are; numbers are exact fractions, and at most a hundred keys are asked for below one
+// another. With FISCA_PEER=machine they are worked out by the same machine as ours, without memory.
 //
-// rustc -O bench/peer_evaluation.rs; peer_evaluation NAME SIZE COUNT
+// rustc -O bench/peer_evaluation.rs; peer_evaluation [remembered] NAME SIZE COUNT
 #[allow(dead_code)]
 #[path = "peer_params.rs"]
 mod params;
@@ -11,53 +11,110 @@ mod params;
 mod periods;
 
 use params::{CalcFault, Day, Fraction, NumFault, ParamTree, files_of, find, mixed, reduce};
-use periods::{FoldHasher, Period, TimeFault, Unit};
+use periods::{Period, TimeFault, Unit};
 use std::hash::{Hash, Hasher};
 use std::time::Instant;
 
 include!("peer_common.rs");
 
-/// The values of keys: an index of open addressing over keys and values in two columns.
-struct Table {
-    slots: Vec<u32>,
-    keys: Vec<Key>,
-    values: Vec<Value>,
+/// Hashes keys as ours does: those of one variable and member at periods that follow one another have hashes that do.
+struct KeyHasher {
+    state: u64,
+}
+
+impl Hasher for KeyHasher {
+    fn finish(&self) -> u64 {
+        let number = self.state >> 16 & 0xffff_ffff;
+        number & 0xff_ffff | number * 0x9e37_79b1 & 0xff00_0000
+    }
+
+    fn write(&mut self, bytes: &[u8]) {
+        let word = match *bytes {
+            [a, b, c, d, e, f, g, h] => u64::from_le_bytes([a, b, c, d, e, f, g, h]),
+            [a, b, c, d] => u32::from_le_bytes([a, b, c, d]).into(),
+            _ => 0,
+        };
+        self.state = self.state.wrapping_mul(0x9e37_79b9_7f4a_7c15).wrapping_add(word);
+    }
 }
 
 fn hash_of(key: &Key) -> usize {
-    let mut hasher = FoldHasher { state: 0x243f_6a88_85a3_08d3 };
+    let mut hasher = KeyHasher { state: 0 };
     key.hash(&mut hasher);
     hasher.finish() as usize
 }
 
-impl Table {
-    fn of(given: Vec<(Key, Fraction)>) -> Table {
-        let mut slots = vec![0; (2 * given.len()).next_power_of_two()];
-        for (place, (key, _)) in given.iter().enumerate() {
-            let mut at = hash_of(key) & (slots.len() - 1);
-            while slots[at] != 0 {
-                at = (at + 1) & (slots.len() - 1);
-            }
-            slots[at] = place as u32 + 1;
+/// What stands under keys: an index of open addressing over keys and values in two columns, of which it is twice as long at least.
+struct Table<V> {
+    slots: Vec<u32>,
+    keys: Vec<Key>,
+    values: Vec<V>,
+}
+
+impl<V: Copy> Table<V> {
+    fn new() -> Table<V> {
+        Table { slots: Vec::new(), keys: Vec::new(), values: Vec::new() }
+    }
+
+    /// The place in the index of the key, or the free one where it has none.
+    fn slot(&self, key: &Key) -> usize {
+        let mut at = hash_of(key) & (self.slots.len() - 1);
+        while self.slots[at] != 0 && self.keys[self.slots[at] as usize - 1] != *key {
+            at = (at + 1) & (self.slots.len() - 1);
         }
-        let (keys, values) = given.into_iter().map(|(key, number)| (key, Value::Number(number))).unzip();
-        Table { slots, keys, values }
+        at
+    }
+
+    fn find(&self, key: &Key) -> Option<V> {
+        if self.slots.is_empty() {
+            return None;
+        }
+        match self.slots[self.slot(key)] {
+            0 => None,
+            place => Some(self.values[place as usize - 1]),
+        }
+    }
+
+    /// Puts a key in that is not there.
+    fn put(&mut self, key: Key, value: V) {
+        if 2 * self.keys.len() >= self.slots.len() {
+            self.slots = vec![0; (2 * self.slots.len()).max(16)];
+            for place in 0..self.keys.len() {
+                let at = self.slot(&self.keys[place]);
+                self.slots[at] = place as u32 + 1;
+            }
+        }
+        let at = self.slot(&key);
+        self.keys.push(key);
+        self.values.push(value);
+        self.slots[at] = self.keys.len() as u32;
     }
 }
 
-impl Inputs for Table {
+impl Inputs for Table<Value> {
     fn get(&self, key: &Key) -> Option<Value> {
-        let mut at = hash_of(key) & (self.slots.len() - 1);
-        loop {
-            let place = self.slots[at] as usize;
-            if place == 0 {
-                return None;
-            }
-            if self.keys[place - 1] == *key {
-                return Some(self.values[place - 1]);
-            }
-            at = (at + 1) & (self.slots.len() - 1);
-        }
+        self.find(key)
+    }
+}
+
+/// The table of inputs.
+fn table_of(given: Vec<(Key, Fraction)>) -> Table<Value> {
+    let mut table = Table::new();
+    for (key, number) in given {
+        table.put(key, Value::Number(number));
+    }
+    table
+}
+
+impl Recall for Table<Known> {
+    const REMEMBERS: bool = true;
+
+    fn look(&self, key: &Key) -> Option<Known> {
+        self.find(key)
+    }
+
+    fn keep(&mut self, key: Key, known: Known) {
+        self.put(key, known);
     }
 }
 
@@ -142,7 +199,7 @@ mod machine {
     }
     struct World<'w> {
         rules: &'w Rules,
-        situation: &'w Situation<Table>,
+        situation: &'w Situation<Table<Value>>,
     }
     fn own(f: NumFault) -> Own {
         match f {
@@ -183,7 +240,7 @@ mod machine {
             Total::All => Operation::Logic(Logic::And),
         }
     }
-    fn next_person(s: &Situation<Table>, group: u32, role: Option<Role>, place: usize) -> Option<(u32, usize)> {
+    fn next_person(s: &Situation<Table<Value>>, group: u32, role: Option<Role>, place: usize) -> Option<(u32, usize)> {
         let persons = &s.persons[group as usize];
         let has = |person: u32| match role {
             None => true,
@@ -480,12 +537,12 @@ mod machine {
     }
     pub struct Evaluator<'r> {
         pub rules: &'r Rules,
-        pub situation: &'r Situation<Table>,
+        pub situation: &'r Situation<Table<Value>>,
         keys: Vec<Key>,
         machine: Machine<'r>,
     }
     impl<'r> Evaluator<'r> {
-        pub fn new(rules: &'r Rules, situation: &'r Situation<Table>) -> Evaluator<'r> {
+        pub fn new(rules: &'r Rules, situation: &'r Situation<Table<Value>>) -> Evaluator<'r> {
             let nobody = Frame { member: 0, period: Period::ETERNITY };
             let machine = Machine { locals: &[], frame: nobody, value: Value::Bool(false), stack: Vec::new(), kept: Vec::new() };
             Evaluator { rules, situation, keys: Vec::new(), machine }
@@ -514,6 +571,7 @@ const PAYS: usize = 5;
 const SUMS: usize = 6;
 const NODES: usize = 9;
 const CONTRIBUTION: usize = 12;
+const TWICE: usize = 13;
 
 fn whole(numerator: i64) -> Fraction {
     Fraction { numerator, denominator: 1 }
@@ -574,6 +632,8 @@ fn rules() -> Rules {
     }
     let base = own(SALARY, Vec::new());
     variables.push(month(PERSON, Some(Node::Scale(Box::new(ScaleSum { place: scale, moves: Vec::new(), base })))));
+    let before = || own(TWICE, vec![Move::LastMonth]);
+    variables.push(month(PERSON, Some(two(Arithmetic::Add, before(), before()))));
     Rules { variables, parameters }
 }
 
@@ -599,10 +659,11 @@ fn cell(name: &str, size: u32) -> (Vec<(Key, Fraction)>, Vec<Key>) {
     let at = |variable, period| vec![Key { variable, member: 0, period }];
     let of_each = |variable| (0..1000).map(|member| Key { variable, member, period: now }).collect();
     match name {
-        "chain" => {
+        "chain" | "twice" => {
             let first = period("2000-01");
-            let given = vec![(Key { variable: STEP, member: 0, period: first }, ONE)];
-            (given, at(STEP, first.offset(i64::from(size) - 1).unwrap()))
+            let variable = if name == "chain" { STEP } else { TWICE };
+            let given = vec![(Key { variable, member: 0, period: first }, ONE)];
+            (given, at(variable, first.offset(i64::from(size) - 1).unwrap()))
         }
         "members" => (persons(size, false), at(TOTAL, now)),
         "hundredths" => (persons(size, true), at(TOTAL, now)),
@@ -618,7 +679,11 @@ fn cell(name: &str, size: u32) -> (Vec<(Key, Fraction)>, Vec<Key>) {
 }
 
 fn main() {
-    let words: Vec<String> = std::env::args().skip(1).collect();
+    let mut words: Vec<String> = std::env::args().skip(1).collect();
+    let remembers = words[0] == "remembered";
+    if remembers {
+        words.remove(0);
+    }
     let (size, count): (u32, u64) = (words[1].parse().unwrap(), words[2].parse().unwrap());
     let rules = rules();
     let (given, keys) = cell(&words[0], size);
@@ -628,31 +693,31 @@ fn main() {
         "nodes" | "scale" => 1000,
         _ => 1,
     };
-    let situation = Situation { inputs: Table::of(given), homes: vec![Home { group: 0, role }; persons as usize], persons: vec![(0..persons).collect()] };
+    let situation = Situation { inputs: table_of(given), homes: vec![Home { group: 0, role }; persons as usize], persons: vec![(0..persons).collect()] };
     let rounds = if keys.len() > 1 { count / keys.len() as u64 } else { count / u64::from(size) };
     let start = Instant::now();
     let checksum = if std::env::var_os("FISCA_PEER").is_some_and(|peer| peer == "machine") {
         let mut evaluator = machine::Evaluator::new(&rules, &situation);
-        all(rounds, &keys, |key| evaluator.value(key))
+        (0..rounds).fold(0, |sum, _| all(sum, &keys, |key| evaluator.value(key)))
+    } else if remembers {
+        (0..rounds).fold(0, |sum, _| {
+            let recall: Table<Known> = Table::new();
+            let mut evaluator = Evaluator { rules: &rules, situation: &situation, recall, keys: Vec::new(), tallest: 0, reads: 0 };
+            all(sum, &keys, |key| evaluator.value(key))
+        })
     } else {
-        let mut evaluator = Evaluator { rules: &rules, situation: &situation, recall: Nothing, keys: Vec::new(), tallest: 0 };
-        all(rounds, &keys, |key| evaluator.value(key))
+        let mut evaluator = Evaluator { rules: &rules, situation: &situation, recall: Nothing, keys: Vec::new(), tallest: 0, reads: 0 };
+        (0..rounds).fold(0, |sum, _| all(sum, &keys, |key| evaluator.value(key)))
     };
     println!("{} {checksum}", start.elapsed().as_nanos());
 }
 
-/// Works the keys out so often. The checksum is of their values.
-fn all(rounds: u64, keys: &[Key], mut value: impl FnMut(Key) -> Result<Value, Fault>) -> u64 {
-    let mut checksum = 0u64;
-    for _ in 0..rounds {
-        for key in keys {
-            checksum = match value(*key) {
-                Ok(Value::Number(number)) => mixed(checksum, number),
-                Ok(Value::Bool(truth)) => checksum.rotate_left(3).wrapping_add(u64::from(truth)),
-                Ok(Value::Member(place)) => checksum.rotate_left(3).wrapping_add(place as u64),
-                Err(_) => checksum.rotate_left(7),
-            };
-        }
-    }
-    checksum
+/// Works the keys out once more. The checksum is of their values.
+fn all(before: u64, keys: &[Key], mut value: impl FnMut(Key) -> Result<Value, Fault>) -> u64 {
+    keys.iter().fold(before, |checksum, key| match value(*key) {
+        Ok(Value::Number(number)) => mixed(checksum, number),
+        Ok(Value::Bool(truth)) => checksum.rotate_left(3).wrapping_add(u64::from(truth)),
+        Ok(Value::Member(place)) => checksum.rotate_left(3).wrapping_add(place as u64),
+        Err(_) => checksum.rotate_left(7),
+    })
 }

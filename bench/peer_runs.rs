@@ -1,6 +1,7 @@
 // The peer of `fisca run` in plain Rust: the lines of the run files that `bench/runs` writes, by the very formulas as trees. Each position has a situation
 // and a memory of its own, in hash tables: the inputs are shared over the parts of their periods anew, and what a formula gave is remembered. With
-// FISCA_PEER=kept the two tables are emptied for the next position, and not made anew.
+// FISCA_PEER=kept the two tables are emptied for the next position, and not made anew. With FISCA_PEER=wheels there is one situation and one memory for the
+// run: each group of axes is a wheel, a position sets the inputs of the wheels that turn, and what was remembered counts until a wheel turns that it read.
 //
 // rustc -O -C codegen-units=1 bench/peer_runs.rs; peer_runs NAME COUNT [--from POSITION], COUNT that of the last group of axes
 #[allow(dead_code)]
@@ -79,6 +80,68 @@ impl Recall for Table<Known> {
     }
 }
 
+/// The inputs of a run, and the wheels that move each variable's inputs, as bits.
+struct Turning {
+    inputs: Table<Value>,
+    wheels: Vec<u16>,
+}
+
+impl Inputs for Turning {
+    fn get(&self, key: &Key) -> Option<Value> {
+        Inputs::get(&self.inputs, key)
+    }
+
+    fn wheels(&self, variable: usize) -> u16 {
+        self.wheels[variable]
+    }
+}
+
+/// What is remembered, and when.
+struct Stamped {
+    known: Known,
+    kept_at: u64,
+}
+
+/// A memory over all positions: what was kept before a wheel turned that it read is stale. Nothing is taken out, and a stale entry is written over.
+#[derive(Default)]
+struct Clock {
+    entries: Table<Stamped>,
+    turned_at: [u64; 16],
+    now: u64,
+}
+
+impl Clock {
+    fn turn(&mut self, wheel: usize) {
+        self.now += 1;
+        self.turned_at[wheel] = self.now;
+    }
+
+    fn is_fresh(&self, stamped: &Stamped) -> bool {
+        let mut wheels = stamped.known.reads;
+        while wheels != 0 {
+            if self.turned_at[wheels.trailing_zeros() as usize] > stamped.kept_at {
+                return false;
+            }
+            wheels &= wheels - 1;
+        }
+        true
+    }
+}
+
+impl Recall for &mut Clock {
+    const REMEMBERS: bool = true;
+
+    fn look(&self, key: &Key) -> Option<Known> {
+        let stamped = HashMap::get(&self.entries, &packed(key))?;
+        self.is_fresh(stamped).then_some(stamped.known)
+    }
+
+    fn keep(&mut self, key: Key, known: Known) {
+        let kept_at = self.now;
+        self.entries.insert(packed(&key), Stamped { known, kept_at });
+    }
+}
+
 /// How a value for a longer period is shared over the parts: not at all, the whole value for each, or an equal part.
 #[derive(Clone, Copy, PartialEq)]
 enum Sharing {
@@ -100,6 +163,12 @@ struct Moving {
     axis: Axis,
     group: usize,
     given: usize,
+}
+
+/// The keys that an axis moves, and into how many parts its values go.
+struct Slot {
+    keys: Vec<Key>,
+    parts: u64,
 }
 
 struct Condition {
@@ -173,24 +242,100 @@ impl Run {
         }
     }
 
-    /// Writes the lines from a position on.
-    fn write(&self, from: u64, is_kept: bool, out: &mut impl Write) -> io::Result<()> {
-        let mut given = self.given.clone();
+    /// The place of each group at a position, and how many positions there are.
+    fn places(&self, from: u64) -> (Vec<u64>, u64) {
         let mut size = 1;
         let mut places = Vec::new();
         for count in &self.counts {
             places.push(from / size % count);
             size *= count;
         }
+        (places, size)
+    }
+
+    /// Goes to the next position: how many groups turn.
+    fn step(&self, places: &mut [u64]) -> usize {
+        for (group, (place, count)) in places.iter_mut().zip(&self.counts).enumerate() {
+            *place += 1;
+            if *place < *count {
+                return group + 1;
+            }
+            *place = 0;
+        }
+        places.len()
+    }
+
+    /// The value of an axis at a place, as its variable has it.
+    fn value_at(&self, moving: &Moving, place: u64) -> Value {
+        let key = &self.given[moving.given].key;
+        let (numerator, denominator) = moving.axis.value(place as i64);
+        cast(self.rules.variables[key.variable].kind, Value::Number(Fraction { numerator, denominator }), key).ok().unwrap()
+    }
+
+    /// What an axis moves. No part of its period has a value of its own.
+    fn slot(&self, moving: &Moving) -> Slot {
+        let Given { key, sharing, .. } = self.given[moving.given];
+        if sharing == Sharing::None {
+            return Slot { keys: vec![key], parts: 1 };
+        }
+        let is_within = |other: &Given| key.variable == other.key.variable && key.member == other.key.member;
+        assert_eq!(1, self.given.iter().filter(|other| is_within(other)).count());
+        let unit = self.rules.variables[key.variable].unit;
+        let count = key.period.sub_count(unit).unwrap();
+        let keys = (0..count).map(|i| Key { period: key.period.sub(unit, i), ..key }).collect();
+        Slot { keys, parts: if sharing == Sharing::Divide { count as u64 } else { 1 } }
+    }
+
+    /// Writes the lines from a position on, by one situation and one memory.
+    fn write_turning(&self, from: u64, out: &mut impl Write) -> io::Result<()> {
+        let mut given = self.given.clone();
+        let (mut places, size) = self.places(from);
+        let mut wheels = vec![0; self.rules.variables.len()];
+        for moving in &self.axes {
+            wheels[given[moving.given].key.variable] |= 1 << moving.group;
+        }
+        let mut inputs = Table::default();
+        self.share(&given, &mut inputs, &mut Vec::new());
+        let (homes, persons) = (self.homes.clone(), self.persons.clone());
+        let mut situation = Situation { inputs: Turning { inputs, wheels }, homes, persons };
+        let slots: Vec<Slot> = self.axes.iter().map(|moving| self.slot(moving)).collect();
+        let (mut clock, mut keys, mut line) = (Clock::default(), Vec::new(), Vec::with_capacity(256));
+        let mut turned = places.len();
+        for position in from..size {
+            (0..turned).for_each(|wheel| clock.turn(wheel));
+            for (moving, slot) in self.axes.iter().zip(&slots).filter(|(moving, _)| moving.group < turned) {
+                let value = self.value_at(moving, places[moving.group]);
+                given[moving.given].value = value;
+                let part = match slot.parts {
+                    1 => value,
+                    parts => Value::Number(divided(number(value), Fraction { numerator: parts as i64, denominator: 1 }).unwrap()),
+                };
+                for key in &slot.keys {
+                    situation.inputs.inputs.insert(packed(key), part);
+                }
+            }
+            let mut evaluator = Evaluator { rules: &self.rules, situation: &situation, recall: &mut clock, keys, tallest: 0, reads: 0 };
+            line.clear();
+            if self.write_row(position, &given, &mut evaluator, &mut line).is_err() {
+                panic!("position {position}: a value cannot be worked out");
+            }
+            out.write_all(&line)?;
+            keys = evaluator.keys;
+            turned = self.step(&mut places);
+        }
+        out.write_all(b"end\n")
+    }
+
+    /// Writes the lines from a position on.
+    fn write(&self, from: u64, is_kept: bool, out: &mut impl Write) -> io::Result<()> {
+        let mut given = self.given.clone();
+        let (mut places, size) = self.places(from);
         let (mut line, mut rows, mut keys) = (Vec::with_capacity(256), Vec::new(), Vec::new());
         let (mut inputs, mut recall): (Table<Value>, Table<Known>) = Default::default();
         let (mut homes, mut persons) = (self.homes.clone(), self.persons.clone());
         for position in from..size {
             for moving in &self.axes {
-                let input = &mut given[moving.given];
-                let (numerator, denominator) = moving.axis.value(places[moving.group] as i64);
-                let value = Value::Number(Fraction { numerator, denominator });
-                input.value = cast(self.rules.variables[input.key.variable].kind, value, &input.key).ok().unwrap();
+                given[moving.given].value = self.value_at(moving, places[moving.group]);
             }
             if is_kept {
                 inputs.clear();
@@ -201,7 +346,7 @@ impl Run {
             }
             self.share(&given, &mut inputs, &mut rows);
             let situation = Situation { inputs, homes, persons };
-            let mut evaluator = Evaluator { rules: &self.rules, situation: &situation, recall, keys, tallest: 0 };
+            let mut evaluator = Evaluator { rules: &self.rules, situation: &situation, recall, keys, tallest: 0, reads: 0 };
             line.clear();
             if self.write_row(position, &given, &mut evaluator, &mut line).is_err() {
                 panic!("position {position}: a value cannot be worked out");
@@ -209,19 +354,13 @@ impl Run {
             out.write_all(&line)?;
             (recall, keys) = (evaluator.recall, evaluator.keys);
             Situation { inputs, homes, persons } = situation;
-            for (place, count) in places.iter_mut().zip(&self.counts) {
-                *place += 1;
-                if *place < *count {
-                    break;
-                }
-                *place = 0;
-            }
+            self.step(&mut places);
         }
         out.write_all(b"end\n")
     }
 
     /// Appends the line of a position, where all conditions hold.
-    fn write_row<R: Recall>(&self, position: u64, given: &[Given], evaluator: &mut Evaluator<Table<Value>, R>, line: &mut Vec<u8>) -> Result<(), Fault> {
+    fn write_row<I: Inputs, R: Recall>(&self, position: u64, given: &[Given], evaluator: &mut Evaluator<I, R>, line: &mut Vec<u8>) -> Result<(), Fault> {
         for condition in &self.filter {
             if !compared(condition.comparison, number(evaluator.value(condition.key)?), condition.constant) {
                 return Ok(());
@@ -582,8 +721,11 @@ fn main() -> io::Result<()> {
         Some(word) => word.parse().map_err(io::Error::other)?,
         None => 0,
     };
-    let is_kept = std::env::var_os("FISCA_PEER").is_some_and(|peer| peer == "kept");
+    let peer = std::env::var("FISCA_PEER").unwrap_or_default();
     let mut out = BufWriter::with_capacity(1 << 16, io::stdout().lock());
-    run.write(from, is_kept, &mut out)?;
+    match peer.as_str() {
+        "wheels" => run.write_turning(from, &mut out)?,
+        _ => run.write(from, peer == "kept", &mut out)?,
+    }
     out.flush()
 }

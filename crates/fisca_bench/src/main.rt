@@ -12,6 +12,7 @@ mod situations;
 mod trees;
 mod yaml;
 
+use std::alloc::Global;
 use std::{env, io};
 
 /// What a run of a benchmark gives: its time, and a checksum of its answers.
@@ -24,25 +25,44 @@ fn main(rt: HostRuntime) -> io::Result<()> {
     let words: Vec<String> = env::args(&rt)?.skip(1).collect(rt.alloc())?;
     match words.as_slice() {
         [] => list(&rt),
-        [subject, rest @ ..] => match subject.as_str() {
-            "evaluation" => evaluation::run(&rt, rt.alloc(), rest),
-            "modules" => modules::run(&rt, rt.alloc(), rest),
-            "numbers" => numbers::run(&rt, rt.alloc(), rest),
-            "params" => params::run(&rt, rt.alloc(), rest),
-            "periods" => periods::run(&rt, rt.alloc(), rest),
-            "rules" => rules::run(&rt, rt.alloc(), rest),
-            "situations" => situations::run(&rt, rt.alloc(), rest),
-            "trees" => trees::run(&rt, rt.alloc(), rest),
-            "yaml" => yaml::run(&rt, rt.alloc(), rest),
-            _ => list(&rt),
-        },
+        [subject, rest @ ..] => of_texts(&rt, rt.alloc(), subject.as_str(), rest),
+    }
+}
+
+/// Measures a subject that reads texts.
+fn of_texts(rt: &HostRuntime, alloc: Global, subject: &str, words: &[String]) -> io::Result<()> {
+    match subject {
+        "modules" => modules::run(rt, alloc, words),
+        "params" => params::run(rt, alloc, words),
+        "trees" => trees::run(rt, alloc, words),
+        "yaml" => yaml::run(rt, alloc, words),
+        _ => of_rules(rt, alloc, subject, words),
+    }
+}
+
+/// Measures a subject that needs rules.
+fn of_rules(rt: &HostRuntime, alloc: Global, subject: &str, words: &[String]) -> io::Result<()> {
+    match subject {
+        "evaluation" => evaluation::run(rt, alloc, words),
+        "rules" => rules::run(rt, alloc, words),
+        "situations" => situations::run(rt, alloc, words),
+        _ => of_tables(rt, alloc, subject, words),
+    }
+}
+
+/// Measures a subject that goes over a table.
+fn of_tables(rt: &HostRuntime, alloc: Global, subject: &str, words: &[String]) -> io::Result<()> {
+    match subject {
+        "numbers" => numbers::run(rt, alloc, words),
+        "periods" => periods::run(rt, alloc, words),
+        _ => list(rt),
     }
 }
 
 /// Lists the benchmarks.
 fn list(rt: &impl Print) -> io::Result<()> {
     println!(rt; "fisca_bench SUBJECT WORD.. COUNT")?;
-    println!(rt; "evaluation NAME SIZE COUNT")?;
+    println!(rt; "evaluation [remembered] NAME SIZE COUNT")?;
     println!(rt; "modules NAME COUNT")?;
     println!(rt; "modules FILE")?;
     println!(rt; "numbers add|mul|cmp|text|decimal whole|hundredths|unlike COUNT")?;

@@ -12,6 +12,13 @@ const TABLE: u64 = 1024;
 /// A table of pairs of operands.
 type Pairs = Vec<(Fraction, Fraction)>;
 
+/// What operations work on.
+#[derive(Drop)]
+struct Operands {
+    pairs: Pairs,
+    texts: Vec<String>,
+}
+
 /// The operands of a mix.
 #[derive(Clone, Copy)]
 enum Mix {
@@ -54,23 +61,32 @@ fn measure(
     mix: Mix,
     rounds: u64,
 ) -> io::Result<Option<Measured>> {
-    let pairs = pairs_of(alloc, mix)?;
-    let texts = texts_of(alloc, mix)?;
+    let operands = Operands {
+        pairs: pairs_of(alloc, mix)?,
+        texts: texts_of(alloc, mix)?,
+    };
     let mut line = String::new(alloc);
     let start = Instant::now(rt)?;
-    let checksum = match operation {
-        "add" => sums(pairs.as_slice(), rounds),
-        "mul" => products(pairs.as_slice(), rounds),
-        "cmp" => comparisons(pairs.as_slice(), rounds),
-        "text" => written(pairs.as_slice(), rounds, &mut line),
-        "decimal" => read(texts.as_slice(), rounds),
-        _ => return Ok(None),
-    };
-    let nanoseconds = start.elapsed(rt)?.as_nanos();
-    Ok(Some(Measured {
-        nanoseconds,
-        checksum,
-    }))
+    match gone_over(&operands, operation, rounds, &mut line) {
+        Some(checksum) => Ok(Some(Measured {
+            nanoseconds: start.elapsed(rt)?.as_nanos(),
+            checksum,
+        })),
+        None => Ok(None),
+    }
+}
+
+/// The checksum of an operation.
+fn gone_over(operands: &Operands, operation: &str, rounds: u64, line: &mut String) -> Option<u64> {
+    let pairs = operands.pairs.as_slice();
+    match operation {
+        "add" => Some(sums(pairs, rounds)),
+        "mul" => Some(products(pairs, rounds)),
+        "cmp" => Some(comparisons(pairs, rounds)),
+        "text" => Some(written(pairs, rounds, line)),
+        "decimal" => Some(read(operands.texts.as_slice(), rounds)),
+        _ => None,
+    }
 }
 
 /// The next of a row of numbers that look like random ones.

@@ -11,6 +11,15 @@ use std::time::Instant;
 /// How many operations one pass over the table makes.
 const TABLE: u64 = 1024;
 
+/// What operations work on: periods of all forms, and days.
+#[derive(Drop)]
+struct Operands {
+    texts: Vec<String>,
+    periods: Vec<Period>,
+    day_texts: Vec<String>,
+    days: Vec<Period>,
+}
+
 /// `periods OPERATION COUNT`.
 pub fn run(rt: &(impl Print + Clock), alloc: Global, words: &[String]) -> io::Result<()> {
     match words {
@@ -32,32 +41,57 @@ fn measure(
     operation: &str,
     rounds: u64,
 ) -> io::Result<Option<Measured>> {
+    let operands = operands_of(alloc)?;
+    let start = Instant::now(rt)?;
+    match gone_over(alloc, &operands, operation, rounds) {
+        Some(checksum) => Ok(Some(Measured {
+            nanoseconds: start.elapsed(rt)?.as_nanos(),
+            checksum,
+        })),
+        None => Ok(None),
+    }
+}
+
+fn operands_of(alloc: Global) -> Result<Operands, AllocError> {
     let texts = texts_of(alloc)?;
     let periods = periods_of(alloc, texts.as_slice())?;
     let day_texts = day_texts_of(alloc)?;
     let days = periods_of(alloc, day_texts.as_slice())?;
-    let start = Instant::now(rt)?;
-    let checksum = match operation {
-        "read" => read(texts.as_slice(), rounds),
-        "text" => written(alloc, periods.as_slice(), rounds),
-        "offset" => offset(periods.as_slice(), rounds),
-        "named" => named(periods.as_slice(), rounds),
-        "sub" => last_months(periods.as_slice(), rounds),
-        "compare" => compared(periods.as_slice(), rounds),
-        "hash" => hashed(periods.as_slice(), rounds),
-        "read_days" => read(day_texts.as_slice(), rounds),
-        "text_days" => written(alloc, days.as_slice(), rounds),
-        "move_by_days" => moved(days.as_slice(), Unit::Day, rounds),
-        "move_by_months" => moved(days.as_slice(), Unit::Month, rounds),
-        "day_of_year" => year_days(periods.as_slice(), rounds),
-        "overlaps" => overlapping(days.as_slice(), periods.as_slice(), rounds),
-        _ => return Ok(None),
-    };
-    let nanoseconds = start.elapsed(rt)?.as_nanos();
-    Ok(Some(Measured {
-        nanoseconds,
-        checksum,
-    }))
+    Ok(Operands {
+        texts,
+        periods,
+        day_texts,
+        days,
+    })
+}
+
+/// The checksum of an operation.
+fn gone_over(alloc: Global, operands: &Operands, operation: &str, rounds: u64) -> Option<u64> {
+    let periods = operands.periods.as_slice();
+    match operation {
+        "read" => Some(read(operands.texts.as_slice(), rounds)),
+        "text" => Some(written(alloc, periods, rounds)),
+        "offset" => Some(offset(periods, rounds)),
+        "named" => Some(named(periods, rounds)),
+        "sub" => Some(last_months(periods, rounds)),
+        "compare" => Some(compared(periods, rounds)),
+        "hash" => Some(hashed(periods, rounds)),
+        _ => gone_over_days(alloc, operands, operation, rounds),
+    }
+}
+
+/// The checksum of an operation on days.
+fn gone_over_days(alloc: Global, operands: &Operands, operation: &str, rounds: u64) -> Option<u64> {
+    let (periods, days) = (operands.periods.as_slice(), operands.days.as_slice());
+    match operation {
+        "read_days" => Some(read(operands.day_texts.as_slice(), rounds)),
+        "text_days" => Some(written(alloc, days, rounds)),
+        "move_by_days" => Some(moved(days, Unit::Day, rounds)),
+        "move_by_months" => Some(moved(days, Unit::Month, rounds)),
+        "day_of_year" => Some(year_days(periods, rounds)),
+        "overlaps" => Some(overlapping(days, periods, rounds)),
+        _ => None,
+    }
 }
 
 /// The next of a row of numbers that look like random ones.

@@ -1,6 +1,11 @@
 //! Building the rule sets that `bench/texts_rules` writes, beside reading their modules.
+ghost use Rattle.std.specs.Prelude.{IfSome};
+ghost use Rattle.fisca_rules.specs.Views.{rule_set};
+ghost use Rattle.fisca_sources.specs.Sound.{IsSafeRules};
+
 use crate::params::files_of;
 use crate::{Measured, list, show};
+use fisca_eval::rule_sets_are_safe;
 use fisca_params::{ParamTree, SourceFile};
 use fisca_rules::RuleSet;
 use fisca_syntax::{Module, read_module};
@@ -28,6 +33,18 @@ pub fn run(
         _ => return list(rt),
     };
     show(rt, measured)
+}
+
+/// The rule set of the files.
+pub(crate) fn rules_of<'a>(alloc: Global, files: &'a [SourceFile]) -> Option<RuleSet<'a>>
+    ensures { IfSome result (λ rules. IsSafeRules (rule_set rules)) }
+{
+    rule_sets_are_safe();
+    let parameters = ParamTree::read(alloc, files).ok()?;
+    match RuleSet::build(alloc, parameters, modules(alloc, files)) {
+        Ok(rules) => Some(rules),
+        Err(_) => None,
+    }
 }
 
 /// The modules among the files, as they stand there, or none where one cannot be read.

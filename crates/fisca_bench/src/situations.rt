@@ -1,10 +1,9 @@
 //! Reading the situations that `bench/texts_situations` writes, and looking their inputs up.
 use crate::params::files_of;
-use crate::rules::modules;
+use crate::rules::rules_of;
 use crate::{Measured, list, show};
 use fisca_inputs::{Key, Value};
-use fisca_params::ParamTree;
-use fisca_rules::RuleSet;
+use fisca_params::SourceFile;
 use fisca_situations::Situation;
 use fisca_tables::Tables;
 use fisca_time::{Period, Unit};
@@ -21,29 +20,67 @@ pub fn run(
     alloc: Global,
     words: &[String],
 ) -> io::Result<()> {
-    let [operation, name, count] = words else {
-        return list(rt);
-    };
-    let rules = fs::read_to_string(rt, "bench/out/situations/rules")?;
-    let files = files_of(alloc, rules.as_str())?;
-    let Ok(parameters) = ParamTree::read(alloc, files.as_slice()) else {
-        return list(rt);
-    };
-    let Ok(rules) = RuleSet::build(alloc, parameters, modules(alloc, files.as_slice())) else {
-        return list(rt);
-    };
-    let path = format!(in alloc; "bench/out/situations/{name}")?;
-    let text = fs::read_to_string(rt, path.as_str())?;
-    let Ok(tree) = fisca_yaml::read(alloc, text.as_str()) else {
-        return list(rt);
-    };
-    let count: u64 = count.as_str().parse().unwrap_or(0);
-    let measured = match operation.as_str() {
-        "read" => read(rt, alloc, &rules.tables, &tree, count)?,
-        "input" => input(rt, alloc, &rules.tables, &tree, count)?,
-        _ => return list(rt),
-    };
-    show(rt, measured)
+    match words {
+        [operation, name, count] => {
+            let rules = fs::read_to_string(rt, "bench/out/situations/rules")?;
+            let files = files_of(alloc, rules.as_str())?;
+            let path = format!(in alloc; "bench/out/situations/{name}")?;
+            let text = fs::read_to_string(rt, path.as_str())?;
+            let count: u64 = count.as_str().parse().unwrap_or(0);
+            let operation = operation.as_str();
+            match of_files(rt, alloc, files.as_slice(), text.as_str(), operation, count)? {
+                Some(measured) => show(rt, measured),
+                None => list(rt),
+            }
+        }
+        _ => list(rt),
+    }
+}
+
+/// Measures the situation of a text under the rules of the files.
+fn of_files(
+    rt: &impl Clock,
+    alloc: Global,
+    files: &[SourceFile],
+    text: &str,
+    operation: &str,
+    count: u64,
+) -> io::Result<Option<Measured>> {
+    match rules_of(alloc, files) {
+        Some(rules) => of_text(rt, alloc, &rules.tables, text, operation, count),
+        None => Ok(None),
+    }
+}
+
+/// Measures the situation of a text.
+fn of_text(
+    rt: &impl Clock,
+    alloc: Global,
+    tables: &Tables<'_>,
+    text: &str,
+    operation: &str,
+    count: u64,
+) -> io::Result<Option<Measured>> {
+    match fisca_yaml::read(alloc, text) {
+        Ok(tree) => of_tree(rt, alloc, tables, &tree, operation, count),
+        Err(_) => Ok(None),
+    }
+}
+
+/// Measures the situation of a tree.
+fn of_tree(
+    rt: &impl Clock,
+    alloc: Global,
+    tables: &Tables<'_>,
+    tree: &Tree<'_>,
+    operation: &str,
+    count: u64,
+) -> io::Result<Option<Measured>> {
+    match operation {
+        "read" => Ok(Some(read(rt, alloc, tables, tree, count)?)),
+        "input" => Ok(Some(input(rt, alloc, tables, tree, count)?)),
+        _ => Ok(None),
+    }
 }
 
 /// Reads the situation so often, each dropped outside the time. The checksum is of its inputs.

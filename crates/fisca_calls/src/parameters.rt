@@ -64,7 +64,7 @@ fn of_one_kind(alloc: Global, tree: &ParamTree, chosen: Chosen) -> Result<Thing,
     } else if are_all(tree, places, Wanted::Bools) {
         parameter_of(alloc, ValueType::Bool, chosen)
     } else if are_all(tree, places, Wanted::Nodes) {
-        Ok(Thing::Nodes(chosen))
+        Ok(Thing::Nodes(Box::new(alloc, chosen)?))
     } else {
         Err(Kind::BadType)
     }

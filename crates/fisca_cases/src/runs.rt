@@ -1,9 +1,16 @@
 //! Runs: how many formulas gave values in one, and whether what is remembered changes any.
 
-ghost use Rattle.std.specs.Prelude.{◌≡◌, IfOk, Ok};
+ghost use Rattle.std.specs.Prelude.{◌≡◌, IfOk, None, Ok, length};
+ghost use Rattle.fisca_memo.specs.Evaluators.{marks_in, simulation_of};
+ghost use Rattle.fisca_run.specs.Kept.{IsKept, IsRunFile};
 ghost use Rattle.fisca_run.specs.Runs.{IsAsked};
+ghost use Rattle.fisca_run_file.specs.Positions.{situation_with};
 ghost use Rattle.fisca_run_file.specs.RunFiles.{run_file_of};
 ghost use Rattle.fisca_run_file.specs.Views.{run_file as run_file_view};
+ghost use Rattle.fisca_situations.specs.Views.{situation as situation_view};
+ghost use Rattle.fisca_slots.specs.Marks.{wheels_of};
+ghost use Rattle.fisca_slots.specs.Slots.{slots_of};
+ghost use Rattle.fisca_slots.specs.Views.{slot_list};
 ghost use Rattle.fisca_yaml.specs.Views.{node};
 
 use crate::fault::{Fault, push_refusal};
@@ -13,11 +20,13 @@ use crate::written::Written;
 use fisca_commands::run_rules;
 use fisca_eval::EvalFault;
 use fisca_lines::{MemorySink, RunEnd, RunFault};
+use fisca_memo::Evaluator;
 use fisca_params::SourceFile;
-use fisca_recall::Counts;
+use fisca_recall::{Counts, ListRecall, Recall};
 use fisca_rules::RuleSet;
-use fisca_run::{run_anew, run_grid};
+use fisca_run::{RunStart, evaluator_of, run_anew, run_grid, run_with, start};
 use fisca_run_file::RunFile;
+use fisca_slots::Slot;
 use fisca_yaml::{Tree, read};
 use std::alloc::Global;
 
@@ -107,7 +116,95 @@ fn are_the_same(
     let mut anew = MemorySink::new(alloc);
     let answer = run_grid(alloc, rules, tree, run, from, rows, &mut kept);
     let expected = run_anew(alloc, rules, tree, run, from, rows, &mut anew);
-    without_counts(answer) == expected && kept.bytes() == anew.bytes()
+    without_counts(answer) == expected
+        && kept.bytes() == anew.bytes()
+        && is_the_same_twice(alloc, rules, tree, run, from, rows, &expected, anew.bytes())
+}
+
+/// Whether an evaluator that remembers in a list, handed in twice, writes and answers this both times.
+fn is_the_same_twice(
+    alloc: Global,
+    rules: &RuleSet<'_>,
+    tree: &Tree<'_>,
+    run: &RunFile,
+    from: u64,
+    rows: Option<u64>,
+    expected: &Result<RunEnd, RunFault<EvalFault>>,
+    lines: &[u8],
+) -> bool
+    requires { IsAsked rules.now (node tree.now) (run_file_view run.now) }
+{
+    match start(alloc, rules, tree, run) {
+        Ok(begun) => are_the_same_twice(alloc, rules, run, begun, from, rows, expected, lines),
+        Err(_) => false,
+    }
+}
+
+/// The same, from what the run begins with. No value that reads no axis is worked out the second time.
+fn are_the_same_twice(
+    alloc: Global,
+    rules: &RuleSet<'_>,
+    run: &RunFile,
+    begun: RunStart,
+    from: u64,
+    rows: Option<u64>,
+    expected: &Result<RunEnd, RunFault<EvalFault>>,
+    lines: &[u8],
+) -> bool
+    requires accepted { IsRunFile rules.now (run_file_view run.now) }
+    requires situation { situation_with rules.now.tables (run_file_view run.now) (run_file_view run.now).moved ≡ Ok (situation_view begun.situation) }
+    requires slots { slot_list begun.slots.items ≡ slots_of rules.now.tables (run_file_view run.now) }
+    requires wheels { begun.wheels.items ≡ wheels_of (length rules.now.tables.variables) (slots_of rules.now.tables (run_file_view run.now)) }
+{
+    let RunStart {
+        situation,
+        slots,
+        wheels,
+    } = begun;
+    let recall = ListRecall::new(alloc);
+    let (slots, wheels) = (slots.as_slice(), wheels.as_slice());
+    let mut evaluator = evaluator_of(alloc, rules, run, slots, wheels, situation, recall);
+    runs_twice(
+        alloc,
+        rules,
+        &mut evaluator,
+        slots,
+        run,
+        from,
+        rows,
+        expected,
+        lines,
+    )
+}
+
+/// Whether an evaluator that is handed in twice writes and answers this both times.
+fn runs_twice<'t, R: Recall>(
+    alloc: Global,
+    rules: &RuleSet<'t>,
+    evaluator: &mut Evaluator<'_, 't, R>,
+    slots: &[Slot],
+    run: &RunFile,
+    from: u64,
+    rows: Option<u64>,
+    expected: &Result<RunEnd, RunFault<EvalFault>>,
+    lines: &[u8],
+) -> bool
+    requires { IsKept rules.now (run_file_view run.now) slots.now None (marks_in evaluator.old) (simulation_of evaluator.old) (R.find evaluator.old.store.recall) evaluator.old.store.counts.free }
+{
+    let mut once = MemorySink::new(alloc);
+    let mut twice = MemorySink::new(alloc);
+    let first = run_with(
+        alloc, &*rules, evaluator, &*slots, &*run, from, rows, &mut once,
+    );
+    let free = evaluator.counts().free();
+    let second = run_with(
+        alloc, &*rules, evaluator, &*slots, &*run, from, rows, &mut twice,
+    );
+    first == *expected
+        && second == *expected
+        && once.bytes() == lines
+        && twice.bytes() == lines
+        && evaluator.counts().free() == free
 }
 
 fn without_counts(

@@ -64,7 +64,10 @@ pub fn attribute_of(alloc: Global, names: &Names, name: &[u8], thing: Thing) -> 
         Thing::Value(value) => value_attribute(name, value.value_type),
         Thing::Period(moves) => period_attribute(name, moves),
         Thing::Start(moves) => start_attribute(alloc, name, moves),
-        Thing::Nodes(chosen) => node_attribute(alloc, &names.tables.parameters, name, chosen),
+        Thing::Nodes(chosen) => {
+            let above = Box::into_inner(chosen);
+            node_attribute(alloc, &names.tables.parameters, name, above)
+        }
         Thing::Scale(place, moves) => scale_attribute(name, place, moves),
         Thing::Enumeration(choices) => member_thing(names.tables, choices, name),
         Thing::Choices(choices) => member_thing(names.tables, choices, name),

@@ -159,7 +159,7 @@ fn root(alloc: Global, tree: &ParamTree) -> Result<Chosen, Kind> {
     let two = Expr::Number(Slice::new(b"2".as_slice()));
     let period = vec![in alloc; Thing::Period(Vec::new(alloc))]?;
     match reader_by(alloc, tree, by_position(alloc, &two, period)?)? {
-        Thing::Nodes(chosen) => Ok(chosen),
+        Thing::Nodes(chosen) => Ok(Box::into_inner(chosen)),
         _ => Err(Kind::BadType),
     }
 }
@@ -174,7 +174,7 @@ fn rents(alloc: Global, tree: &ParamTree) -> Result<Thing, Kind> {
     chosen_below(
         alloc,
         tree,
-        below,
+        Box::into_inner(below),
         Level::Own,
         Node::Local(3),
         names.as_slice(),

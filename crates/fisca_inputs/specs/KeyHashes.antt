@@ -23,5 +23,9 @@ word bytes = 0
 abbrev pub write : KeyHasher → List ℕ → KeyHasher
 write h bytes = record { state = with_next h.state (word bytes) }
 
+-- 24 bits of a number and above them 8 that are spread
+abbrev pub tagged : ℕ → ℕ
+tagged n = n % 16_777_216 + n * 0x9e37_79b1 % 4_294_967_296 / 16_777_216 * 16_777_216
+
 abbrev pub finish : KeyHasher → ℕ
-finish h = h.state / 65_536 % 4_294_967_296
+finish h = tagged (h.state / 65_536 % 4_294_967_296)

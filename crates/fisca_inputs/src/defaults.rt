@@ -8,11 +8,11 @@ ghost use Rattle.fisca_inputs.specs.Rules as rules;
 
 use crate::fault::{SituationFault, SituationKind};
 use crate::given::{Given, Value};
+use crate::hasher::Keys;
 use crate::inputs::Inputs;
 use crate::key::Key;
 use crate::sharing::fault;
 use fisca_tables::{DefaultValue, Variable};
-use indexmap::IndexSet;
 
 /// The line of the first given input of a variable; 0 where there is none.
 fn first_line(givens: &[Given], variable: usize) -> usize
@@ -127,7 +127,7 @@ impl Inputs {
         variables: &[Variable<'_>],
         counts: &[u32],
         givens: &[Given],
-        rows: &IndexSet<Key>,
+        rows: &Keys,
     ) -> Result<(), SituationFault>
         ensures { Becomes (spec.with_defaults (map rules.rule_of variables.now) counts.now givens.now rows.now.keys self.old) self.new result }
     {

@@ -5,11 +5,12 @@ ghost use Rattle.fisca_inputs.specs.Inputs.{and_given, with_key};
 ghost use Rattle.fisca_inputs.specs.Outcomes.{Becomes, Tells};
 
 use crate::fault::{SituationFault, SituationKind};
+use crate::hasher::Keys;
 use crate::key::Key;
 use fisca_num::Fraction;
 use fisca_time::Period;
-use indexmap::IndexSet;
 use std::alloc::Global;
+use std::hash::BuildHasherDefault;
 use std::marker::Model;
 
 /// A value of a variable.
@@ -42,7 +43,7 @@ pub struct Given {
 #[derive(Drop)]
 pub struct GivenInputs {
     items: Vec<Given>,
-    keys: IndexSet<Key>,
+    keys: Keys,
 }
 
 impl Model for GivenInputs {
@@ -58,7 +59,7 @@ impl Model for GivenInputs {
 }
 
 /// Notes one key more. `InconsistentInput` at this line where it is there.
-fn note(keys: &mut IndexSet<Key>, key: Key, line: usize) -> Result<(), SituationFault>
+fn note(keys: &mut Keys, key: Key, line: usize) -> Result<(), SituationFault>
     ensures { Becomes (with_key keys.old.keys key line) keys.new.keys result }
 {
     if !keys.insert(key)? {
@@ -77,7 +78,7 @@ impl GivenInputs {
     {
         GivenInputs {
             items: Vec::new(alloc),
-            keys: IndexSet::new(alloc),
+            keys: Keys::with_hasher(alloc, BuildHasherDefault::new()),
         }
     }
 

@@ -1,12 +1,20 @@
 //! The hash of keys.
 
-ghost use Rattle.std.specs.Prelude.{◌≡◌};
-ghost use Rattle.fisca_inputs.specs.KeyHashes.{word};
+ghost use Rattle.std.specs.Prelude.{◌≡◌, ◌<◌};
+ghost use Rattle.fisca_inputs.specs.KeyHashes.{tagged, word};
 
-use std::hash::Hasher;
+use crate::key::Key;
+use indexmap::IndexSet;
+use std::hash::{BuildHasherDefault, Hasher};
+
+/// Keys, each once, found by their hashes.
+pub(crate) type Keys = IndexSet<Key, BuildHasherDefault<KeyHasher>>;
 
 /// The fraction of the golden ratio, by which numbers that follow one another are spread.
 const MULTIPLIER: u64 = 0x9e37_79b9_7f4a_7c15;
+
+/// The same for numbers of 32 bits.
+const SPREAD: u64 = 0x9e37_79b1;
 
 /// Hashes keys so that those of one variable and member at periods that follow one another have hashes that do: an input is shared and
 /// looked for over such periods, which then lie side by side in the table.
@@ -14,7 +22,7 @@ const MULTIPLIER: u64 = 0x9e37_79b9_7f4a_7c15;
 /// A key is fed by three numbers, the last of which is that of its period. Whoever picks the keys can make them collide, as with the
 /// default hasher.
 #[derive(Clone, Copy)]
-pub(crate) struct KeyHasher {
+pub struct KeyHasher {
     state: u64,
 }
 
@@ -38,7 +46,7 @@ impl Hasher for KeyHasher {
     // the first month or day of a period stands above its size, of 16 bits
     #[inline(always)]
     fn finish(&self) -> u64 {
-        (self.state >> 16) & 0xffff_ffff
+        tagged((self.state >> 16) % (1 << 32))
     }
 
     #[inline(always)]
@@ -48,6 +56,16 @@ impl Hasher for KeyHasher {
             .wrapping_mul(MULTIPLIER)
             .wrapping_add(word(bytes));
     }
+}
+
+/// A number of 32 bits whose eight highest are spread: by them an index table tells apart what stands in one of its groups, the place of
+/// which it takes from the lowest.
+#[inline(always)]
+fn tagged(number: u64) -> u64
+    requires { number < 4_294_967_296 }
+    ensures { result ≡ tagged number }
+{
+    number % (1 << 24) + number * SPREAD % (1 << 32) / (1 << 24) * (1 << 24)
 }
 
 /// The number of eight or of four bytes, the lowest first. No key feeds others, which count as 0.

@@ -9,9 +9,9 @@ ghost use Rattle.fisca_inputs.specs.Outcomes.{Becomes};
 
 use crate::fault::{SituationFault, SituationKind};
 use crate::given::Value;
-use crate::hasher::KeyHasher;
+use crate::hasher::{KeyHasher, Keys};
 use crate::key::Key;
-use indexmap::{IndexMap, IndexSet};
+use indexmap::IndexMap;
 use std::alloc::{AllocError, Global};
 use std::hash::BuildHasherDefault;
 use std::marker::Model;
@@ -88,10 +88,10 @@ impl Inputs {
     }
 
     /// The variables and periods that some member has a value for, each once, by the key of the first member.
-    pub(crate) fn rows(&self, alloc: Global) -> Result<IndexSet<Key>, AllocError>
+    pub(crate) fn rows(&self, alloc: Global) -> Result<Keys, AllocError>
         ensures { IfOk result (λ rows. rows.keys ≡ rows_of self.now) }
     {
-        let mut rows = IndexSet::new(alloc);
+        let mut rows = Keys::with_hasher(alloc, BuildHasherDefault::new());
         for (key, _value) in self.entries.iter() {
             rows.insert(Key {
                 variable: key.variable,

@@ -16,6 +16,7 @@ mod sharing;
 
 pub use fault::{SituationFault, SituationKind};
 pub use given::{Given, GivenInputs, Value};
+pub use hasher::KeyHasher;
 pub use inputs::Inputs;
 pub use key::Key;
 pub use law::{defaults_stand_beside, shares_add_up};

@@ -17,7 +17,7 @@ use Rattle.fisca_locals.specs.declared.local.Local.{Local}
 abbrev pub held : Held → things.Thing
 held (variant.Value t l i) = things.value (record { value_type = t; level = l; node = nodes.local i })
 held (variant.Period ms) = things.period ms.items
-held (variant.Nodes c) = things.nodes (chosen c)
+held (variant.Nodes c) = things.nodes (chosen c.value)
 held (variant.Scale n ms) = things.scale n ms.items
 
 -- what a local stands for, beside what those with values work out

@@ -42,7 +42,7 @@ impl Held {
                 node: Node::Local(*place),
             })),
             Held::Period(moves) => Ok(Thing::Period(copy_moves(alloc, moves.as_slice())?)),
-            Held::Nodes(chosen) => Ok(Thing::Nodes(copy_chosen(alloc, chosen)?)),
+            Held::Nodes(chosen) => Ok(Thing::Nodes(Box::new(alloc, copy_chosen(alloc, chosen)?)?)),
             Held::Scale(place, moves) => {
                 Ok(Thing::Scale(*place, copy_moves(alloc, moves.as_slice())?))
             }

@@ -17,7 +17,7 @@ pub enum Held {
     /// A period, by the moves to it.
     Period(Vec<Move>),
     /// Parameters.
-    Nodes(Chosen),
+    Nodes(Box<Chosen>),
     /// A scale at the start of a period.
     Scale(NodeId, Vec<Move>),
 }

@@ -1,6 +1,6 @@
 //! The members of one entity.
 
-ghost use Rattle.std.specs.Prelude.{◌≡◌, ◌<◌, ◌≤◌, [], ◌∷◌, ◌++◌, length, slice_get, option_map, OnOk};
+ghost use Rattle.std.specs.Prelude.{◌≡◌, ◌<◌, ◌≤◌, [], ◌∷◌, ◌++◌, length, slice_get, option_map, IfOk, OnOk};
 
 use crate::home::Homes;
 use std::alloc::{AllocError, Global};
@@ -30,6 +30,15 @@ impl MemberNames {
         MemberNames {
             items: Vec::new(alloc),
         }
+    }
+
+    /// No names, with room for so many.
+    pub(crate) fn with_capacity(alloc: Global, capacity: usize) -> Result<MemberNames, AllocError>
+        ensures { IfOk result (λ n. n ≡ []) }
+    {
+        Ok(MemberNames {
+            items: Vec::with_capacity(alloc, capacity)?,
+        })
     }
 
     /// One name more.

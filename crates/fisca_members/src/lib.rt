@@ -3,6 +3,7 @@
 
 mod entity_members;
 mod fault;
+mod few;
 mod groups;
 mod holders;
 mod home;
@@ -25,4 +26,4 @@ pub use person::{Person, Persons};
 pub use role_table::RoleTable;
 pub use section::{Input, Named, Section};
 pub use sections::input_of;
-pub use titles::{Titles, titles_of};
+pub use titles::{Plurals, Singulars, Titles, titles_of};

@@ -122,7 +122,7 @@ impl Members {
     pub fn counts(&self, alloc: Global) -> Result<Vec<u32>, AllocError>
         ensures { IfOk result (λ c. c.items ≡ lookup.counts_of self.now) }
     {
-        let mut counts = Vec::new(alloc);
+        let mut counts = Vec::with_capacity(alloc, self.items.len())?;
         for members in self.items.as_slice() {
             counts
                 .push(members.names.len() as u32)
@@ -136,7 +136,7 @@ impl Members {
 fn names_of(alloc: Global, persons: &Persons<'_>) -> Result<MemberNames, AllocError>
     ensures { IfOk result (λ n. n ≡ all_names persons.now) }
 {
-    let mut names = MemberNames::new(alloc);
+    let mut names = MemberNames::with_capacity(alloc, persons.len())?;
     for person in persons.as_slice() {
         names.push(alloc, person.name.as_bytes())?;
     }
@@ -171,7 +171,7 @@ fn all_none_yet(
 ) -> Result<Draft, AllocError>
     ensures { IfOk result (λ m. m ≡ map (spec.none_yet persons.now) (known entities.now)) }
 {
-    let mut items = Vec::new(alloc);
+    let mut items = Vec::with_capacity(alloc, entities.len())?;
     for entity in entities {
         let members = none_yet(alloc, persons, entity)?;
         items.push(members).map_err(AllocError::from)?;

@@ -1,8 +1,9 @@
 //! Persons.
 
-ghost use Rattle.std.specs.Prelude.{◌≡◌, ◌<◌, ◌≤◌, [], ◌∷◌, ◌++◌, length, IfOk};
+ghost use Rattle.std.specs.Prelude.{◌≡◌, ◌<◌, ◌≤◌, [], ◌∷◌, ◌++◌, length, IfOk, IfSome};
 ghost use Rattle.fisca_members.specs.Persons as spec;
 
+use crate::few::FEW;
 use fisca_tables::{Names, Text};
 use std::alloc::{AllocError, Global};
 use std::marker::Model;
@@ -16,15 +17,15 @@ pub struct Person<'t> {
     pub line: usize,
 }
 
-/// Persons in order, at most 1,000 of them, seen as a list. Each is found by its name.
+/// Persons in order, at most 1,000 of them, seen as a list. Each is found by its name: a few are looked through, more found by a table.
 #[derive(Drop)]
 pub struct Persons<'t> {
     items: Vec<Person<'t>>,
-    names: Names<'t>,
+    names: Option<Names<'t>>,
 }
 
 impl<'t> Model for Persons<'t> {
-    ghost use Rattle.std.specs.Prelude.{◌≡◌, ◌≤◌, List, length};
+    ghost use Rattle.std.specs.Prelude.{◌≡◌, ◌≤◌, List, length, IfSome};
     ghost use Rattle.fisca_members.specs.declared.person.Person.{Person};
     ghost use Rattle.fisca_members.specs.Persons.{names_of};
 
@@ -32,7 +33,47 @@ impl<'t> Model for Persons<'t> {
 
     ghost view = { λ p. p.items.items };
 
-    ghost invariant = { λ p. (p.names ≡ names_of p.items.items) × (length p.items.items ≤ 1000) };
+    ghost invariant = { λ p. IfSome p.names (λ n. n ≡ names_of p.items.items) × (length p.items.items ≤ 1000) };
+}
+
+/// The names of persons.
+fn names_of<'t>(alloc: Global, persons: &[Person<'t>]) -> Result<Names<'t>, AllocError>
+    ensures { IfOk result (λ n. n ≡ spec.names_of persons.now) }
+{
+    let mut names = Names::new(alloc);
+    for person in persons {
+        names = names.with(alloc, person.name.copied(alloc)?)?;
+    }
+    Ok(names)
+}
+
+/// The table of persons, the last of whom it has not yet; none of a few.
+fn table_of<'t>(
+    alloc: Global,
+    names: Option<Names<'t>>,
+    name: &'t [u8],
+    persons: &[Person<'t>],
+) -> Result<Option<Names<'t>>, AllocError>
+    requires { IfSome names (λ n. n ++ name.now ∷ [] ≡ spec.names_of persons.now) }
+    ensures { IfOk result (λ o. IfSome o (λ n. n ≡ spec.names_of persons.now)) }
+{
+    match names {
+        Some(names) => Ok(Some(names.with(alloc, Text::borrowed(name))?)),
+        None if persons.len() > FEW => Ok(Some(names_of(alloc, persons)?)),
+        None => Ok(None),
+    }
+}
+
+/// The place of the first person of this name.
+fn place_among(persons: &[Person<'_>], name: &[u8]) -> Option<usize>
+    ensures { result ≡ spec.person_named persons.now name.now }
+{
+    for (place, person) in persons.iter().enumerate() {
+        if person.name.as_bytes() == name {
+            return Some(place);
+        }
+    }
+    None
 }
 
 impl<'t> Persons<'t> {
@@ -42,7 +83,7 @@ impl<'t> Persons<'t> {
     {
         Persons {
             items: Vec::new(alloc),
-            names: Names::new(alloc),
+            names: None,
         }
     }
 
@@ -57,12 +98,12 @@ impl<'t> Persons<'t> {
         ensures { IfOk result (λ p. p ≡ self.entry ++ spec.person_at name.now line ∷ []) }
     {
         let mut items = self.items;
-        let names = self.names.with(alloc, Text::borrowed(name))?;
         let person = Person {
             name: Text::borrowed(name),
             line,
         };
         items.push(person).map_err(AllocError::from)?;
+        let names = table_of(alloc, self.names, name, items.as_slice())?;
         Ok(Persons { items, names })
     }
 
@@ -86,6 +127,9 @@ impl<'t> Persons<'t> {
     pub fn of_name(&self, name: &[u8]) -> Option<usize>
         ensures { result ≡ spec.person_named self.now name.now }
     {
-        self.names.place_of(name)
+        match &self.names {
+            Some(names) => names.place_of(name),
+            None => place_among(self.items.as_slice(), name),
+        }
     }
 }

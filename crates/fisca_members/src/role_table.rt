@@ -4,20 +4,22 @@ ghost use Rattle.std.specs.Prelude.{◌≡◌, ◌<◌, map, length, option_map,
 ghost use Rattle.fisca_tables.specs.KnownRoles.{role as known_role, roles as known_roles};
 ghost use Rattle.fisca_members.specs.Groups as spec;
 
+use crate::few::FEW;
 use fisca_tables::{Names, Role, Text};
 use fisca_typing::RolePlace;
 use std::alloc::{AllocError, Global};
 use std::marker::Model;
 
-/// The roles of a group, seen as a list. Each is found by its plural, or by its key if it has none.
+/// The roles of a group, seen as a list. Each is found by its plural, or by its key if it has none: a few are looked through, more found
+/// by a table.
 #[derive(Drop)]
 pub struct RoleTable<'e, 'r> {
     items: &'e [Role<'r>],
-    names: Names<'e>,
+    names: Option<Names<'e>>,
 }
 
 impl<'e, 'r> Model for RoleTable<'e, 'r> {
-    ghost use Rattle.std.specs.Prelude.{◌≡◌, List};
+    ghost use Rattle.std.specs.Prelude.{◌≡◌, List, IfSome};
     ghost use Rattle.fisca_typing.specs.Tables.{Role};
     ghost use Rattle.fisca_tables.specs.KnownRoles.{roles};
     ghost use Rattle.fisca_members.specs.Groups.{role_titles};
@@ -26,7 +28,7 @@ impl<'e, 'r> Model for RoleTable<'e, 'r> {
 
     ghost view = { λ t. roles t.items.now };
 
-    ghost invariant = { λ t. t.names ≡ role_titles (roles t.items.now) };
+    ghost invariant = { λ t. IfSome t.names (λ n. n ≡ role_titles (roles t.items.now)) };
 }
 
 /// The name that inputs give a role: its plural, or its key if it has none.
@@ -48,6 +50,18 @@ fn titles_of<'e>(alloc: Global, roles: &'e [Role<'_>]) -> Result<Names<'e>, Allo
         names = names.with(alloc, title(role))?;
     }
     Ok(names)
+}
+
+/// The place of the first role of this name.
+fn place_among(roles: &[Role<'_>], name: &[u8]) -> Option<usize>
+    ensures { result ≡ spec.role_named (known_roles roles.now) name.now }
+{
+    for (place, role) in roles.iter().enumerate() {
+        if title(role).as_bytes() == name {
+            return Some(place);
+        }
+    }
+    None
 }
 
 /// The place of a role that is taken by a person behind so many others: persons of a role with subroles take these in order.
@@ -83,7 +97,11 @@ impl<'e, 'r> RoleTable<'e, 'r> {
     pub fn new(alloc: Global, roles: &'e [Role<'r>]) -> Result<RoleTable<'e, 'r>, AllocError>
         ensures { IfOk result (λ t. t ≡ known_roles roles.now) }
     {
-        let names = titles_of(alloc, roles)?;
+        let names = if roles.len() > FEW {
+            Some(titles_of(alloc, roles)?)
+        } else {
+            None
+        };
         Ok(RoleTable {
             items: roles,
             names,
@@ -94,7 +112,10 @@ impl<'e, 'r> RoleTable<'e, 'r> {
     pub fn of_name(&self, name: &[u8]) -> Option<usize>
         ensures { result ≡ spec.role_named self.now name.now }
     {
-        self.names.place_of(name)
+        match &self.names {
+            Some(names) => names.place_of(name),
+            None => place_among(self.items, name),
+        }
     }
 
     /// The role at a place.

@@ -69,7 +69,7 @@ fn empty_rows(alloc: Global, count: usize) -> Result<Vec<PersonList>, AllocError
     ensures count { IfOk result (λ r. length r.items ≡ count) }
     ensures empty { IfOk result (λ r. (g : ℕ) → get_or r.items g [] ≡ []) }
 {
-    let mut rows = Vec::new(alloc);
+    let mut rows = Vec::with_capacity(alloc, count)?;
     for _ in 0..count {
         rows.push(PersonList::new(alloc)).map_err(AllocError::from)?;
     }
@@ -167,7 +167,7 @@ impl Rosters {
         ensures { IfOk result (λ r. AreRosters members.now r) }
     {
         let mut rosters = Rosters {
-            items: Vec::new(alloc),
+            items: Vec::with_capacity(alloc, members.len())?,
         };
         for entity in members {
             let roster = Roster::of(alloc, &entity.homes)?;

@@ -14,7 +14,7 @@ use fisca_yaml::{Entry, Tree};
 use std::alloc::Global;
 
 /// Whether a key names an entity.
-fn names_some(titles: &Titles<'_>, entries: &[Entry<'_>]) -> bool
+fn names_some(titles: &Titles<'_, '_>, entries: &[Entry<'_>]) -> bool
     ensures { result ≡ spec.names_some titles.now (entries_view entries.now) }
 {
     for entry in entries {
@@ -39,7 +39,7 @@ fn is_given(sections: &[Section<'_, '_>], entity: usize) -> bool
 
 /// The section that an entry is, behind others: each entity is named once.
 fn section_of<'t, 'a>(
-    titles: &Titles<'_>,
+    titles: &Titles<'_, '_>,
     sections: &[Section<'t, 'a>],
     entry: &'t Entry<'a>,
 ) -> Result<Section<'t, 'a>, MembersFault>
@@ -63,7 +63,7 @@ fn section_of<'t, 'a>(
 /// The sections that the entries of an input are.
 fn sections_of<'t, 'a>(
     alloc: Global,
-    titles: &Titles<'_>,
+    titles: &Titles<'_, '_>,
     entries: &'t [Entry<'a>],
 ) -> Result<Vec<Section<'t, 'a>>, MembersFault>
     ensures { Tells (λ ss. map section ss.items) (spec.sections_from titles.now [] (entries_view entries.now)) result }
@@ -83,7 +83,7 @@ fn sections_of<'t, 'a>(
 /// no map.
 pub fn input_of<'t, 'a>(
     alloc: Global,
-    titles: &Titles<'_>,
+    titles: &Titles<'_, '_>,
     line: usize,
     tree: &'t Tree<'a>,
 ) -> Result<Input<'t, 'a>, MembersFault>

@@ -32,7 +32,7 @@ use std::alloc::Global;
 impl<'r, 't, R: Recall> Evaluator<'r, 't, R> {
     /// An evaluator of the keys of a situation, which was read under this rule set, with a memory that holds nothing. The variables that
     /// have a mark, by their places, are neutralised: they have no formulas. There is none past the last mark. The wheels of variables are
-    /// given by their places, as bits: those that may change inputs of the variable. Past the last there are none.
+    /// given by their places, as bits: those that may change inputs of the variable. Past the last there are none. This project's own rule.
     pub fn new(
         alloc: Global,
         rules: &'r RuleSet<'t>,
@@ -105,7 +105,7 @@ impl<'r, 't, R: Recall> Evaluator<'r, 't, R> {
     }
 
     /// A wheel turns: forgets what reads it. What is left is true also in each situation in which only inputs of the wheel's variables are
-    /// others. The counts stay.
+    /// others. The counts stay. The wheel is below 16. This project's own rule.
     pub fn turn_wheel(&mut self, wheel: u32)
         requires wheel { wheel < 16 }
         ensures dropped { (k : meaning.Key) → R.find self.new.store.recall k ≡ unless_moved wheel (R.find self.old.store.recall k) }

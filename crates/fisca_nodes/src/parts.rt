@@ -83,7 +83,7 @@ pub fn nodes_of(thing: Thing) -> Result<Chosen, Kind>
     ensures { Gives chosen (spec.nodes_of (thing_of thing)) result }
 {
     match thing {
-        Thing::Nodes(nodes) => Ok(nodes),
+        Thing::Nodes(nodes) => Ok(Box::into_inner(nodes)),
         _ => Err(Kind::BadType),
     }
 }

@@ -41,7 +41,7 @@ pub enum Thing {
     /// The formula's third argument.
     Reader,
     /// `parameters(period)`, and what stands below it.
-    Nodes(Chosen),
+    Nodes(Box<Chosen>),
     Scale(NodeId, Vec<Move>),
     /// `scale.calc`
     Calculation(NodeId, Vec<Move>),

@@ -13,16 +13,20 @@ ghost use Rattle.fisca_recall.specs.declared.known.Stamped as stamps;
 use crate::known::{Known, Stamped};
 use crate::recall::Recall;
 use crate::wheels::{has_wheel, is_fresh};
-use fisca_inputs::Key;
+use fisca_inputs::{Key, KeyHasher};
 use indexmap::IndexMap;
 use std::alloc::{AllocError, Global};
+use std::hash::BuildHasherDefault;
+
+/// What is kept under keys, found by the hash of keys that inputs have.
+type Entries = IndexMap<Key, Stamped, BuildHasherDefault<KeyHasher>>;
 
 /// What is remembered, found by the hashes of keys, with the times at which it was kept, and for each wheel the time at which it turned
 /// last. The clock moves on when a wheel turns, and from then on what was kept and reads the wheel counts for nothing. It is written over
 /// when its key is kept again.
 #[derive(Drop)]
 pub struct IndexRecall {
-    entries: IndexMap<Key, Stamped>,
+    entries: Entries,
     turned_at: [u64; 16],
     clock: u64,
     ghost kept: { (k : declared.Key) (s : stamps.Stamped) → lookup (same_key k) entries.entries ≡ Some s → s.kept_at ≤ clock },
@@ -36,7 +40,7 @@ impl IndexRecall {
         ensures { (k : meaning.Key) → found_fresh result.turned_at result.entries.entries k ≡ None }
     {
         IndexRecall {
-            entries: IndexMap::new(alloc),
+            entries: IndexMap::with_hasher(alloc, BuildHasherDefault::new()),
             turned_at: [0; 16],
             clock: 0,
         }
@@ -44,7 +48,7 @@ impl IndexRecall {
 }
 
 /// Puts this under the key.
-fn put(entries: &mut IndexMap<Key, Stamped>, key: Key, stamped: Stamped) -> Result<(), AllocError>
+fn put(entries: &mut Entries, key: Key, stamped: Stamped) -> Result<(), AllocError>
     ensures ok { OnOk result ((k : declared.Key) → lookup (same_key k) entries.new.entries ≡ (if same_key k key then Some stamped else lookup (same_key k) entries.old.entries)) }
     ensures err { OnErr result (entries.new.entries ≡ entries.old.entries) }
 {
@@ -54,7 +58,7 @@ fn put(entries: &mut IndexMap<Key, Stamped>, key: Key, stamped: Stamped) -> Resu
 }
 
 /// Takes out what reads the wheel.
-fn take_out(entries: &mut IndexMap<Key, Stamped>, wheel: u32)
+fn take_out(entries: &mut Entries, wheel: u32)
     requires { wheel < 16 }
     ensures filtered { entries.new.entries ≡ filter (λ e. not (reads_wheel e.1.known.reads wheel)) entries.old.entries }
     ensures left { (k : declared.Key) → lookup (same_key k) entries.new.entries ≡ unless (λ s. reads_wheel s.known.reads wheel) (lookup (same_key k) entries.old.entries) }

@@ -9,7 +9,7 @@ ghost use Rattle.fisca_run.specs.Remembered.{HasEnded};
 ghost use Rattle.fisca_run.specs.Runs.{positions, run_row};
 ghost use Rattle.fisca_run_file.specs.Views.{run_file as run_file_view};
 
-use crate::kept_rows::KeptRows;
+use crate::kept_rows::{KeptRows, Room};
 use fisca_eval::EvalFault;
 use fisca_lines::{RowSink, RunEnd, RunFault, write_lines};
 use fisca_memo::Evaluator;
@@ -22,7 +22,7 @@ use std::alloc::Global;
 /// Writes the lines of rows whose values are kept. The rows hold the evaluator all along, so that what it is then is known where they were made.
 fn write_kept<R: Recall, S: RowSink>(
     alloc: Global,
-    rows: &mut KeptRows<'_, '_, '_, R>,
+    rows: &mut KeptRows<'_, '_, '_, '_, R>,
     from: u64,
     limit: Option<u64>,
     sink: &mut S,
@@ -64,6 +64,7 @@ pub fn run_with<'a, 't, R: Recall, S: RowSink>(
     ensures ended { HasEnded R.find rules.now (run_file_view run.now) from evaluator.old evaluator.new result }
     ensures ready { IsKept rules.now (run_file_view run.now) slots.now None (marks_in evaluator.new) (simulation_of evaluator.new) (R.find evaluator.new.store.recall) evaluator.new.store.counts.free }
 {
+    let mut room = Room::new(alloc);
     let mut rows = KeptRows {
         alloc,
         rules,
@@ -71,6 +72,7 @@ pub fn run_with<'a, 't, R: Recall, S: RowSink>(
         slots,
         evaluator,
         here: None,
+        room: &mut room,
     };
     write_kept(alloc, &mut rows, from, limit, sink)
 }

@@ -14,8 +14,10 @@ ghost use Rattle.fisca_run_file.specs.Views.{run_file as run_file_view};
 use crate::row::{Asked, write_row};
 use crate::turning::turn_slots;
 use fisca_eval::EvalFault;
+use fisca_inputs::Given;
 use fisca_lines::{Groups, RowFault, Rows, Selection};
 use fisca_memo::Evaluator;
+use fisca_num::Fraction;
 use fisca_recall::Recall;
 use fisca_rules::RuleSet;
 use fisca_run_file::RunFile;
@@ -25,7 +27,7 @@ use std::alloc::Global;
 /// A run file under a rule set, and an evaluator whose situation is that of the position that was worked out last or, before there is one, that with
 /// which the run begins.
 #[derive(Drop)]
-pub(crate) struct KeptRows<'a, 'r, 't, R> {
+pub(crate) struct KeptRows<'a, 'b, 'r, 't, R> {
     /// What grows.
     pub(crate) alloc: Global,
     /// The rule set.
@@ -38,9 +40,30 @@ pub(crate) struct KeptRows<'a, 'r, 't, R> {
     pub(crate) evaluator: &'a mut Evaluator<'r, 't, R>,
     /// The position that was worked out last.
     pub(crate) here: Option<u64>,
+    /// What is filled at each position.
+    pub(crate) room: &'b mut Room,
 }
 
-impl<'a, 'r, 't, R: Recall> Rows for KeptRows<'a, 'r, 't, R> {
+/// Room that is taken again at each position.
+#[derive(Drop)]
+pub(crate) struct Room {
+    /// For the values of the axes.
+    steps: Vec<Fraction>,
+    /// For the inputs that the axes move.
+    moved: Vec<Given>,
+}
+
+impl Room {
+    /// None as yet.
+    pub(crate) fn new(alloc: Global) -> Room {
+        Room {
+            steps: Vec::new(alloc),
+            moved: Vec::new(alloc),
+        }
+    }
+}
+
+impl<'a, 'b, 'r, 't, R: Recall> Rows for KeptRows<'a, 'b, 'r, 't, R> {
     ghost use Rattle.std.specs.Prelude.{◌≡◌};
     ghost use Rattle.fisca_grid.specs.Grid.{counts_of};
     ghost use Rattle.fisca_memo.specs.Evaluators.{marks_in, simulation_of};
@@ -76,7 +99,7 @@ impl<'a, 'r, 't, R: Recall> Rows for KeptRows<'a, 'r, 't, R> {
         self.here = Some(position);
         let (alloc, rules, run, slots) = (self.alloc, self.rules, self.run, self.slots);
         turn_slots(self.evaluator, &run.axes, slots, position, turned);
-        write_row_at(alloc, rules, run, self.evaluator, position, line)
+        write_row_at(alloc, rules, run, self.evaluator, position, self.room, line)
     }
 }
 
@@ -87,6 +110,7 @@ fn write_row_at<R: Recall>(
     run: &RunFile,
     evaluator: &mut Evaluator<'_, '_, R>,
     position: u64,
+    room: &mut Room,
     line: &mut String,
 ) -> Result<Selection, RowFault<EvalFault>>
     requires accepted { IsRunFile rules.now (run_file_view run.now) }
@@ -98,11 +122,12 @@ fn write_row_at<R: Recall>(
     ensures asked { HaveAsked (HasWorked R.find) (HasRefused R.find) (keys_asked (told_in (simulation_of evaluator.old)) (run_file_view run.now).conditions (run_file_view run.now).columns) evaluator.old evaluator.new result }
     ensures memory { IsMemoryOf (marks_in evaluator.new) (simulation_of evaluator.new) (R.find evaluator.new.store.recall) evaluator.new.store.counts.free }
 {
-    match run.moved_at(alloc, &rules.tables, position) {
-        Ok(moved) => {
+    let (steps, moved) = (&mut room.steps, &mut room.moved);
+    match run.moved_into(&rules.tables, position, steps, moved) {
+        Ok(()) => {
             let asked = Asked {
                 position,
-                moved: moved.as_slice(),
+                moved: room.moved.as_slice(),
                 conditions: run.conditions.as_slice(),
                 columns: run.columns.as_slice(),
             };

@@ -1,6 +1,7 @@
 //! The rows of run files: what `fisca run` writes.
 #![tactic(auto)]
 
+mod beginning;
 mod conditions;
 mod kept;
 mod kept_rows;
@@ -12,6 +13,7 @@ mod run;
 mod run_start;
 mod turning;
 
+pub use beginning::evaluator_of;
 pub use conditions::{all_met, meets};
 pub use kept::run_with;
 pub use law::positions_have_situations;

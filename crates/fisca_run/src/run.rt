@@ -15,12 +15,12 @@ ghost use Rattle.fisca_slots.specs.Slots.{slots_of};
 ghost use Rattle.fisca_slots.specs.Views.{slot_list};
 ghost use Rattle.fisca_yaml.specs.Views.{node};
 
+use crate::beginning::evaluator_of;
 use crate::kept::run_with;
 use crate::rows::RunRows;
 use crate::run_start::{RunStart, start};
 use fisca_eval::EvalFault;
 use fisca_lines::{RowSink, RunEnd, RunFault, write_lines};
-use fisca_memo::Evaluator;
 use fisca_recall::{Counts, IndexRecall};
 use fisca_rules::RuleSet;
 use fisca_run_file::RunFile;
@@ -67,9 +67,8 @@ fn run_from<S: RowSink>(
         wheels,
     } = begun;
     let recall = IndexRecall::new(alloc);
-    let (neutral, wheels) = (run.neutral.as_slice(), wheels.as_slice());
-    let mut evaluator = Evaluator::new(alloc, rules, neutral, wheels, situation, recall);
-    let slots = slots.as_slice();
+    let (slots, wheels) = (slots.as_slice(), wheels.as_slice());
+    let mut evaluator = evaluator_of(alloc, rules, run, slots, wheels, situation, recall);
     let end = run_with(alloc, rules, &mut evaluator, slots, run, from, limit, sink)?;
     Ok((end, evaluator.counts()))
 }

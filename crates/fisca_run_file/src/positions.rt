@@ -73,36 +73,36 @@ fn push_number(items: &mut Vec<Fraction>, number: Fraction) -> Result<(), AllocE
     items.push(number).map_err(AllocError::from)
 }
 
-/// The values of the axes of a grid at a position.
-fn steps_at(alloc: Global, axes: &Axes, position: u64) -> Result<Vec<Fraction>, AllocError>
+/// Puts the values of the axes of a grid at a position in the place of what was there.
+fn put_steps(axes: &Axes, position: u64, steps: &mut Vec<Fraction>) -> Result<(), AllocError>
     requires { position < size_of axes.now }
-    ensures { IfOk result (λ v. values_of (axes_at axes.now position) ≡ Some v.items) }
+    ensures { OnOk result (values_of (axes_at axes.now position) ≡ Some steps.new.items) }
 {
     let count = axes.count();
-    let mut steps = Vec::with_capacity(alloc, count)?;
+    steps.clear();
     for axis in 0..count {
-        push_number(&mut steps, axes.step(axis, position))?;
+        push_number(steps, axes.step(axis, position))?;
     }
-    Ok(steps)
+    Ok(())
 }
 
-/// Inputs, each with the value of its axis.
-fn with_values(
-    alloc: Global,
+/// Puts inputs, each with the value of its axis, in the place of what was there.
+fn put_values(
     tables: &Tables<'_>,
     moved: &[Given],
     values: &[Fraction],
-) -> Result<Vec<Given>, AllocError>
-    ensures { IfOk result (λ v. v.items ≡ spec.with_values tables.now moved.now values.now) }
+    found: &mut Vec<Given>,
+) -> Result<(), AllocError>
+    ensures { OnOk result (found.new.items ≡ spec.with_values tables.now moved.now values.now) }
 {
-    let mut found = Vec::with_capacity(alloc, moved.len())?;
+    found.clear();
     for i in 0..moved.len() {
         if i >= values.len() {
-            return Ok(found);
+            return Ok(());
         }
-        push_input(&mut found, given_with(tables, &moved[i], values[i]))?;
+        push_input(found, given_with(tables, &moved[i], values[i]))?;
     }
-    Ok(found)
+    Ok(())
 }
 
 impl RunFile {
@@ -117,8 +117,26 @@ impl RunFile {
         requires { position < size_of (run_file_view self.now).groups }
         ensures { IfOk result (λ v. spec.moved_at tables.now (run_file_view self.now) position ≡ Some v.items) }
     {
-        let values = steps_at(alloc, &self.axes, position)?;
-        with_values(alloc, tables, self.moved.as_slice(), values.as_slice())
+        let mut steps = Vec::new(alloc);
+        let mut found = Vec::new(alloc);
+        self.moved_into(tables, position, &mut steps, &mut found)?;
+        Ok(found)
+    }
+
+    /// Puts the inputs that `moved_at` answers in the place of those that were found before, and the values of the axes in the place of earlier
+    /// ones: it takes memory only where these lists have no room for as many. `AllocError` only where memory was refused.
+    pub fn moved_into(
+        &self,
+        tables: &Tables<'_>,
+        position: u64,
+        steps: &mut Vec<Fraction>,
+        found: &mut Vec<Given>,
+    ) -> Result<(), AllocError>
+        requires { position < size_of (run_file_view self.now).groups }
+        ensures { OnOk result (spec.moved_at tables.now (run_file_view self.now) position ≡ Some found.new.items) }
+    {
+        put_steps(&self.axes, position, steps)?;
+        put_values(tables, self.moved.as_slice(), steps.as_slice(), found)
     }
 
     /// The inputs by keys, where these are put in or replace those of just their variables, members and periods: shared anew, and without

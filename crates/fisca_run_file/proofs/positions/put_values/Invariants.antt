@@ -1,6 +1,6 @@
 use Rattle.std.proofs.Common.{◌≡◌, ◌++◌, drop}
 use Rattle.fisca_run_file.specs.Positions.{with_values}
-use Rattle.fisca_run_file.proofs.positions.with_values.Given as goal
+use Rattle.fisca_run_file.proofs.positions.put_values.Given as goal
 
 -- those so far, and those that are left
 abbrev pub invariant-loop-i : goal.invariant-loop-i

@@ -1,6 +1,6 @@
 use Rattle.std.proofs.Common.{◌≤◌, ◌++◌, ◌∙◌, length, sym, ap, arith, append-nil}
 use Rattle.fisca_run_file.proofs.Valued.{values_out}
-use Rattle.fisca_run_file.proofs.positions.with_values.Goals as goal
+use Rattle.fisca_run_file.proofs.positions.put_values.Goals as goal
 
 pub returns-then-i-values : goal.returns-then-i-values
 returns-then-i-values c =

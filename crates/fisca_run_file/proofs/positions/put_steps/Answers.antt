@@ -3,7 +3,7 @@ use Rattle.fisca_grid.specs.Grid.{axes_at}
 use Rattle.fisca_grid.specs.AxesRow.{values_of}
 use Rattle.fisca_grid.proofs.Groups.{length-axes_at}
 use Rattle.fisca_grid.proofs.Values.{values_more}
-use Rattle.fisca_run_file.proofs.positions.steps_at.Goals as goal
+use Rattle.fisca_run_file.proofs.positions.put_steps.Goals as goal
 
 pub loop-axis-preserved : goal.loop-axis-preserved
 loop-axis-preserved c =

@@ -42,15 +42,15 @@ later_same (group ∷ groups) turned here position few same =
 -- the end of a line stays
 pub rest_stays : (groups : List (List AxisSpec)) (here : Option ℕ) (turned position : ℕ) (text : List ℕ) → turned ≤ 1 → IsNear (counts_of groups) here position turned → option_and_then (rest_of groups) here ≡ Some text → rest_of groups position ≡ Some text
 rest_stays groups None turned position text few near known = absurd (cc)
-rest_stays groups (Some here) turned position text few near known = ap (λ axes. option_map (λ values. cells values ++ line_feed ∷ []) (values_of axes)) (sym (later_same groups turned here position few near)) ∙ known
+rest_stays groups (Some here) turned position text few near known = ap (λ axes. option_map cells (values_of axes)) (sym (later_same groups turned here position few near)) ∙ known
 
-some_rest : (o : Option (List Number)) (text : List ℕ) → option_map (λ values. cells values ++ line_feed ∷ []) o ≡ Some text → (values : List Number) × (o ≡ Some values) × (text ≡ cells values ++ line_feed ∷ [])
+some_rest : (o : Option (List Number)) (text : List ℕ) → option_map cells o ≡ Some text → (values : List Number) × (o ≡ Some values) × (text ≡ cells values)
 some_rest None text is = absurd (cc)
 some_rest (Some values) text is = (values, refl, cc)
 
 -- the values behind the end of a line
 pub rest_values : (groups : List (List AxisSpec)) (position : ℕ) (text : List ℕ) → rest_of groups position ≡ Some text
-    → (values : List Number) × (values_of (drop (leading_in groups) (axes_at groups position)) ≡ Some values) × (text ≡ cells values ++ line_feed ∷ [])
+    → (values : List Number) × (values_of (drop (leading_in groups) (axes_at groups position)) ≡ Some values) × (text ≡ cells values)
 rest_values groups position text is = some_rest _ text is
 
 -- the values of some axes and of the others
@@ -73,12 +73,12 @@ whole_values groups position leading us vs is e f =
     let first : values_of (take (leading_in groups) axes) ≡ Some us = ap (λ n. values_of (take n axes)) (sym all) ∙ e in
     ap values_of (sym (take-append-drop (leading_in groups) axes)) ∙ values_join (take (leading_in groups) axes) (drop (leading_in groups) axes) us vs first f
 
-pub whole_line : (old number text : List ℕ) (us vs : List Number) → text ≡ cells vs ++ line_feed ∷ [] → ((old ++ number) ++ cells us) ++ text ≡ old ++ (number ++ (cells (us ++ vs) ++ line_feed ∷ []))
+pub whole_line : (old number text : List ℕ) (us vs : List Number) → text ≡ cells vs → (((old ++ number) ++ cells us) ++ text) ++ line_feed ∷ [] ≡ old ++ (number ++ (cells (us ++ vs) ++ line_feed ∷ []))
 whole_line old number text us vs is =
-    ap (λ text. ((old ++ number) ++ cells us) ++ text) is
-    ∙ append_assoc (old ++ number) (cells us) (cells vs ++ line_feed ∷ [])
-    ∙ append_assoc old number (cells us ++ (cells vs ++ line_feed ∷ []))
-    ∙ ap (λ cs. old ++ (number ++ cs)) (sym (append_assoc (cells us) (cells vs) (line_feed ∷ [])) ∙ ap (λ cs. cs ++ line_feed ∷ []) (sym (cells_join us vs)))
+    ap (λ text. (((old ++ number) ++ cells us) ++ text) ++ line_feed ∷ []) is
+    ∙ ap (λ bytes. bytes ++ line_feed ∷ []) (append_assoc (old ++ number) (cells us) (cells vs) ∙ ap (λ cs. (old ++ number) ++ cs) (sym (cells_join us vs)))
+    ∙ append_assoc (old ++ number) (cells (us ++ vs)) (line_feed ∷ [])
+    ∙ append_assoc old number (cells (us ++ vs) ++ line_feed ∷ [])
 
 -- the axes behind the first group, up to the last
 pub later_values : (groups : List (List AxisSpec)) (position leading count : ℕ) (vs : List Number) → leading ≡ leading_in groups → count ≡ axes_in groups → values_of (take (count - leading) (drop leading (axes_at groups position))) ≡ Some vs

@@ -53,9 +53,9 @@ row_of keep position (Some values) = if is_kept keep values then Line (line_of p
 abbrev pub axes_row : List (List AxisSpec) → Option Filter → ℕ → Row Infallible
 axes_row groups keep position = row_of keep position (values_of (axes_at groups position))
 
--- the end of the line of a position: the cells of the axes behind the first group, and a line feed
+-- the end of the line of a position, but for its line feed: the cells of the axes behind the first group
 abbrev pub rest_of : List (List AxisSpec) → ℕ → Option (List ℕ)
-rest_of groups position = option_map (λ values. cells values ++ line_feed ∷ []) (values_of (drop (leading_in groups) (axes_at groups position)))
+rest_of groups position = option_map cells (values_of (drop (leading_in groups) (axes_at groups position)))
 
 -- a condition speaks of an axis of the grid, if there is one
 abbrev pub IsInside : Option Filter → List (List AxisSpec) → Type 0

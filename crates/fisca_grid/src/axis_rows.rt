@@ -21,7 +21,7 @@ pub struct AxisRows {
     pub keep: Option<Filter>,
     /// The position that was worked out last.
     here: Option<u64>,
-    /// Where it is known, the cells of the axes behind the first group at that position, and a line feed.
+    /// Where it is known, the cells of the axes behind the first group at that position.
     rest: String,
     is_known: bool,
     ghost inside: { IsInside keep axes },
@@ -114,10 +114,23 @@ impl AxisRows {
         self.learn(position)?;
         line.push_str(itoa::Buffer::new().format(position))?;
         write_values(&self.axes, 0, self.axes.leading(), position, line)?;
+        self.write_rest(line)?;
+        line.push('\n')
+    }
+
+    /// Appends the end of the line, which is nothing where the grid has one group.
+    #[inline]
+    fn write_rest(&self, line: &mut String) -> Result<(), AllocError>
+        ensures { OnOk result (string_bytes line.new ≡ string_bytes line.old ++ string_bytes self.now.rest) }
+    {
+        if self.rest.is_empty() {
+            return Ok(());
+        }
         line.push_str(self.rest.as_str())
     }
 
     /// Remembers the end of the line of a position, if it is not known.
+    #[inline]
     fn learn(&mut self, position: u64) -> Result<(), AllocError>
         requires position { position < size_of self.old.axes }
         requires here { self.old.here ≡ Some position }
@@ -132,13 +145,13 @@ impl AxisRows {
         self.rest.clear();
         let (leading, count) = (self.axes.leading(), self.axes.count());
         write_values(&self.axes, leading, count, position, &mut self.rest)?;
-        self.rest.push('\n')?;
         self.is_known = true;
         Ok(())
     }
 }
 
 /// Appends a tab and the value for each of these axes.
+#[inline]
 fn write_values(
     axes: &Axes,
     from: usize,
@@ -158,6 +171,7 @@ fn write_values(
 }
 
 /// Appends a tab and a value.
+#[inline]
 fn write_value(value: Fraction, line: &mut String) -> Result<(), AllocError>
     ensures { OnOk result (string_bytes line.new ≡ string_bytes line.old ++ (tab ∷ text_of value)) }
 {

@@ -151,7 +151,7 @@ impl AxisRows {
 }
 
 /// Appends a tab and the value for each of these axes.
-#[inline]
+#[inline(always)]
 fn write_values(
     axes: &Axes,
     from: usize,

@@ -37,7 +37,7 @@ impl Fraction {
     }
 
     /// Appends the text of the number to `line`. On `Err` the line is as it was; with room for the text there is none.
-    #[inline]
+    #[inline(always)]
     pub fn write_text(self, line: &mut String) -> Result<(), AllocError>
         ensures ok { OnOk result (string_bytes line.new ≡ string_bytes line.old ++ text_of self) }
         ensures err { OnErr result (string_bytes line.new ≡ string_bytes line.old) }

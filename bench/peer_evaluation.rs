@@ -1,6 +1,7 @@
 // The peer of `fisca_bench evaluation`: the same keys worked out in plain Rust, by recursion over the same trees of formulas. Inputs stand in an index table
 // under the same hash as ours, and so does what is remembered, where values are; numbers are exact fractions, and at most a hundred keys are asked for below one
-// another. With FISCA_PEER=machine they are worked out by the same machine as ours, without memory.
+// another. With FISCA_PEER=machine they are worked out by the same machine as ours, which looks where there is a memory for each key whether it is
+// remembered, and whether it stands among those above it.
 //
 // rustc -O bench/peer_evaluation.rs; peer_evaluation [remembered] NAME SIZE COUNT
 #[allow(dead_code)]
@@ -489,33 +490,62 @@ mod machine {
             Kind::Enum => Ok(value),
         }
     }
-    fn below<'r>(w: &World<'r>, m: &mut Machine<'r>, keys: &mut Vec<Key>, key: &Key) -> Result<Value, Fault> {
+    /// What is remembered of a key that is asked for below others.
+    fn seek<R: Recall>(recall: &R, keys: &[Key], key: &Key) -> Result<Option<Known>, Fault> {
+        if let Some(known) = recall.look(key) {
+            if known.height as usize > MOST_KEYS - keys.len() {
+                return Err(Fault::TooDeep(*keys.first().unwrap_or(key)));
+            }
+            return Ok(Some(known));
+        }
+        if keys.contains(key) { Err(Fault::Cycle(*key)) } else { Ok(None) }
+    }
+    fn at_hand<R: Recall>(keys: &[Key], key: &Key, value: Value) -> Result<Known, Fault> {
+        if keys.len() < MOST_KEYS {
+            Ok(Known { value, height: 1, reads: 0 })
+        } else if R::REMEMBERS {
+            Err(Fault::TooDeep(keys[0]))
+        } else {
+            Err(too_long(keys, *key))
+        }
+    }
+    fn below<'r, R: Recall>(w: &World<'r>, recall: &mut R, m: &mut Machine<'r>, keys: &mut Vec<Key>, key: &Key) -> Result<Known, Fault> {
         let variable = match w.rules.variables.get(key.variable) {
             Some(v) if fits(v.unit, key.period) => v,
             _ => return Err(Fault::PeriodMismatch(*key)),
         };
+        if R::REMEMBERS && let Some(known) = seek(recall, keys, key)? {
+            return Ok(known);
+        }
         if let Some(value) = w.situation.inputs.get(key) {
-            return if keys.len() < MOST_KEYS { Ok(value) } else { Err(too_long(keys, *key)) };
+            return at_hand::<R>(keys, key, value);
         }
         match in_force(variable, key.period) {
-            Some(f) => by_formula(w, m, keys, variable, f, key),
-            None => Ok(variable.default),
+            Some(f) => by_formula(w, recall, m, keys, variable, f, key),
+            None => at_hand::<R>(keys, key, variable.default),
         }
     }
-    fn by_formula<'r>(w: &World<'r>, m: &mut Machine<'r>, keys: &mut Vec<Key>, v: &Variable, f: &'r Formula, key: &Key) -> Result<Value, Fault> {
+    fn by_formula<'r, R: Recall>(w: &World<'r>, recall: &mut R, m: &mut Machine<'r>, keys: &mut Vec<Key>, v: &Variable, f: &'r Formula, key: &Key) -> Result<Known, Fault> {
         if keys.len() >= MOST_KEYS {
-            return Err(too_long(keys, *key));
+            return Err(if R::REMEMBERS { Fault::TooDeep(keys[0]) } else { too_long(keys, *key) });
         }
         keys.push(*key);
-        let r = work_out(w, m, keys, v, f, key);
+        let r = work_out(w, recall, m, keys, v, f, key);
         keys.pop();
         r
     }
-    fn work_out<'r>(w: &World<'r>, m: &mut Machine<'r>, keys: &mut Vec<Key>, v: &Variable, f: &'r Formula, key: &Key) -> Result<Value, Fault> {
+    fn work_out<'r, R: Recall>(w: &World<'r>, recall: &mut R, m: &mut Machine<'r>, keys: &mut Vec<Key>, v: &Variable, f: &'r Formula, key: &Key) -> Result<Known, Fault> {
         let mut control = m.begin(&f.locals, &f.result, v.kind, Frame { member: key.member, period: key.period });
+        let (mut tallest, mut reads) = (0, 0);
         loop {
             match m.run(w, control) {
-                Step::Done(v) => return Ok(v),
+                Step::Done(value) => {
+                    let known = Known { value, height: tallest + 1, reads };
+                    if R::REMEMBERS {
+                        recall.keep(*key, known);
+                    }
+                    return Ok(known);
+                }
                 Step::Failed(f) => {
                     return Err(match f {
                         Own::PeriodMismatch(k) => Fault::PeriodMismatch(k),
@@ -528,24 +558,27 @@ mod machine {
                     });
                 }
                 Step::Needs(asked) => {
-                    let v = below(w, m, keys, &asked)?;
-                    m.value = v;
+                    let known = below(w, recall, m, keys, &asked)?;
+                    tallest = tallest.max(known.height);
+                    reads |= known.reads;
+                    m.value = known.value;
                     control = Control::Give;
                 }
             }
         }
     }
-    pub struct Evaluator<'r> {
+    pub struct Evaluator<'r, R> {
         pub rules: &'r Rules,
         pub situation: &'r Situation<Table<Value>>,
+        recall: R,
         keys: Vec<Key>,
         machine: Machine<'r>,
     }
-    impl<'r> Evaluator<'r> {
-        pub fn new(rules: &'r Rules, situation: &'r Situation<Table<Value>>) -> Evaluator<'r> {
+    impl<'r, R: Recall> Evaluator<'r, R> {
+        pub fn new(rules: &'r Rules, situation: &'r Situation<Table<Value>>, recall: R) -> Evaluator<'r, R> {
             let nobody = Frame { member: 0, period: Period::ETERNITY };
             let machine = Machine { locals: &[], frame: nobody, value: Value::Bool(false), stack: Vec::new(), kept: Vec::new() };
-            Evaluator { rules, situation, keys: Vec::new(), machine }
+            Evaluator { rules, situation, recall, keys: Vec::new(), machine }
         }
 
         pub fn value(&mut self, key: Key) -> Result<Value, Fault> {
@@ -553,7 +586,7 @@ mod machine {
             self.machine.kept.clear();
             self.keys.clear();
             let w = World { rules: self.rules, situation: self.situation };
-            below(&w, &mut self.machine, &mut self.keys, &key)
+            below(&w, &mut self.recall, &mut self.machine, &mut self.keys, &key).map(|known| known.value)
         }
     }
 }
@@ -696,8 +729,14 @@ fn main() {
     let situation = Situation { inputs: table_of(given), homes: vec![Home { group: 0, role }; persons as usize], persons: vec![(0..persons).collect()] };
     let rounds = if keys.len() > 1 { count / keys.len() as u64 } else { count / u64::from(size) };
     let start = Instant::now();
-    let checksum = if std::env::var_os("FISCA_PEER").is_some_and(|peer| peer == "machine") {
-        let mut evaluator = machine::Evaluator::new(&rules, &situation);
+    let is_machine = std::env::var_os("FISCA_PEER").is_some_and(|peer| peer == "machine");
+    let checksum = if is_machine && remembers {
+        (0..rounds).fold(0, |sum, _| {
+            let mut evaluator = machine::Evaluator::new(&rules, &situation, Table::<Known>::new());
+            all(sum, &keys, |key| evaluator.value(key))
+        })
+    } else if is_machine {
+        let mut evaluator = machine::Evaluator::new(&rules, &situation, Nothing);
         (0..rounds).fold(0, |sum, _| all(sum, &keys, |key| evaluator.value(key)))
     } else if remembers {
         (0..rounds).fold(0, |sum, _| {

@@ -51,6 +51,7 @@ impl Inputs {
     }
 
     /// The value of a key, by one look-up and without memory.
+    #[inline(always)]
     pub fn input(&self, key: &Key) -> Option<Value>
         ensures { result ≡ spec.value_at self.now key.now }
     {

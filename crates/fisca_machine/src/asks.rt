@@ -27,6 +27,7 @@ use fisca_values::{
 
 impl<'a> Machine<'a> {
     /// Goes on with the parts of a period from a place on.
+    #[inline(always)]
     pub(crate) fn parts(
         &mut self,
         world: &World<'_, '_, '_>,
@@ -67,6 +68,7 @@ impl<'a> Machine<'a> {
     }
 
     /// Adds the parts of a period up. `PeriodMismatch` where it has no such parts.
+    #[inline(always)]
     pub(crate) fn add_up(
         &mut self,
         world: &World<'_, '_, '_>,
@@ -91,6 +93,7 @@ impl<'a> Machine<'a> {
     }
 
     /// Asks a member for a variable at a period.
+    #[inline(always)]
     pub(crate) fn ask_by(
         &mut self,
         world: &World<'_, '_, '_>,
@@ -241,6 +244,7 @@ impl<'a> Machine<'a> {
     }
 
     /// A number is added to the sum over parts.
+    #[inline(always)]
     pub(crate) fn added(
         &mut self,
         world: &World<'_, '_, '_>,

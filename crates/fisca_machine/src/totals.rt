@@ -20,6 +20,7 @@ use fisca_values::{Fault, beginning, next_person, stepped};
 
 impl<'a> Machine<'a> {
     /// Goes on with the persons from a place on.
+    #[inline(always)]
     pub(crate) fn turn(
         &mut self,
         world: &World<'_, '_, '_>,

@@ -1,20 +1,26 @@
 //! Chains of keys, each of which asks for the next.
 
-ghost use Rattle.std.specs.Prelude.{◌≡◌, map};
+ghost use Rattle.std.specs.Prelude.{◌≡◌, ◌==◌, ◌&&◌, map};
 ghost use Rattle.fisca_answers.specs.Keys as keys_spec;
 ghost use Rattle.fisca_answers.specs.Stacks.{first_of as first_key};
 ghost use Rattle.fisca_inputs.specs.Seen.{key_seen};
 
 use fisca_inputs::Key;
 
-/// Whether two keys are the same.
-#[tactic(auto, using(fisca_answers::proofs::KeyFacts::same_period))]
+/// Whether two keys are of the same variable and member.
+fn same_owner(left: &Key, right: &Key) -> bool
+    ensures { result ≡ ((left.now.variable == right.now.variable) && (left.now.member == right.now.member)) }
+{
+    left.variable == right.variable && left.member == right.member
+}
+
+/// Whether two keys are the same. Their periods are looked at first: keys of one variable and member often stand below one another.
 fn same(left: &Key, right: &Key) -> bool
     ensures { result ≡ keys_spec.same_key (key_seen left.now) (key_seen right.now) }
 {
     // what the units say of the periods: each lies in the calendar
     let _units = (left.period.unit(), right.period.unit());
-    left == right
+    left.period == right.period && same_owner(left, right)
 }
 
 /// Whether the key stands among these.

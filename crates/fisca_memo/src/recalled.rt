@@ -63,6 +63,7 @@ fn seek<R: Recall>(
 }
 
 /// A value that is at hand, for a key below others. It is not remembered.
+#[inline(always)]
 fn at_hand(
     scene: &Scene<'_, '_, '_>,
     keys: &[Key],

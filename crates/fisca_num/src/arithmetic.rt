@@ -8,7 +8,8 @@ use crate::divisors::{gcd, quotient_by};
 use crate::faults::NumFault;
 use crate::fractions::Fraction;
 use crate::reduction::{
-    from_lowest, from_whole, from_word, reduce, reduce_shared, reduce_word_sum,
+    from_lowest, from_whole, from_word, parts_of_word, reduce, reduce_shared, reduce_word_sum,
+    reduce_words,
 };
 
 impl Fraction {
@@ -19,6 +20,13 @@ impl Fraction {
     pub fn new(numerator: i64, denominator: i64) -> Result<Fraction, NumFault>
         ensures { result ≡ number_over numerator denominator }
     {
+        if denominator == 1 {
+            return from_word(numerator);
+        }
+        if denominator > 1 {
+            let (negative, size) = parts_of_word(numerator);
+            return reduce_words(negative, size, denominator as u64);
+        }
         quotient(i128::from(numerator), i128::from(denominator))
     }
 

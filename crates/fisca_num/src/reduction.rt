@@ -33,6 +33,13 @@ fn parts_of(number: i128) -> (bool, u128)
     (number < 0, number.unsigned_abs())
 }
 
+/// Whether a word is below 0, and its size.
+pub(crate) fn parts_of_word(number: i64) -> (bool, u64)
+    ensures number { signed result.0 result.1 ≡ number }
+{
+    (number < 0, number.unsigned_abs())
+}
+
 /// The number that `size / denominator` is, or its opposite.
 pub(crate) fn reduce_size(
     negative: bool,

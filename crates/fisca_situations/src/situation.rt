@@ -76,6 +76,7 @@ impl Situation {
     }
 
     /// The input of a key, by one look-up and without memory.
+    #[inline(always)]
     pub fn input(&self, key: &Key) -> Option<Value>
         ensures { result ≡ value_at (situation self.now).inputs key.now }
     {

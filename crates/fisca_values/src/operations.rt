@@ -15,6 +15,7 @@ use fisca_typing::{Arithmetic, Logic};
 /// A number of two numbers, as `arithmetic_of` has it; bools count as 0 and 1.
 ///
 /// `ZeroDivisor` of a division by 0, `TooWide` where a part of the number is beyond the limits.
+#[inline(always)]
 pub fn arithmetic(operation: Arithmetic, left: Value, right: Value) -> Result<Value, Fault>
     requires { IsMoving (arithmetic_of operation (value_seen left) (value_seen right)) }
     ensures { ended result ≡ arithmetic_of operation (value_seen left) (value_seen right) }

@@ -1,13 +1,15 @@
 -- The text of a number, as it is written.
 use Rattle.std.proofs.Common.{lit<, ◌≡◌, ℕ, zero, suc, pos, negsuc, ◌+◌, ◌*◌, ◌/◌, ◌%◌, ◌^◌, ◌<◌, ◌≤◌, ℤ, unsigned_abs, List, [], ◌∷◌, ◌++◌, length, take, arith, refl, ap, sym, ◌∙◌, append_assoc, inl, inr}
 use Rattle.std.specs.Int.{◌∣◌}
-use Rattle.std.specs.Fmt.{decimal}
+use Rattle.std.specs.Fmt.{decimal, signed_decimal}
 use Rattle.std.specs.Str.{IsUtf8, IsAscii}
 use Rattle.std.specs.Str.Parse.{AllDigits, digits_value}
 use Rattle.std.proofs.lemmas.Str.{IsUtf8-from_ascii, IsAscii-append, IsAscii-take}
 use Rattle.std.proofs.lemmas.Fmt.{IsAscii-decimal, IsAscii-signed, IsAscii-from_digits}
 use Rattle.std.proofs.lemmas.Bool.{cases_lt}
+use Rattle.std.proofs.lemmas.List.{append-nil}
 use lib.Signed.{mag}
+use Rattle.fisca_num.specs.Characters.{minus, zero_digit}
 use Rattle.std.proofs.Math.Nat.{mod-add-div', mul-le-mul_left}
 use Rattle.fisca_num.specs.Digits.{ten_pos}
 use Rattle.fisca_num.specs.Number.{Number}
@@ -28,6 +30,29 @@ written_numeral v n d k size part unsigned text en ed least es p eu et =
     let numeral : IsNumeralOf (sign_of v.numerator ++ decimal (size / v.denominator) ++ pointed p.places) v = numeral_with v k (size / v.denominator) p.places least p.size p.digits (sym (ap (λ z. z * 10 ^ k) size_is) ∙ value) in
     let same : text ≡ sign_of v.numerator ++ decimal (size / v.denominator) ++ pointed p.places = et ∙ rw (eu, p.written, en, ed) (sym (append_assoc (sign_of v.numerator) (decimal (size / v.denominator)) (pointed p.places))) in
     same ∙ only_text_of v _ (inl numeral)
+
+signed_whole : (n : ℤ) → signed_decimal n ≡ sign_of n ++ decimal (unsigned_abs n) ++ pointed []
+signed_whole (pos n) = sym (append-nil (decimal n))
+signed_whole (negsuc n) = sym (append-nil (minus ∷ decimal (suc n)))
+
+-- the digits of a whole number, with its sign, are its text
+pub written_whole : (v : Number) → v.denominator ≡ 1 → signed_decimal v.numerator ≡ text_of v
+written_whole v one =
+    let size = unsigned_abs v.numerator in
+    let value : size * 10 ^ 0 ≡ (size * 10 ^ 0 + 0) * v.denominator = rw one (omega arith) in
+    let numeral : IsNumeralOf (signed_decimal v.numerator) v = record {
+      whole = size;
+      places = [];
+      written = signed_whole v.numerator;
+      digits = tt;
+      last = λ front same. no_end front same;
+      value = value;
+    } in
+    only_text_of v (signed_decimal v.numerator) (inl numeral)
+  where
+    no_end : (front : List ℕ) → [] ≡ front ++ (zero_digit ∷ []) → ⊥
+    no_end [] same = cc
+    no_end (c ∷ front) same = cc
 
 pub no_numeral : (v : Number) → ((k : ℕ) → v.denominator ∣ 10 ^ k → ⊥) → fraction_text v ≡ text_of v
 no_numeral v none = only_text_of v (fraction_text v) (inr ((λ t x. none (length x.places) (covers_by t v x)), refl))

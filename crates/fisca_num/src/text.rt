@@ -43,13 +43,25 @@ impl Fraction {
         ensures err { OnErr result (string_bytes line.new ≡ string_bytes line.old) }
         ensures full { OnErr result (string_capacity line.old < string_len line.old + length (text_of self)) }
     {
-        let mut buffer = [0u8; ROOM];
-        let start = self.put_text(&mut buffer);
-        line.push_str(unsafe { std::str::from_utf8_unchecked(&buffer[start..]) })
+        if self.denominator() == 1 {
+            return line.push_str(itoa::Buffer::new().format(self.numerator()));
+        }
+        self.write_any(line)
     }
 }
 
 impl Fraction {
+    /// The same for any number, not only for whole ones.
+    fn write_any(self, line: &mut String) -> Result<(), AllocError>
+        ensures ok { OnOk result (string_bytes line.new ≡ string_bytes line.old ++ text_of self) }
+        ensures err { OnErr result (string_bytes line.new ≡ string_bytes line.old) }
+        ensures full { OnErr result (string_capacity line.old < string_len line.old + length (text_of self)) }
+    {
+        let mut buffer = [0u8; ROOM];
+        let start = self.put_text(&mut buffer);
+        line.push_str(unsafe { std::str::from_utf8_unchecked(&buffer[start..]) })
+    }
+
     /// Writes the text into the end of the buffer, and gives its start.
     fn put_text(self, buffer: &mut [u8]) -> usize
         requires room { length buffer.old ≡ 84 }

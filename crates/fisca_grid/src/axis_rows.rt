@@ -171,7 +171,7 @@ fn write_values(
 }
 
 /// Appends a tab and a value.
-#[inline]
+#[inline(always)]
 fn write_value(value: Fraction, line: &mut String) -> Result<(), AllocError>
     ensures { OnOk result (string_bytes line.new ≡ string_bytes line.old ++ (tab ∷ text_of value)) }
 {

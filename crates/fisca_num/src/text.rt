@@ -52,6 +52,7 @@ impl Fraction {
 
 impl Fraction {
     /// The same for any number, not only for whole ones.
+    #[inline(always)]
     fn write_any(self, line: &mut String) -> Result<(), AllocError>
         ensures ok { OnOk result (string_bytes line.new ≡ string_bytes line.old ++ text_of self) }
         ensures err { OnErr result (string_bytes line.new ≡ string_bytes line.old) }

@@ -1,5 +1,5 @@
 //! Parameters below `parameters(period)`.
-ghost use Rattle.std.specs.Prelude.{◌≡◌, map};
+ghost use Rattle.std.specs.Prelude.{◌≡◌, ◌∷◌, [], map};
 ghost use Rattle.std.specs.List.{list_all};
 ghost use Rattle.fisca_calls.specs.Parameters.{all_are, chosen_by, scale_alone};
 ghost use Rattle.fisca_nodes.specs.Outcomes.{Gives};
@@ -152,6 +152,41 @@ pub fn root_at(alloc: Global, tree: &ParamTree, moves: Vec<Move>) -> Result<Thin
     thing_chosen(alloc, tree, chosen)
 }
 
+/// The child of this name below a node alone, in the list that had the node; or `UnknownParameter`.
+fn child_alone(
+    tree: &ParamTree,
+    mut places: Vec<NodeId>,
+    place: NodeId,
+    name: &[u8],
+) -> Result<Vec<NodeId>, Kind>
+    ensures { Gives (λ found. found.items) (spec.children_below tree.now (place ∷ []) (name.now ∷ [])) result }
+{
+    let Some(child) = tree.child_by(place, name) else {
+        return Err(Kind::UnknownParameter);
+    };
+    places.clear();
+    places.push(child)?;
+    Ok(places)
+}
+
+/// The children of this name below each of some nodes, or `UnknownParameter`.
+fn children_named_so(
+    alloc: Global,
+    tree: &ParamTree,
+    places: Vec<NodeId>,
+    name: &[u8],
+) -> Result<Vec<NodeId>, Kind>
+    ensures { Gives (λ found. found.items) (spec.children_below tree.now places.items (name.now ∷ [])) result }
+{
+    match places.as_slice() {
+        [place] => {
+            let alone = *place;
+            child_alone(tree, places, alone, name)
+        }
+        several => children_below(alloc, tree, several, &[name]),
+    }
+}
+
 /// A name behind nodes, or `UnknownParameter`.
 pub fn node_attribute(
     alloc: Global,
@@ -161,7 +196,7 @@ pub fn node_attribute(
 ) -> Result<Thing, Kind>
     ensures { Gives thing (spec.node_attribute tree.now name.now (chosen_of chosen)) result }
 {
-    let places = children_below(alloc, tree, chosen.places.as_slice(), &[name])?;
+    let places = children_named_so(alloc, tree, chosen.places, name)?;
     let below = Chosen {
         level: chosen.level,
         indices: chosen.indices,

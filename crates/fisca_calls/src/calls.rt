@@ -258,8 +258,8 @@ pub fn offset_of(moves: Vec<Move>, positions: Positions) -> Result<Thing, Kind>
     if items.next().is_some() {
         return Err(Kind::BadType);
     }
-    let name = text_of(unit.thing)?;
-    offset_by_unit(moves, count.tree, name.as_slice())
+    let name = text_of(&unit.thing)?;
+    offset_by_unit(moves, count.tree, name)
 }
 
 /// `parameters(period)` or `parameters(period.start)`, or `BadType`.

@@ -1,11 +1,14 @@
 -- How many arguments there are.
-use Rattle.std.proofs.Common.{◌≡◌, ℕ, List, [], ◌∷◌, None, Ok, refl}
+use Rattle.std.proofs.Common.{◌≡◌, ◌≤◌, ℕ, List, [], ◌∷◌, Some, None, Ok, Err, arith, length, refl}
 use Rattle.fisca_calls.specs.Arguments.{single}
-use Rattle.fisca_formula.specs.Questions.{asked_by, two_or_three}
+use Rattle.fisca_formula.specs.Questions.{asked_by}
+use Rattle.fisca_nodes.specs.Views.{listed}
+use Rattle.fisca_nodes.specs.declared.thing.Thing.{Thing as Held}
 use Rattle.fisca_params.specs.Results.{and_then}
+use Rattle.fisca_tokens.specs.declared.fault.Kind.TheVariants as kind
 use Rattle.fisca_typing.specs.declared.kinds.Level.{Level}
 use Rattle.fisca_typing.specs.declared.operations.Total.{Total}
-use Rattle.fisca_typing.specs.Asks.{asked_with, role_by, total_by, total_of}
+use Rattle.fisca_typing.specs.Asks.{asked_with, one_option, role_by, total_by, total_of}
 use Rattle.fisca_typing.specs.Calls.{Given, Settled, by_position, and_keyword}
 use Rattle.fisca_typing.specs.Tables.{Tables}
 use Rattle.fisca_typing.specs.Things.{Thing, Relation}
@@ -20,9 +23,13 @@ total_role entity t [] k x = refl
 total_role entity t (a ∷ []) k x = refl
 total_role entity t (a ∷ b ∷ ss) k x = refl
 
-pub asked_question : (c : Tables) (r : Relation) (l : Level) (gs : List Given) → asked_with c r l gs ≡ and_then (two_or_three gs) (λ q. asked_by c r l q.0 q.1 q.2)
-asked_question c r l [] = refl
-asked_question c r l (a ∷ []) = refl
-asked_question c r l (a ∷ b ∷ []) = refl
-asked_question c r l (a ∷ b ∷ d ∷ []) = refl
-asked_question c r l (a ∷ b ∷ d ∷ e ∷ gs) = refl
+pub asked_two : (c : Tables) (r : Relation) (l : Level) (a b : Given) → asked_with c r l (a ∷ b ∷ []) ≡ asked_by c r l a b None
+asked_two c r l a b = refl
+
+pub asked_three : (c : Tables) (r : Relation) (l : Level) (a b d : Given) → asked_with c r l (a ∷ b ∷ d ∷ []) ≡ asked_by c r l a b (Some d)
+asked_three c r l a b d = refl
+
+pub options_more : (xs : List Held) → 2 ≤ length xs → one_option (listed xs) ≡ Err kind.BadType
+options_more [] h = absurd (omega arith)
+options_more (x ∷ []) h = absurd (omega arith)
+options_more (x ∷ y ∷ xs) h = refl

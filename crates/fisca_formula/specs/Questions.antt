@@ -18,14 +18,11 @@ use Rattle.fisca_typing.specs.Tables.{Tables}
 use Rattle.fisca_typing.specs.Things.{Thing, Relation, typed}
 use Rattle.fisca_typing.specs.Types.{bad_type}
 
-abbrev pub given_if : Option Held → Option Given
-given_if = option_map given
+abbrev pub given_if : Option (Bor Held) → Option Given
+given_if = option_map (λ g. given g.now)
 
--- two arguments, and perhaps one more
-abbrev pub two_or_three : List Given → Result (Given × Given × Option Given) Kind
-two_or_three (v ∷ p ∷ []) = Ok (v, p, None)
-two_or_three (v ∷ p ∷ o ∷ []) = Ok (v, p, Some o)
-two_or_three _ = bad_type
+abbrev pub outcome_of : Option (Bor Held) → Option (Result Thing Kind)
+outcome_of = option_map (λ g. (given g.now).thing)
 
 -- options stand behind their keyword
 abbrev pub with_options : Tables → Relation → Level → Given → Given → Option Given → Result Thing Kind

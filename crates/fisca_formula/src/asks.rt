@@ -1,7 +1,7 @@
 //! What formulas ask for: the values of variables.
-ghost use Rattle.std.specs.Prelude.{◌≡◌};
-ghost use Rattle.fisca_calls.specs.Arguments.{all_given, given as given_of, key, outcome_if};
-ghost use Rattle.fisca_formula.specs.Questions.{asked_by as asked_view, given_if, two_or_three};
+ghost use Rattle.std.specs.Prelude.{◌≡◌, Some, Ok};
+ghost use Rattle.fisca_calls.specs.Arguments.{all_given, given as given_of, key, outcome};
+ghost use Rattle.fisca_formula.specs.Questions.{asked_by as asked_view, given_if, outcome_of};
 ghost use Rattle.fisca_nodes.specs.Outcomes.{Gives};
 ghost use Rattle.fisca_nodes.specs.Views.{listed, relation as relation_of, thing as thing_of};
 ghost use Rattle.fisca_tables.specs.Known.{tables as tables_of};
@@ -9,9 +9,7 @@ ghost use Rattle.fisca_tables.specs.KnownVariables.{value_type as used_view, var
 ghost use Rattle.fisca_typing.specs.Asks as spec;
 
 use fisca_calls::Given;
-use fisca_nodes::{
-    Relation, Thing, Typed, ask, is_numeric, option_of, period_of, text_of, things_of,
-};
+use fisca_nodes::{Relation, Thing, Typed, ask, is_numeric, option_of, period_of, text_of};
 use fisca_tables::{DeclaredType, Tables, Variable};
 use fisca_tokens::Kind;
 use fisca_typing::{Asking, Level, ValueType};
@@ -45,37 +43,53 @@ fn usable(entity: usize, place: usize, variable: &Variable) -> Result<(usize, Va
 
 /// The place and the type of the variable of this entity that a text names: `BadType` for what is no text,
 /// `UnknownVariable`, or a fault of the variable.
-fn variable_of(tables: &Tables, entity: usize, thing: Thing) -> Result<(usize, ValueType), Kind>
-    ensures { Gives (λ p. (p.0, p.1)) (spec.variable_of (tables_of tables.now) entity (thing_of thing)) result }
+fn variable_of(tables: &Tables, entity: usize, thing: &Thing) -> Result<(usize, ValueType), Kind>
+    ensures { Gives (λ p. (p.0, p.1)) (spec.variable_of (tables_of tables.now) entity (thing_of thing.now)) result }
 {
-    let name = text_of(thing)?;
-    match tables.variable_named(name.as_slice()) {
+    match tables.variable_named(text_of(thing)?) {
         Some((place, variable)) => usable(entity, place, variable),
         None => Err(Kind::UnknownVariable),
     }
 }
 
-/// The option that stands alone in a list, or `BadType`.
-fn one_option(things: Vec<Thing>) -> Result<Asking, Kind>
-    ensures { Gives (λ a. a) (spec.one_option (listed things.items)) result }
+/// What an argument stands for, or its fault.
+fn known(found: &Result<Thing, Kind>) -> Result<&Thing, Kind>
+    ensures { Gives (λ x. thing_of x.now) (outcome found.now) result }
 {
-    let mut items = things.into_iter();
-    let Some(only) = items.next() else {
-        return Err(Kind::BadType);
-    };
-    if items.next().is_some() {
-        return Err(Kind::BadType);
+    match found {
+        Ok(thing) => Ok(thing),
+        Err(kind) => Err(*kind),
     }
-    option_of(&only)
+}
+
+/// The option that stands alone in a list, or `BadType`.
+fn one_option(things: &[Thing]) -> Result<Asking, Kind>
+    ensures { Gives (λ a. a) (spec.one_option (listed things.now)) result }
+{
+    match things {
+        [] => Err(Kind::BadType),
+        [only] => option_of(only),
+        [_, _, ..] => Err(Kind::BadType),
+    }
+}
+
+/// The option that a list has alone, or `BadType`.
+fn option_in(list: &Thing) -> Result<Asking, Kind>
+    ensures { Gives (λ a. a) (spec.options_of (Some (Ok (thing_of list.now)))) result }
+{
+    match list {
+        Thing::Listed(things) => one_option(things.as_slice()),
+        _ => Err(Kind::BadType),
+    }
 }
 
 /// What is asked for by options, if there are any, or their fault.
-fn options_of(options: Option<Result<Thing, Kind>>) -> Result<Asking, Kind>
-    ensures { Gives (λ a. a) (spec.options_of (outcome_if options)) result }
+fn options_of(options: Option<&Given>) -> Result<Asking, Kind>
+    ensures { Gives (λ a. a) (spec.options_of (outcome_of options.entry)) result }
 {
     match options {
         None => Ok(Asking::Plain),
-        Some(given) => one_option(things_of(given?)?),
+        Some(given) => option_in(known(&given.thing)?),
     }
 }
 
@@ -102,20 +116,20 @@ fn asked(
     tables: &Tables,
     relation: Relation,
     level: Level,
-    variable: Given,
-    period: Given,
-    options: Option<Result<Thing, Kind>>,
+    variable: &Given,
+    period: &Given,
+    options: Option<&Given>,
 ) -> Result<Thing, Kind>
-    ensures { Gives thing_of (spec.asked (tables_of tables.now) (relation_of relation) level (given_of variable.entry) (given_of period.entry) (outcome_if options)) result }
+    ensures { Gives thing_of (spec.asked (tables_of tables.now) (relation_of relation) level (given_of variable.now) (given_of period.now) (outcome_of options.entry)) result }
 {
-    let (place, declared) = variable_of(tables, relation.entity, variable.thing?)?;
-    let moves = period_of(period.thing?)?;
+    let (place, declared) = variable_of(tables, relation.entity, known(&variable.thing)?)?;
+    let moves = period_of(known(&period.thing)?)?;
     let asking = options_of(options)?;
     let value_type = asked_type(asking, declared)?;
     Ok(Thing::Value(Typed {
         value_type,
         level,
-        node: ask(alloc, place, relation.whom, asking, moves)?,
+        node: ask(alloc, place, relation.whom, asking, moves.to_vec(alloc)?)?,
     }))
 }
 
@@ -135,11 +149,11 @@ fn asked_by(
     tables: &Tables,
     relation: Relation,
     level: Level,
-    variable: Given,
-    period: Given,
-    options: Option<Given>,
+    variable: &Given,
+    period: &Given,
+    options: Option<&Given>,
 ) -> Result<Thing, Kind>
-    ensures { Gives thing_of (asked_view (tables_of tables.now) (relation_of relation) level (given_of variable.entry) (given_of period.entry) (given_if options.entry)) result }
+    ensures { Gives thing_of (asked_view (tables_of tables.now) (relation_of relation) level (given_of variable.now) (given_of period.now) (given_if options.entry)) result }
 {
     if variable.keyword.is_some() || period.keyword.is_some() {
         return Err(Kind::BadType);
@@ -150,51 +164,38 @@ fn asked_by(
             if !is_options(last.keyword) {
                 return Err(Kind::BadType);
             }
-            asked(
+            asked(alloc, tables, relation, level, variable, period, Some(last))
+        }
+    }
+}
+
+/// What is asked for by some arguments: `BadType` where they are not a variable, a period and perhaps options, else their
+/// first fault.
+#[tactic(auto, using(crate::proofs::Shapes::asked_two, crate::proofs::Shapes::asked_three))]
+pub fn asked_with(
+    alloc: Global,
+    tables: &Tables,
+    relation: Relation,
+    level: Level,
+    arguments: &[Given],
+) -> Result<Thing, Kind>
+    ensures { Gives thing_of (spec.asked_with (tables_of tables.now) (relation_of relation) level (all_given arguments.now)) result }
+{
+    match arguments {
+        [] => Err(Kind::BadType),
+        [_] => Err(Kind::BadType),
+        [variable, period] => asked_by(alloc, tables, relation, level, variable, period, None),
+        [variable, period, options] => {
+            asked_by(
                 alloc,
                 tables,
                 relation,
                 level,
                 variable,
                 period,
-                Some(last.thing),
+                Some(options),
             )
         }
+        [_, _, _, _, ..] => Err(Kind::BadType),
     }
-}
-
-/// Two arguments, and perhaps one more.
-type Question<'a, 't> = (Given<'a, 't>, Given<'a, 't>, Option<Given<'a, 't>>);
-
-/// Two arguments or three, or `BadType`.
-fn question<'a, 't>(arguments: Vec<Given<'a, 't>>) -> Result<Question<'a, 't>, Kind>
-    ensures { Gives (λ q. (given_of q.0, given_of q.1, given_if q.2)) (two_or_three (all_given arguments.entry.items)) result }
-{
-    if arguments.len() < 2 || arguments.len() > 3 {
-        return Err(Kind::BadType);
-    }
-    let mut items = arguments.into_iter();
-    let Some(variable) = items.next() else {
-        return Err(Kind::BadType);
-    };
-    let Some(period) = items.next() else {
-        return Err(Kind::BadType);
-    };
-    Ok((variable, period, items.next()))
-}
-
-/// What is asked for by some arguments: `BadType` where they are not a variable, a period and perhaps options, else their
-/// first fault.
-#[tactic(auto, using(crate::proofs::Shapes::asked_question))]
-pub fn asked_with(
-    alloc: Global,
-    tables: &Tables,
-    relation: Relation,
-    level: Level,
-    arguments: Vec<Given>,
-) -> Result<Thing, Kind>
-    ensures { Gives thing_of (spec.asked_with (tables_of tables.now) (relation_of relation) level (all_given arguments.entry.items)) result }
-{
-    let (variable, period, options) = question(arguments)?;
-    asked_by(alloc, tables, relation, level, variable, period, options)
 }

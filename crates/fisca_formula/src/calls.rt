@@ -43,7 +43,13 @@ fn method_by(
         Method::HasRole => has_role_by(alloc, settled_positions(alloc, arguments)?),
         Method::Members => {
             let relation = to_person(names.tables);
-            asked_with(alloc, names.tables, relation, Level::Members, arguments)
+            asked_with(
+                alloc,
+                names.tables,
+                relation,
+                Level::Members,
+                arguments.as_slice(),
+            )
         }
         Method::Total(total) => {
             total_by(
@@ -80,11 +86,13 @@ fn method_called(
 {
     match (method, relation) {
         (None, None) => Err(Kind::UnknownName),
-        (None, Some(whom)) => asked_with(alloc, names.tables, whom, Level::Own, arguments),
+        (None, Some(whom)) => {
+            asked_with(alloc, names.tables, whom, Level::Own, arguments.as_slice())
+        }
         (Some(function), None) => method_by(alloc, names, function, arguments),
         (Some(function), Some(whom)) => {
             if begins_with_text(arguments.as_slice()) {
-                asked_with(alloc, names.tables, whom, Level::Own, arguments)
+                asked_with(alloc, names.tables, whom, Level::Own, arguments.as_slice())
             } else {
                 method_by(alloc, names, function, arguments)
             }
@@ -123,7 +131,13 @@ pub fn called(
         }
         Thing::Asker => {
             let relation = to_self(names.entity);
-            asked_with(alloc, names.tables, relation, Level::Own, arguments)
+            asked_with(
+                alloc,
+                names.tables,
+                relation,
+                Level::Own,
+                arguments.as_slice(),
+            )
         }
         Thing::Method(method, relation) => {
             method_called(alloc, names, method, relation, arguments)

@@ -19,11 +19,11 @@ pub fn value_of(thing: Thing) -> Result<Typed, Kind>
 }
 
 /// The moves to the period that a thing is, or `BadType`.
-pub fn period_of(thing: Thing) -> Result<Vec<Move>, Kind>
-    ensures { Gives (λ ms. ms.items) (spec.period_of (thing_of thing)) result }
+pub fn period_of(thing: &Thing) -> Result<&[Move], Kind>
+    ensures { Gives (λ ms. ms.now) (spec.period_of (thing_of thing.now)) result }
 {
     match thing {
-        Thing::Period(moves) => Ok(moves),
+        Thing::Period(moves) => Ok(moves.as_slice()),
         _ => Err(Kind::BadType),
     }
 }
@@ -39,11 +39,11 @@ pub fn instant_of(thing: Thing) -> Result<Vec<Move>, Kind>
 }
 
 /// The text that a thing is, or `BadType`.
-pub fn text_of(thing: Thing) -> Result<Vec<u8>, Kind>
-    ensures { Gives (λ t. t.items) (spec.text_of (thing_of thing)) result }
+pub fn text_of(thing: &Thing) -> Result<&[u8], Kind>
+    ensures { Gives (λ t. t.now) (spec.text_of (thing_of thing.now)) result }
 {
     match thing {
-        Thing::Text(text) => Ok(text),
+        Thing::Text(text) => Ok(text.as_slice()),
         _ => Err(Kind::BadType),
     }
 }

@@ -1,11 +1,13 @@
 //! The table of inputs.
 
-ghost use Rattle.std.specs.Prelude.{◌≡◌, [], ◌∷◌, false, not, IfOk};
+ghost use Rattle.std.specs.Prelude.{◌≡◌, ◌≤◌, [], ◌∷◌, false, not, length, IfOk, OnOk};
+ghost use Rattle.indexmap.specs.IndexMap.{insert_entry};
 ghost use Rattle.fisca_inputs.specs.Anew.{set_keys};
 ghost use Rattle.fisca_inputs.specs.Inputs.{is_marked, without_marked};
 ghost use Rattle.fisca_inputs.specs.Defaults.{rows_of};
 ghost use Rattle.fisca_inputs.specs.Entries as spec;
 ghost use Rattle.fisca_inputs.specs.Outcomes.{Becomes};
+ghost use Rattle.fisca_inputs.specs.declared.given.Value.{Value};
 
 use crate::fault::{SituationFault, SituationKind};
 use crate::given::Value;
@@ -73,7 +75,7 @@ impl Inputs {
         Ok(())
     }
 
-    /// The same, of a key that may have one and keeps it.
+    /// The same, of a key that may have one and keeps it: it is looked for first, as most keys have one.
     pub(crate) fn put_free(
         &mut self,
         line: usize,
@@ -86,6 +88,59 @@ impl Inputs {
             return Ok(());
         }
         self.put(line, key, value)
+    }
+
+    /// Where there are a hundred thousand, a key that has none is one too many.
+    fn full(&self, line: usize, key: &Key) -> Result<(), SituationFault>
+        requires { spec.limit ≤ length self.now }
+        ensures { (x : Value) → Becomes (spec.put_free line x key.now self.now) self.now result }
+    {
+        if self.entries.get(key).is_some() {
+            return Ok(());
+        }
+        Err(SituationFault {
+            line,
+            kind: SituationKind::TooMany,
+        })
+    }
+
+    /// Gives this value to a key, in place of that which it had, which is answered.
+    fn write(&mut self, key: Key, value: Value) -> Result<Option<Value>, AllocError>
+        ensures entries { OnOk result (self.new ≡ insert_entry spec.same_key self.old key value) }
+        ensures had { IfOk result (λ had. had ≡ spec.value_at self.old key) }
+    {
+        let had = self.entries.insert(key, value)?;
+        Ok(had)
+    }
+
+    /// Gives a key back what it had, if anything.
+    fn restore(&mut self, key: Key, had: Option<Value>) -> Result<(), AllocError>
+        ensures { OnOk result (self.new ≡ spec.restored key had self.old) }
+    {
+        match had {
+            Some(value) => {
+                self.write(key, value)?;
+                Ok(())
+            }
+            None => Ok(()),
+        }
+    }
+
+    /// The same as `put_free` by one look-up where the key has none, and two where it has one.
+    pub(crate) fn put_part(
+        &mut self,
+        line: usize,
+        value: Value,
+        key: Key,
+    ) -> Result<(), SituationFault>
+        ensures { Becomes (spec.put_free line value key self.old) self.new result }
+    {
+        if self.entries.len() >= LIMIT {
+            return self.full(line, &key);
+        }
+        let had = self.write(key, value)?;
+        self.restore(key, had)?;
+        Ok(())
     }
 
     /// The variables and periods that some member has a value for, each once, by the key of the first member.

@@ -21,6 +21,9 @@ use std::marker::Model;
 /// The largest number of inputs.
 pub(crate) const LIMIT: usize = 100_000;
 
+/// For how many rows there is room at once.
+const ROOM: usize = 144;
+
 /// The inputs of a situation: a value for each key that has one, seen as the list of its entries.
 #[derive(Drop)]
 pub struct Inputs {
@@ -148,6 +151,7 @@ impl Inputs {
         ensures { IfOk result (λ rows. rows.keys ≡ rows_of self.now) }
     {
         let mut rows = Keys::with_hasher(alloc, BuildHasherDefault::new());
+        rows.reserve(self.entries.len().min(ROOM))?;
         for (key, _value) in self.entries.iter() {
             rows.insert(Key {
                 variable: key.variable,

@@ -12,7 +12,7 @@ use Rattle.fisca_typing.specs.Calls.{Given}
 use Rattle.fisca_typing.specs.Names.{Names}
 use Rattle.fisca_typing.specs.Things.{Thing, Things, listed, more}
 use Rattle.fisca_typing.specs.Types.{bad_type}
-use Rattle.fisca_typing.specs.Typing.{all_given, elements, given_of, in_brackets, is_positional, only}
+use Rattle.fisca_typing.specs.Typing.{all_given, elements, given_of, in_brackets, is_positional}
 use Rattle.fisca_formula.proofs.Outcomes.{gives_same}
 use Rattle.fisca_formula.specs.Elements.{all_elements, element_of, list_view}
 
@@ -70,23 +70,6 @@ series_given c m [] = refl
 series_given c true (a ∷ []) = refl
 series_given c false (a ∷ []) = refl
 series_given c m (a ∷ b ∷ xs) = ap (λ gs. given_of c a ∷ gs) (series_given c m (b ∷ xs))
-
--- what stands in parentheses
-
-pub round_none : (c : Names) (m : Bool) → in_brackets bracket.Round (all_given c (series_of m [])) ≡ bad_type
-round_none c m = refl
-
-pub round_one : (c : Names) (m : Bool) (a : Argument) → only (given_of c a ∷ []) ≡ in_brackets bracket.Round (all_given c (series_of m (a ∷ [])))
-round_one c true a = refl
-round_one c false a = refl
-
-round_two : (c : Names) (m : Bool) (a b : Argument) → in_brackets bracket.Round (all_given c (series_of m (a ∷ b ∷ []))) ≡ bad_type
-round_two c true a b = refl
-round_two c false a b = refl
-
-pub round_more : (c : Names) (m : Bool) (a b : Argument) (xs : List Argument) → in_brackets bracket.Round (all_given c (series_of m (a ∷ b ∷ xs))) ≡ bad_type
-round_more c m a b [] = round_two c m a b
-round_more c m a b (d ∷ xs) = refl
 
 pub none_left : {X : Type 0} (n : ℕ) (xs : List X) → n ≡ 0 → n ≡ length xs → xs ≡ []
 none_left n [] e f = refl

@@ -1,5 +1,5 @@
 //! What expressions stand for: functions that call one another, each of which only matches and calls.
-ghost use Rattle.std.specs.Prelude.{◌≡◌, ◌∷◌, [], Bool, IfOk, Result, map};
+ghost use Rattle.std.specs.Prelude.{◌≡◌, Bool, IfOk, Result, map};
 ghost use Rattle.fisca_calls.specs.Arguments.{all_given as given_list, given as given_view};
 ghost use Rattle.fisca_expressions.specs.Views.{argument_view, series_of, tree as tree_of};
 ghost use Rattle.fisca_formula.specs.Views.{names as names_of};
@@ -55,7 +55,6 @@ pub fn thing_of<'a, 't>(alloc: Global, tree: &'t Expr<'a>, names: &Names) -> Res
 
 /// What brackets stand for, or the first fault of what stands in them.
 #[cycle(typing)]
-#[tactic(auto, using(crate::proofs::Elements::round_none, crate::proofs::Elements::round_one, crate::proofs::Elements::round_more))]
 fn bracketed<'a, 't>(
     alloc: Global,
     names: &Names,
@@ -64,30 +63,8 @@ fn bracketed<'a, 't>(
 ) -> Result<Thing, Kind>
     ensures { (comma : Bool) → Gives thing (spec.in_brackets bracket (spec.all_given (names_of names.now) (series_of comma (map argument_view inside.now)))) result }
 {
-    match bracket {
-        Bracket::Round => match inside {
-            [] => Err(Kind::BadType),
-            [only] => grouped(alloc, names, only),
-            [_, _, ..] => Err(Kind::BadType),
-        },
-        Bracket::Square => {
-            let arguments = all_given(alloc, inside, names)?;
-            in_brackets(alloc, bracket, arguments)
-        }
-        Bracket::Curly => Err(Kind::BadType),
-    }
-}
-
-/// What stands alone in parentheses, or `BadType` where it is no expression alone.
-#[cycle(typing)]
-fn grouped<'a, 't>(alloc: Global, names: &Names, argument: &'t Argument<'a>) -> Result<Thing, Kind>
-    ensures { Gives thing (spec.only (spec.given_of (names_of names.now) (argument_view argument.now) ∷ [])) result }
-{
-    match argument {
-        Argument::Positional(value) => thing_of(alloc, value, names),
-        Argument::Keyword(_, _) => Err(Kind::BadType),
-        Argument::Entry(_, _) => Err(Kind::BadType),
-    }
+    let arguments = all_given(alloc, inside, names)?;
+    in_brackets(alloc, bracket, arguments)
 }
 
 /// What a name behind an expression stands for, or the first fault.
@@ -160,7 +137,7 @@ fn all_given<'a, 't>(
 ) -> Result<Vec<Given<'a, 't>>, AllocError>
     ensures { IfOk result (λ gs. (comma : Bool) → given_list gs.items ≡ spec.all_given (names_of names.now) (series_of comma (map argument_view items.now))) }
 {
-    let mut found = Vec::with_capacity(alloc, items.len())?;
+    let mut found = Vec::new(alloc);
     for item in items {
         found.push(given_of(alloc, item, names)?)?;
     }

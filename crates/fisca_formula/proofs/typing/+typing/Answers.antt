@@ -1,4 +1,4 @@
-use Rattle.std.proofs.Common.{rules, arith, ◌≡◌, ◌∙◌, sym, ap, Some, None, Ok, take, ◌∷◌, []}
+use Rattle.std.proofs.Common.{rules, arith, ◌≡◌, ◌∙◌, sym, ap, Some, None, Ok, take}
 use Rattle.std.specs.Prelude.{map}
 use Rattle.fisca_calls.specs.Arguments.{all_given as given_list}
 use Rattle.fisca_expressions.specs.Tree.{applied, attribute, binary, bracketed, compare, keyword, positional}
@@ -7,7 +7,7 @@ use Rattle.fisca_expressions.specs.declared.tree.Arguments.{the_lemmas as all_le
 use Rattle.fisca_nodes.specs.Views.{thing}
 use Rattle.fisca_params.specs.Results.{and_then}
 use Rattle.fisca_typing.specs.Operations.{comparison_of, operated, operation}
-use Rattle.fisca_typing.specs.Typing.{all_given, attribute_of, given, given_of, in_brackets, only, thing_of, with_suffix}
+use Rattle.fisca_typing.specs.Typing.{all_given, attribute_of, given, given_of, in_brackets, thing_of, with_suffix}
 use Rattle.fisca_formula.specs.Views.{names}
 use Rattle.fisca_formula.proofs.Elements.{series_given, take_all}
 use Rattle.fisca_formula.proofs.Outcomes.{gives_same}
@@ -37,12 +37,6 @@ given_of-returns-in_ok-if_known-in-Keyword t c =
     let held = ap (λ e. keyword c.in-Keyword.keyword (tree e)) (sym c.deref-in-Keyword.ensures) in
     let kept = c.deref.ensures ∙ sym c.deref-in-Keyword.ensures in
     (λ i. given (Some (c.as_bytes.ensures i)) (tree (kept i)) (told i)) ∙ ap (given_of n) (sym (seen ∙ held))
-
-pub grouped-returns-in-Positional : goal.grouped-returns-in-Positional
-grouped-returns-in-Positional t c =
-    let n = names c.args.names.now in
-    let seen : argument_view c.args.argument.now ≡ positional (tree c.in-Positional.value) = ap argument_view c.in-Positional.is ∙ search (all_lemmas, rules) in
-    gives_same thing _ _ _ c.thing_of.ensures (ap (λ a. only (given_of n a ∷ [])) seen)
 
 pub thing_of-returns-in-Bracketed : goal.thing_of-returns-in-Bracketed
 thing_of-returns-in-Bracketed t c =

@@ -1,12 +1,14 @@
 -- What is answered for keys below others without any work.
-use Rattle.std.proofs.Common.{◌≡◌, ◌-◌, ◌<◌, ◌≤◌, List, length, map, Option, Some, None, option_map, Err, false, sym, ap, subst, ◌∙◌, arith}
+use Rattle.std.proofs.Common.{◌≡◌, ◌-◌, ◌<◌, ◌≤◌, ◌++◌, ◌∷◌, [], inl, inr, List, length, map, Option, Some, None, option_map, Err, false, refl, sym, ap, subst, ◌∙◌, arith}
 use Rattle.std.proofs.lemmas.List.{length-map}
-use Rattle.fisca_answers.specs.Answers.{known}
-use Rattle.fisca_answers.specs.Inquiry.{Fault, fault_at, too_deep}
-use Rattle.fisca_answers.specs.Keys.{has}
+use Rattle.fisca_answers.specs.Answers.{Sources, formula, known}
+use Rattle.fisca_answers.specs.Chains.{IsPath, PathFrom}
+use Rattle.fisca_answers.specs.Inquiry.{Fault, Inquiry, fault_at, too_deep}
+use Rattle.fisca_answers.specs.Keys.{In, has}
 use Rattle.fisca_answers.specs.Stacks.{first_of, left_below, IsAskable}
-use Rattle.fisca_heights.specs.Entries.{Entries, Remembered}
-use Rattle.fisca_heights.specs.Memory.{IsKnown, IsTrueEntry, IsTrueMemory}
+use Rattle.fisca_answers.proofs.Paths.{has-none, path_tail}
+use Rattle.fisca_heights.specs.Entries.{Entries, Entry, Remembered}
+use Rattle.fisca_heights.specs.Memory.{HasFormula, IsKnown, IsTrueEntry, IsTrueMemory}
 use Rattle.fisca_heights.specs.Reads.{AreReads, IsReads}
 use Rattle.fisca_heights.proofs.Reading.{known_reads}
 use Rattle.fisca_heights.proofs.Settled.{low_known, tall_answer, full_answer, at_hand_known}
@@ -14,6 +16,7 @@ use Rattle.fisca_heights.proofs.WorkDone.{work_none}
 use Rattle.fisca_inputs.specs.Seen.{key_seen, value_seen}
 use Rattle.fisca_inputs.specs.declared.given.Value.{Value as Given}
 use Rattle.fisca_inputs.specs.declared.key.Key.{Key}
+use Rattle.fisca_meaning.specs.Dialogues.{Key as Asked}
 use Rattle.fisca_recall.specs.Found.{entry_seen}
 use Rattle.fisca_recall.specs.declared.known.Known.{Known}
 use Rattle.fisca_memo.specs.Recalled.{IfTold, IsDoneBelow, IsStack, IsKnownBelow, IsKnownOf}
@@ -23,6 +26,28 @@ use Rattle.fisca_memo.specs.declared.scene.Scene.{Scene}
 pub if_told : (o : Option Fault) (P : Type 0) → P → IfTold o P
 if_told None P p = tt
 if_told (Some f) P p = p
+
+-- each key of a stack has a formula, which asks for the next
+path_formula : (src : Sources) (x : Asked) (rest : List Asked) (key : Asked) → PathFrom src x (rest ++ key ∷ []) → HasFormula src x
+path_formula src x [] key p = (p.0.inquiry, p.0.is_formula)
+path_formula src x (j ∷ js) key p = (p.0.inquiry, p.0.is_formula)
+
+stack_formula : (src : Sources) (stack : List Asked) (key k : Asked) → IsPath src (stack ++ key ∷ []) → In k stack → HasFormula src k
+stack_formula src [] key k p i = absurd i
+stack_formula src (x ∷ xs) key k p (inl e) = subst (HasFormula src) e (path_formula src x xs key p)
+stack_formula src (x ∷ xs) key k p (inr t) = stack_formula src xs key k (path_tail src x (xs ++ key ∷ []) p) t
+
+-- what no formula gives is not remembered, and stands on no stack
+module _ (s : Scene) (keys : List Key) (key : Key) (none : (d : Inquiry) → sources_in s (key_seen key) ≡ formula d → ⊥) where
+  pub not_remembered : (m : Entries) → IsTrueMemory (sources_in s) m → m (key_seen key) ≡ None
+  not_remembered m truth = by (m (key_seen key)) refl
+    where
+      by : (o : Option Entry) → m (key_seen key) ≡ o → o ≡ None
+      by None e = refl
+      by (Some x) e = let f = truth.formulas (key_seen key) (x, e) in absurd (none f.0 f.1)
+
+  pub not_standing : IsStack (sources_in s) keys key → has (map key_seen keys) (key_seen key) ≡ false
+  not_standing stack = has-none (map key_seen keys) (key_seen key) (λ i. let f = stack_formula (sources_in s) (map key_seen keys) (key_seen key) (key_seen key) stack.path i in none f.0 f.1)
 
 module _ (s : Scene) (keys : List Key) (key : Key) where
   -- what is found of the key

@@ -30,7 +30,7 @@ use fisca_tables::Variable;
 const MOST_KEYS: usize = 100;
 
 /// What is remembered of a key that is asked for below others, if it is not too high for the fuel that is left. A key of which nothing is
-/// remembered and that stands among those above it is a cycle.
+/// remembered and that stands among those above it is a cycle. A variable without formulas is neither remembered nor among them.
 fn seek<R: Recall>(
     scene: &Scene<'_, '_, '_>,
     recall: &R,
@@ -50,6 +50,9 @@ fn seek<R: Recall>(
     ensures fault { IfErr result (λ e. IsTold (told e) (scenes.wanted scene.now keys.now key.now)) }
     ensures stopped { OnErr result (spec.IsDoneBelow (scenes.sources_in scene.now) (R.find recall.now) keys.now key.now) }
 {
+    if !scene.simulation.has_formulas(key.variable) {
+        return Ok(None);
+    }
     if let Some(known) = recall.look(key) {
         if known.height as usize > MOST_KEYS - keys.len() {
             return Err(EvalFault::TooDeep(first_of(keys, key)));

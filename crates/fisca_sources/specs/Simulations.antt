@@ -1,5 +1,5 @@
 -- What the values of keys come from, in a situation under a rule set.
-use Rattle.std.specs.Prelude.{List, [], Bool, if◌then◌else◌, slice_get, Option, Some, None, option_map}
+use Rattle.std.specs.Prelude.{ℕ, List, [], ◌∷◌, Bool, false, true, if◌then◌else◌, slice_get, Option, Some, None, option_map}
 use Rattle.fisca_answers.specs.Answers.{Source, Sources, refused, known, formula}
 use Rattle.fisca_answers.specs.Inquiry.{of_key}
 use Rattle.fisca_inputs.specs.Entries.{value_at}
@@ -31,6 +31,14 @@ pub record Simulation : Type 0 where
 abbrev pub all_dated : Option (List Dated) → List Dated
 all_dated None = []
 all_dated (Some ds) = ds
+
+abbrev pub are_some : List Dated → Bool
+are_some [] = false
+are_some (d ∷ ds) = true
+
+-- whether the variable at a place has formulas, in force or not
+abbrev pub has_formulas : Rules → ℕ → Bool
+has_formulas r n = are_some (all_dated (slice_get r.formulas n))
 
 -- the formula that is in force on a day, which is none past the variable's end
 abbrev pub formula_on : Written → List Dated → CivilDate → Option Formula

@@ -56,6 +56,16 @@ impl<'r, 't, 's> Simulation<'r, 't, 's> {
         }
     }
 
+    /// Whether the variable at this place has formulas, in force or not. Where it has none, no value of it comes from a formula.
+    pub fn has_formulas(&self, variable: usize) -> bool
+        ensures { result ≡ spec.has_formulas (simulation self.now).rules variable }
+    {
+        match formulas_at(self.rules, variable) {
+            [] => false,
+            [_, ..] => true,
+        }
+    }
+
     /// The formula of this variable that is in force where the key's period starts. `None` where none is, past the variable's end, for
     /// eternity, and where the variable is neutralised.
     pub fn formula(&self, variable: &Variable<'_>, key: Key) -> Option<&'r Formula>

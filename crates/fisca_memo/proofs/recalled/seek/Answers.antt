@@ -5,9 +5,20 @@ use Rattle.fisca_heights.specs.Entries.{Remembered}
 use Rattle.fisca_heights.proofs.Settled.{cycle_answer}
 use Rattle.fisca_heights.proofs.WorkDone.{stack_work}
 use Rattle.fisca_inputs.specs.Seen.{key_seen}
-use Rattle.fisca_memo.proofs.Recalls.{hit_below, hit_read, hit_tall}
-use Rattle.fisca_memo.specs.Scenes.{sources_in}
+use Rattle.fisca_memo.proofs.Recalls.{hit_below, hit_read, hit_tall, not_remembered, not_standing}
+use Rattle.fisca_sources.proofs.Origins.{no_formula}
+use Rattle.fisca_memo.specs.Scenes.{seen, sources_in}
 use Rattle.fisca_memo.proofs.recalled.seek.Goals as goal
+
+pub returns-then-not-has_formulas-clause-miss : goal.returns-then-not-has_formulas-clause-miss
+returns-then-not-has_formulas-clause-miss g c =
+    let none = no_formula (seen c.args.scene.now) (key_seen c.args.key.now) (sym c.has_formulas.ensures ∙ c.if-not-has_formulas.true) in
+    not_remembered c.args.scene.now c.args.keys.now c.args.key.now none (g.R.Recall.find c.args.recall.now) c.requires.truth
+
+pub returns-then-not-has_formulas-clause-away : goal.returns-then-not-has_formulas-clause-away
+returns-then-not-has_formulas-clause-away g c =
+    let none = no_formula (seen c.args.scene.now) (key_seen c.args.key.now) (sym c.has_formulas.ensures ∙ c.if-not-has_formulas.true) in
+    not_standing c.args.scene.now c.args.keys.now c.args.key.now none c.requires.stack
 
 pub returns-then-known-keys-clause-fault : goal.returns-then-known-keys-clause-fault
 returns-then-known-keys-clause-fault g c =

@@ -133,7 +133,18 @@ fn work_out<'r>(
             Step::Failed(fault) => return Err(told_of(fault, *key)),
             Step::Memory => return Err(EvalFault::Memory),
             Step::Needs(asked) => {
-                let value = value_below(scene, machine, keys, &asked)?;
+                // by its parts, as it was written: to read it in one piece would wait for them
+                let Key {
+                    variable,
+                    member,
+                    period,
+                } = asked;
+                let needed = Key {
+                    variable,
+                    member,
+                    period,
+                };
+                let value = value_below(scene, machine, keys, &needed)?;
                 control = machine.give(value);
             }
         }

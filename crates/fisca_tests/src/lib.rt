@@ -12,6 +12,8 @@ mod modules;
 #[cfg(test)]
 mod num;
 #[cfg(test)]
+mod program;
+#[cfg(test)]
 mod syntax;
 #[cfg(test)]
 mod time;

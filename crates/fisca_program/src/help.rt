@@ -1,0 +1,245 @@
+//! What `--help` says.
+
+pub const ABOUT: &str = "Run OpenFisca rules with exact fractions";
+
+pub const STATUSES: &str = "Exit status:
+  0  done
+  1  a test failed
+  2  the command line is wrong
+  3  a rule file, the file of the command, an axis, the condition or the position is refused
+  4  a value cannot be worked out
+  5  a file could not be read, or the output could not be written
+  6  out of memory
+
+'fisca help COMMAND' says more of a command.";
+
+pub const CHECK_ABOUT: &str = "Check the rule files of a folder";
+
+pub const CHECK_LONG: &str = "Check the rule files of a folder, and print what they hold.
+
+It reads the parameter files, parameters/**/*.yaml and .yml, and then the modules, entities.py and
+variables/**/*.py, at most 8 folders deep, each in the order of their paths, builds the rule set
+that they make together, and prints one line: entities E, variables V, parameters P. What is
+refused is told by one line on standard error: fisca: PATH:LINE: FAULT.";
+
+pub const CHECK_EXAMPLE: &str = "Example:
+  fisca check examples/household";
+
+pub const CHECK_MORE: &str = "Example:
+  fisca check examples/household
+
+FAULT is a word:
+  of a parameter file  Tab, BadIndent, DuplicateKey, BadFlow, BadQuote, Unsupported, TooDeep or
+                       TooLong (no YAML that is read); BadParameter, DuplicateName
+  of a module          Syntax, Indent, Unsupported, UnknownName, UnknownVariable, UnknownParameter,
+                       BadType, BadLevel, BadAttribute, DuplicateName, TooDeep, TooLong
+  of all files         TooManyFiles, with no path
+
+Exit status:
+  0  done
+  2  the command line is wrong
+  3  a rule file is refused
+  5  a file could not be read, or the output could not be written
+  6  out of memory";
+
+pub const CALC_ABOUT: &str = "Work out values";
+
+pub const CALC_LONG: &str =
+    "Work out values, one line each: the variable, the member, the period and the value, with tabs between them.
+
+It reads the rule files of the folder as 'fisca check' does, and then the file, a map of these keys,
+of which each may be absent:
+
+period   the period that values and columns without one have
+input    what is known of the persons and their groups
+columns  what is worked out: NAME, NAME#INDEX, NAME@PERIOD or NAME#INDEX@PERIOD, one or a list
+
+Values are exact: a number is printed as a decimal where it has one, such as 0.5, and else as a
+fraction, such as 1/3. What is refused is told by one line on standard error, such as
+fisca: PATH:LINE: FAULT, and of a value that cannot be worked out fisca: FAULT KEY, behind the lines
+of those before it.";
+
+pub const CALC_EXAMPLE: &str = "Example:
+  fisca calc examples/household examples/household/calc.yaml";
+
+pub const CALC_MORE: &str = "Example:
+  fisca calc examples/household examples/household/calc.yaml
+
+FAULT is a word:
+  of a rule file       see 'fisca check --help'
+  of the file's YAML   Tab, BadIndent, DuplicateKey, BadFlow, BadQuote, Unsupported, TooDeep, TooLong
+  of the file          BadKey, BadColumn
+  of its input         UnknownEntity, UnknownVariable, UnknownPerson, PersonTwice, RoleFull,
+                       BadValue, PeriodMismatch, InconsistentInput, TooMany
+  of a value           ZeroDivisor, TooWide, ParameterUndefined, BadScale, NoMember, PeriodOutOfRange,
+                       PeriodMismatch, Cycle, TooDeep; KEY is the variable, the member and the period
+
+Exit status:
+  0  done
+  2  the command line is wrong
+  3  a rule file or the file is refused
+  4  a value cannot be worked out
+  5  a file could not be read, or the output could not be written
+  6  out of memory";
+
+pub const TEST_ABOUT: &str = "Run tests of rules";
+
+pub const TEST_LONG: &str =
+    "Run the tests of a file, and tell of each whether it passed: ok NAME, or failed NAME and below it a
+line for each value that is not as expected. The last line is: passed P, failed F.
+
+It reads the rule files of the folder as 'fisca check' does, and then the file, a test or a list of
+tests. Each is a map of these keys, of which only output has to be there:
+
+name, description, keywords   what the test is about; one without a name is told by its number
+period                        the period that values without one have
+input                         what is known of the persons and their groups
+output                        the values that are expected
+absolute_error_margin         how far a number may be off
+relative_error_margin         how far, as a share of the expected number
+
+Where there are both margins, both hold. What is refused is told by one line on standard error,
+such as fisca: PATH:LINE: FAULT, and no test is run before all are read.";
+
+pub const TEST_EXAMPLE: &str = "Example:
+  fisca test examples/household examples/household/tests.yaml";
+
+pub const TEST_MORE: &str = "Example:
+  fisca test examples/household examples/household/tests.yaml
+
+FAULT is a word:
+  of a rule file       see 'fisca check --help'
+  of the file's YAML   Tab, BadIndent, DuplicateKey, BadFlow, BadQuote, Unsupported, TooDeep, TooLong
+  of a test            BadTest, BadOutput
+  of its input         UnknownEntity, UnknownVariable, UnknownPerson, PersonTwice, RoleFull,
+                       BadValue, PeriodMismatch, InconsistentInput, TooMany
+A value that cannot be worked out fails its test, and its word stands where the value would.
+
+Exit status:
+  0  done
+  1  a test failed
+  2  the command line is wrong
+  3  a rule file or the file of the tests is refused
+  5  a file could not be read, or the output could not be written
+  6  out of memory";
+
+pub const RUN_ABOUT: &str = "Write the lines of a grid of situations";
+
+pub const RUN_LONG: &str =
+    "Write the lines of a grid of situations, one for each position at which all conditions hold: the
+position, the values of the axes and those of the columns, with tabs between them.
+
+It reads the rule files of the folder as 'fisca check' does, and then the file, a map of these keys,
+of which only axes has to be there:
+
+axes        a list of groups, each a list of axes, each a map of name, count, min and max, and
+            perhaps period and index: a variable of numbers, how many values it has from min to
+            max, and the number of the member. The axes of a group move together; the first group
+            turns fastest
+period      the period that values, axes, columns and conditions without one have
+input       what is known of the persons and their groups
+filter      conditions, such as salary >= 500, one or a list
+columns     what is worked out: NAME, NAME#INDEX, NAME@PERIOD or NAME#INDEX@PERIOD, one or a list
+neutralize  variables that always have their default, one or a list
+
+The last line is 'end' where no position is left, and 'more P' where --rows ended the run: the same
+command with --from P writes the rest. What is refused is told by one line on standard error, such
+as fisca: PATH:LINE: FAULT, and of a value that cannot be worked out fisca: position P: FAULT KEY,
+behind the lines before it.";
+
+pub const RUN_EXAMPLE: &str = "Example:
+  fisca run examples/household examples/household/run.yaml --rows 2";
+
+pub const RUN_MORE: &str = "Example:
+  fisca run examples/household examples/household/run.yaml --rows 2
+
+FAULT is a word:
+  of a rule file       see 'fisca check --help'
+  of the file's YAML   Tab, BadIndent, DuplicateKey, BadFlow, BadQuote, Unsupported, TooDeep, TooLong
+  of the file          BadKey, BadNeutral, BadColumn, BadCondition
+  of its input         UnknownEntity, UnknownVariable, UnknownPerson, PersonTwice, RoleFull,
+                       BadValue, PeriodMismatch, InconsistentInput, TooMany
+  of its axes          NoAxes, BadCount, BadBound, CountsDiffer, TooLarge, UnknownVariable, BadIndex,
+                       PeriodMismatch, AxisOverlap
+  of a value           ZeroDivisor, TooWide, ParameterUndefined, BadScale, NoMember, PeriodOutOfRange,
+                       PeriodMismatch, Cycle, TooDeep; KEY is the variable, the member and the period
+BadPosition, with no path, says that P of --from is above the number of positions.
+
+Exit status:
+  0  done
+  2  the command line is wrong
+  3  a rule file, the file or the position is refused
+  4  a value cannot be worked out
+  5  a file could not be read, or the output could not be written
+  6  out of memory";
+
+pub const TESTS_HELP: &str = "The file of the tests";
+
+pub const RUN_FILE_HELP: &str = "The file that says the grid and what is worked out";
+
+pub const FILE_HELP: &str = "The file that says what is worked out";
+
+pub const RULES_HELP: &str = "The folder of the rule set: entities.py, variables and parameters";
+
+pub const AXES_ABOUT: &str = "List the values of axes";
+
+pub const AXES_LONG: &str =
+    "List the values of axes, one line a position: the position, and for each axis a tab and its value.
+
+The axis NAME=MIN..MAX/COUNT has the places 0 to COUNT-1. The value at place I is exactly
+MIN + I * (MAX - MIN) / (COUNT - 1), and MIN where COUNT is 1. It is printed as a decimal where
+it has one, such as 0.5, and else as a fraction, such as 1/3.
+
+The positions of several axes are all tuples of places, counted from 0, of which the first turns
+fastest.
+
+The last line is 'end' where no position is left, and 'more P' where --rows ended the list: the
+same command with --from P lists the rest.";
+
+pub const AXES_EXAMPLE: &str = "Example:
+  fisca axes salary=0..2000/5 --keep \"salary>=500\" --rows 2";
+
+pub const AXES_EXAMPLES: &str = "Examples:
+  fisca axes salary=0..1000/2 rent=500..600/2
+      lists 0 and 500, 1000 and 500, 0 and 600, 1000 and 600
+  fisca axes salary=0..2000/5
+      lists 0, 500, 1000, 1500 and 2000
+  fisca axes salary=0..2000/5 --keep \"salary>=500\" --rows 2
+      lists 500 and 1000, and ends with 'more 3'
+  fisca axes salary=0..2000/5 --keep \"salary>=500\" --from 3
+      lists the rest, 1500 and 2000
+
+Exit status:
+  0  done
+  2  the command line is wrong
+  3  refused: BadWord (no axis of that form), BadCount, BadBound, TooLarge, AxisOverlap (two axes
+     of one name), BadCondition or BadPosition
+  5  the output could not be written
+  6  out of memory";
+
+pub const AXIS_HELP: &str = "An axis, NAME=MIN..MAX/COUNT";
+
+pub const AXIS_LONG: &str =
+    "An axis, NAME=MIN..MAX/COUNT, such as salary=0..2000/5: up to 16, of 2^32 positions in all
+
+NAME   ASCII letters, digits and '_', of which the first is no digit
+MIN    the first value, a decimal number such as -0.5
+MAX    the last value
+COUNT  the number of values, 1 to 1048576
+
+MIN and MAX are at most 10^9 in size, with at most 3 decimals.";
+
+pub const KEEP_HELP: &str = "List only where an axis meets a condition, such as \"salary>=500\"";
+
+pub const KEEP_LONG: &str =
+    "List only positions where an axis's value meets a condition, such as \"salary>=500\"
+
+It is an axis's name, one of >= <= == != > < and a decimal number. Spaces may stand
+around the comparison alone. Quote it, or the shell takes > and < for redirections.";
+
+pub const FROM_HELP: &str = "Begin at this position [default: 0]";
+
+pub const FROM_LONG: &str =
+    "Begin at this position, from 0 up to the number of positions [default: 0]";
+
+pub const ROWS_HELP: &str = "End after this many lines [default: no limit]";

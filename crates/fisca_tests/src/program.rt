@@ -1,0 +1,4 @@
+//! The program's parts: command lines and folders.
+
+mod folder;
+mod task;

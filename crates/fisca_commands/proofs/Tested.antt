@@ -1,12 +1,13 @@
 -- What is known of the tests of a file once it is read: each is worked out in a situation whose inputs are of their types.
-use Rattle.std.proofs.Common.{◌≡◌, ℕ, List, Ok}
-use Rattle.std.specs.List.{All}
+use Rattle.std.proofs.Common.{◌≡◌, ◌∙◌, ℕ, List, Ok, Err, ap, subst}
 use Rattle.fisca_eval.specs.Told.{IsReady}
 use Rattle.fisca_params.specs.Source.{Source}
 use Rattle.fisca_params.specs.Tree.{TreeNode}
 use Rattle.fisca_rule_files.proofs.Built.{built}
 use Rattle.fisca_rule_files.specs.RuleFiles.{IsAccepted}
-use Rattle.std.specs.Prelude.{Option}
+use Rattle.std.specs.Prelude.{Option, Result}
+use Rattle.std.specs.Io.KnownBytes.{Appends}
+use Rattle.fisca_lines.specs.Run.{AppendsPart}
 use Rattle.fisca_rules.specs.Rules.{Rules, rules_of}
 use Rattle.fisca_rules.specs.Views.{rule_set}
 use Rattle.fisca_rules.specs.declared.rule_set.RuleSet.{RuleSet}
@@ -16,15 +17,30 @@ use Rattle.fisca_syntax.specs.Modules.{Statement}
 use Rattle.fisca_time.specs.Period.{Span}
 use Rattle.fisca_verdicts.specs.Read.{IsRead}
 use Rattle.fisca_yaml.specs.Node.{Node}
-use Rattle.fisca_commands.specs.Test.{Testing, simulation_in}
+use Rattle.fisca_verdicts.specs.Report.{IsReport, failed_of, passed_of, report_text}
+use Rattle.fisca_verdicts.specs.Tests.{Test, tests_of}
+use Rattle.fisca_verdicts.specs.declared.all.Verdict.{Verdict}
+use Rattle.fisca_refusals.specs.declared.refusal.Refusal.{Refusal}
+use Rattle.fisca_commands.specs.Test.{IsTested, IsWritten, Testing, scene_in, simulation_in}
 
--- what an evaluator needs is known of each test of a file
-pub ready : (files : List Source) (t : Testing)
+-- what an evaluator needs is known of each test that was read
+pub ready : (files : List Source) (rules : RuleSet)
     → ((nodes : List TreeNode) (ms : List (List Statement)) (r : Rules) → rules_of nodes ms ≡ Ok r → IsSafeRules r)
     → ((rules : RuleSet) → IsSafeRules (rule_set rules) → (default : Option Span) (line : ℕ) (n : Node) (s : Situation) → situation_of rules.tables default line n ≡ Ok s → InputsFit (rule_set rules) s)
-    → IsAccepted files (rule_set t.rules) → All (λ x. IsRead t.rules.tables x.situation) t.tests → All (λ x. IsReady (simulation_in t.rules x.situation)) t.tests
-ready files t safe fit accepted read =
-    let made = built files (rule_set t.rules) accepted in
-    let is_safe = safe made.0 made.1.0 (rule_set t.rules) made.1.1 in
-    λ k d less. let from = read k d less in
-    record { safe = is_safe; fit = fit t.rules is_safe from.default from.line from.input _ from.is }
+    → IsAccepted files (rule_set rules) → (s : Situation) → IsRead rules.tables s → IsReady (simulation_in rules s)
+ready files rules safe fit accepted s from =
+    let made = built files (rule_set rules) accepted in
+    let is_safe = safe made.0 made.1.0 (rule_set rules) made.1.1 in
+    record { safe = is_safe; fit = fit rules is_safe from.default from.line from.input _ from.is }
+
+-- a report that is written, or broken off, is that of the tests
+pub tested : (t : Testing) (n : Node) (verdict : Verdict) (text : List ℕ) (old new : Option (List ℕ)) (answer : Result Verdict Refusal)
+    → (h : IsReport (scene_in t.rules) (tests_of t.rules.tables n) verdict text) → h.0 ≡ t.tests → IsWritten verdict text old new answer → IsTested t old new answer
+tested t n verdict text old new (Ok v) h same w =
+    let passed = ap (λ (x : Verdict). x.passed) w.0 ∙ h.2 ∙ ap (λ ts. passed_of (scene_in t.rules) ts) same in
+    let failed = ap (λ (x : Verdict). x.failed) w.0 ∙ h.3 ∙ ap (λ ts. failed_of (scene_in t.rules) ts) same in
+    let told = h.4 ∙ ap (λ ts. report_text (scene_in t.rules) ts) same in
+    (passed, failed, subst (λ x. Appends old new x) told w.1)
+tested t n verdict text old new (Err r) h same w =
+    let told = h.4 ∙ ap (λ ts. report_text (scene_in t.rules) ts) same in
+    (w.0, subst (λ x. AppendsPart x old new) told w.1)

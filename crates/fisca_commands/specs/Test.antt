@@ -1,9 +1,10 @@
 -- What `fisca test` answers and writes.
 use Rattle.std.specs.Prelude.{◌≡◌, ◌≢◌, ◌⊎◌, ℕ, List, [], Option, Some, Result, Ok, Err}
-use Rattle.std.specs.Io.KnownBytes.{Keeps}
+use Rattle.std.specs.Io.KnownBytes.{Appends, Keeps}
 use Rattle.fisca_eval.specs.Faults.{name_of}
 use Rattle.fisca_eval.specs.Told.{told_in}
 use Rattle.fisca_eval.specs.declared.fault.EvalFault.{EvalFault}
+use Rattle.fisca_lines.specs.Run.{AppendsPart}
 use Rattle.fisca_params.specs.Source.{Source}
 use Rattle.fisca_refusals.specs.declared.refusal.Refusal.{Refusal}
 use Rattle.fisca_refusals.specs.declared.refusal.Refusal.TheVariants.{Tests, Write, Memory}
@@ -14,12 +15,11 @@ use Rattle.fisca_situations.specs.Situations.{Situation}
 use Rattle.fisca_sources.specs.Simulations.{Simulation}
 use Rattle.fisca_tables.specs.Known.{tables as known}
 use Rattle.fisca_verdicts.specs.KeyFaults.{key_told}
-use Rattle.fisca_verdicts.specs.Report.{IsReport, Scene, scene_of}
+use Rattle.fisca_verdicts.specs.Report.{Scene, failed_of, passed_of, report_text, scene_of}
 use Rattle.fisca_verdicts.specs.Tests.{Test, tests_of}
 use Rattle.fisca_verdicts.specs.declared.all.Verdict.{Verdict}
 use Rattle.fisca_verdicts.specs.declared.fault.TestFault.{TestFault}
 use Rattle.fisca_verdicts.specs.declared.fault.TestKind.TheVariants as kind
-use Rattle.fisca_verdicts.specs.declared.fault.VerdictFault.TheVariants as report
 use Rattle.fisca_yaml.specs.Grouping.{document}
 use Rattle.fisca_yaml.specs.Node.{Node}
 use Rattle.fisca_commands.specs.Yaml.{IsYamlRefused}
@@ -45,13 +45,16 @@ simulation_in rules s = record { rules = rule_set rules; situation = s; neutral 
 abbrev pub scene_in : RuleSet → Test → Scene EvalFault
 scene_in rules = scene_of (known rules.tables) (λ s. told_in (simulation_in rules s)) name_of key_told
 
--- What is answered once it is known which tests there are: how many pass and fail, and their report is written; or the sink failed, and has a
--- proper beginning of it; or memory was refused, and the sink has what is told of the first tests.
+-- this verdict is answered, and the text is written; or the sink failed, and has a proper beginning of it
+abbrev pub IsWritten : Verdict → List ℕ → Option (List ℕ) → Option (List ℕ) → Result Verdict Refusal → Type 0
+IsWritten verdict text old new (Ok answer) = (answer ≡ verdict) × Appends old new text
+IsWritten verdict text old new (Err refusal) = (refusal ≡ Write) × AppendsPart text old new
+
+-- what is answered once it is known which tests there are: how many pass and fail, and their report is written; or the sink failed
 abbrev pub IsTested : Testing → Option (List ℕ) → Option (List ℕ) → Result Verdict Refusal → Type 0
-IsTested t old new (Ok verdict) = IsReport (scene_in t.rules) t.tests old new (Ok verdict)
-IsTested t old new (Err refusal) =
-    ((refusal ≡ Write) × IsReport (scene_in t.rules) t.tests old new (Err report.Write))
-    ⊎ ((refusal ≡ Memory) × IsReport (scene_in t.rules) t.tests old new (Err report.Memory))
+IsTested t old new (Ok verdict) =
+    (verdict.passed ≡ passed_of (scene_in t.rules) t.tests) × (verdict.failed ≡ failed_of (scene_in t.rules) t.tests) × Appends old new (report_text (scene_in t.rules) t.tests)
+IsTested t old new (Err refusal) = (refusal ≡ Write) × AppendsPart (report_text (scene_in t.rules) t.tests) old new
 
 -- the tree is refused as a file of tests, or memory was refused
 abbrev pub RefusesTree : RuleSet → Node → Refusal → Type 0

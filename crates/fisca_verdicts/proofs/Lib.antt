@@ -1,4 +1,4 @@
-pub mod Parts
+mod Items
 pub mod ReadTests
 pub mod Reports
 mod Worked

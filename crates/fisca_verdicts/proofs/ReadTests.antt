@@ -1,9 +1,7 @@
--- The situation of each test was read.
-use Rattle.std.proofs.Common.{◌≡◌, ℕ, ap, subst, List, [], ◌∷◌, ◌++◌}
-use Rattle.std.specs.List.{All}
+-- The situation of a test was read.
+use Rattle.std.proofs.Common.{◌≡◌, ℕ, ap, subst}
 use Rattle.std.specs.Option.{unwrap_or}
 use Rattle.std.specs.Prelude.{codes, Result, Ok, Err}
-use Rattle.std.proofs.lemmas.List.Elements.{All-cons, All-nil, All-push}
 use Rattle.fisca_calc.specs.Calc.{default_in}
 use Rattle.fisca_inputs.proofs.Typed.{then_ok}
 use Rattle.fisca_inputs.specs.declared.fault.SituationFault.{SituationFault}
@@ -11,10 +9,10 @@ use Rattle.fisca_params.specs.Results.{and_then}
 use Rattle.fisca_situations.specs.Situations.{Situation}
 use Rattle.fisca_tables.specs.declared.tables.Tables.{Tables}
 use Rattle.fisca_yaml.specs.Find.{get, line_at}
-use Rattle.fisca_yaml.specs.Node.{Node, null, scalar, list, map, Items, no_items, item}
+use Rattle.fisca_yaml.specs.Node.{Node, null}
 use Rattle.fisca_verdicts.specs.Faults.{situation_told}
 use Rattle.fisca_verdicts.specs.Read.{IsRead}
-use Rattle.fisca_verdicts.specs.Tests.{Test, first_line, margins_in, name_in, only_test, outputs_in, shape_checked, situation_in, test_by, test_of, tests_from, tests_of}
+use Rattle.fisca_verdicts.specs.Tests.{Test, first_line, margins_in, name_in, outputs_in, shape_checked, situation_in, test_by, test_of}
 
 told_ok : {X : Type 0} (r : Result X SituationFault) (x : X) → situation_told r ≡ Ok x → r ≡ Ok x
 told_ok (Ok y) x h = let same : y ≡ x = cc in ap Ok same
@@ -35,31 +33,9 @@ same_situation c line n s t h =
     let same : record { name = name_in n; situation = s; margins = margins_in n; outputs = step.0 } ≡ t = cc in
     ap (λ (x : Test). x.situation) same
 
-test_read : (c : Tables) (line : ℕ) (n : Node) (t : Test) → test_of c line n ≡ Ok t → IsRead c t.situation
+pub test_read : (c : Tables) (line : ℕ) (n : Node) (t : Test) → test_of c line n ≡ Ok t → IsRead c t.situation
 unfolding test_of
 test_read c line n t h =
     let shape = then_ok (shape_checked line n) (λ u. and_then (situation_in c line n) (test_by c line n)) t h in
     let step = then_ok (situation_in c line n) (test_by c line n) t shape.2 in
     subst (IsRead c) (same_situation c line n step.0 t step.2) (situation_read c line n step.0 step.1)
-
-abbrev all_read : Tables → List Test → Type 0
-all_read c ts = All (λ t. IsRead c t.situation) ts
-
-items_read : (c : Tables) (so_far : List Test) (is : Items) (ts : List Test) → all_read c so_far → tests_from c so_far is ≡ Ok ts → all_read c ts
-items_read c so_far no_items ts h e = let same : so_far ≡ ts = cc in subst (all_read c) same h
-items_read c so_far (item line n is) ts h e =
-    let step = then_ok (test_of c line n) (λ t. tests_from c (so_far ++ t ∷ []) is) ts e in
-    items_read c (so_far ++ step.0 ∷ []) is ts (All-push (λ t. IsRead c t.situation) so_far step.0 h (test_read c line n step.0 step.1)) step.2
-
-only_read : (c : Tables) (n : Node) (ts : List Test) → only_test c n ≡ Ok ts → all_read c ts
-only_read c n ts e =
-    let step = then_ok (test_of c 1 n) (λ t. Ok (t ∷ [])) ts e in
-    let same : step.0 ∷ [] ≡ ts = cc in
-    subst (all_read c) same (All-cons (λ t. IsRead c t.situation) step.0 [] (test_read c 1 n step.0 step.1) (All-nil (λ t. IsRead c t.situation)))
-
-pub tests_read : (c : Tables) (n : Node) (ts : List Test) → tests_of c n ≡ Ok ts → all_read c ts
-unfolding tests_of
-tests_read c null ts e = only_read c null ts e
-tests_read c (scalar t q l) ts e = only_read c (scalar t q l) ts e
-tests_read c (list is) ts e = items_read c [] is ts (All-nil (λ t. IsRead c t.situation)) e
-tests_read c (map es) ts e = only_read c (map es) ts e

@@ -1,27 +1,19 @@
 -- The report on all tests, as far as it has come.
-use Rattle.std.proofs.Common.{◌≡◌, ◌∙◌, ℕ, ◌+◌, ◌<◌, ap, refl, sym, subst, arith, Bool, true, false, not, cond, List, [], ◌∷◌, ◌++◌, length, take, append_assoc, append-nil, count_by, add-zero}
-use Rattle.std.specs.Prelude.{Option, Err}
+use Rattle.std.proofs.Common.{◌≡◌, ◌∙◌, ℕ, ◌+◌, ap, refl, sym, arith, Bool, true, false, not, cond, List, [], ◌∷◌, ◌++◌, length, append_assoc, append-nil, count_by, add-zero}
+use Rattle.std.specs.Prelude.{Result, Ok}
 use Rattle.std.proofs.lemmas.List.{length-append}
-use Rattle.std.proofs.Math.Seq.{take-append_seam}
 use Rattle.std.proofs.lemmas.List.Sums.{sum_by-append}
-use Rattle.std.specs.Io.KnownBytes.{Appends, Keeps}
-use Rattle.fisca_lines.proofs.Grown.{trans, grown_then_kept}
-use Rattle.fisca_lines.specs.Run.{AppendsPart}
-use Rattle.fisca_verdicts.proofs.Parts.{last_behind, part_behind}
-use Rattle.fisca_verdicts.specs.Report.{Scene, IsReport, IsWritten, counted, counts_text, failed_of, passed_of, report_text, test_passes, test_text, tests_text}
+use Rattle.fisca_verdicts.specs.Report.{AreTold, IsReport, Scene, counted, counts_text, failed_of, passed_of, report_text, test_passes, test_text, tests_text}
 use Rattle.fisca_verdicts.specs.Tests.{Test}
 use Rattle.fisca_verdicts.specs.declared.all.Verdict.{Verdict}
-use Rattle.fisca_verdicts.specs.declared.fault.VerdictFault.{VerdictFault}
-use Rattle.fisca_verdicts.specs.declared.fault.VerdictFault.TheVariants as fault
+use Rattle.fisca_verdicts.specs.declared.fault.TestFault.{TestFault}
 
--- these tests are told, and those are left
-pub record Progress {F : Type 0} (scene : Test → Scene F) (all left : List Test) (v : Verdict) (old new : Option (List ℕ)) : Type 0 where
-  pub told : List Test
-  pub whole : told ++ left ≡ all
+-- these tests are told
+pub record Told {F : Type 0} (scene : Test → Scene F) (told : List Test) (v : Verdict) (old new : List ℕ) : Type 0 where
   pub number : length told ≡ v.passed + v.failed
   pub passed : v.passed ≡ passed_of scene told
   pub failed : v.failed ≡ failed_of scene told
-  pub written : Appends old new (tests_text scene 1 told)
+  pub written : new ≡ old ++ tests_text scene 1 told
 
 -- texts and counts of tests in a row
 
@@ -44,20 +36,10 @@ text_more scene ts t count h =
     ap (λ n. tests_text scene 1 ts ++ test_text scene n t) e ∙ ap (λ x. tests_text scene 1 ts ++ x) (sym (append-nil (test_text scene (1 + length ts) t)))
     ∙ sym (text_of_both scene 1 ts (t ∷ []))
 
--- How many there are
+-- None so far
 
-pub room : {F : Type 0} (scene : Test → Scene F) (all left : List Test) (v : Verdict) (old mid : Option (List ℕ)) → Progress scene all left v old mid
-    → (v.passed + v.failed) + length left ≡ length all
-room scene all left v old mid h =
-    let whole : length h.told + length left ≡ length all = sym (length-append h.told left) ∙ ap (length {A = Test}) h.whole in
-    omega (arith, whole, h.number)
-
--- so that there is room for one more
-pub below : {F : Type 0} (scene : Test → Scene F) (all rest : List Test) (t : Test) (v : Verdict) (old mid : Option (List ℕ)) (most : ℕ) → Progress scene all (t ∷ rest) v old mid
-    → length all < most → (v.passed + v.failed) + 1 < most
-below scene all rest t v old mid most h bound =
-    let all_there : (v.passed + v.failed) + length (t ∷ rest) ≡ length all = room scene all (t ∷ rest) v old mid h in
-    omega arith
+pub begun : {F : Type 0} (scene : Test → Scene F) (old : List ℕ) → Told scene [] (record { passed = 0; failed = 0 }) old old
+begun scene old = record { number = refl; passed = refl; failed = refl; written = sym (append-nil old) }
 
 -- One test more
 
@@ -73,74 +55,36 @@ counted_one : (b : Bool) (v : Verdict) → (v.passed + v.failed) + 1 ≡ (counte
 counted_one true v = omega arith
 counted_one false v = omega arith
 
-pub step : {F : Type 0} (scene : Test → Scene F) (all left : List Test) (t : Test) (v : Verdict) (old mid new : Option (List ℕ)) (b : Bool)
-    → Progress scene all (t ∷ left) v old mid → b ≡ test_passes scene t → Appends mid new (test_text scene ((v.passed + v.failed) + 1) t)
-    → Progress scene all left (counted b v) old new
-step scene all left t v old mid new b h is w =
-    let longer : length (h.told ++ t ∷ []) ≡ length h.told + 1 = length-append h.told (t ∷ []) in
-    let number : length (h.told ++ t ∷ []) ≡ (v.passed + v.failed) + 1 = omega (arith, longer, h.number) in
+pub step : {F : Type 0} (scene : Test → Scene F) (told : List Test) (t : Test) (v : Verdict) (old mid new : List ℕ) (b : Bool)
+    → Told scene told v old mid → b ≡ test_passes scene t → new ≡ mid ++ test_text scene ((v.passed + v.failed) + 1) t
+    → Told scene (told ++ t ∷ []) (counted b v) old new
+step scene told t v old mid new b h is w =
+    let longer : length (told ++ t ∷ []) ≡ length told + 1 = length-append told (t ∷ []) in
+    let number : length (told ++ t ∷ []) ≡ (v.passed + v.failed) + 1 = omega (arith, longer, h.number) in
     record {
-      told = h.told ++ t ∷ [];
-      whole = append_assoc h.told (t ∷ []) left ∙ h.whole;
       number = number ∙ counted_one b v;
-      passed = counted_passed b v ∙ ap (λ c. v.passed + cond c 1 0) is ∙ count_more (test_passes scene) h.told t v.passed h.passed;
-      failed = counted_failed b v ∙ ap (λ c. v.failed + cond (not c) 1 0) is ∙ count_more (λ x. not (test_passes scene x)) h.told t v.failed h.failed;
-      written = subst (λ text. Appends old new text) (text_more scene h.told t (v.passed + v.failed) h.number)
-          (trans old mid new (tests_text scene 1 h.told) (test_text scene ((v.passed + v.failed) + 1) t) h.written w);
+      passed = counted_passed b v ∙ ap (λ c. v.passed + cond c 1 0) is ∙ count_more (test_passes scene) told t v.passed h.passed;
+      failed = counted_failed b v ∙ ap (λ c. v.failed + cond (not c) 1 0) is ∙ count_more (λ x. not (test_passes scene x)) told t v.failed h.failed;
+      written = w ∙ ap (λ x. x ++ test_text scene ((v.passed + v.failed) + 1) t) h.written
+          ∙ append_assoc old (tests_text scene 1 told) (test_text scene ((v.passed + v.failed) + 1) t)
+          ∙ ap (λ x. old ++ x) (text_more scene told t (v.passed + v.failed) h.number);
     }
 
--- What the report is where a test is next
+-- All of them
 
-next_text : {F : Type 0} (scene : Test → Scene F) (all left : List Test) (t : Test) (v : Verdict) (old mid : Option (List ℕ)) (h : Progress scene all (t ∷ left) v old mid)
-    → report_text scene all
-    ≡ tests_text scene 1 h.told ++ (test_text scene ((v.passed + v.failed) + 1) t ++ (tests_text scene (((v.passed + v.failed) + 1) + 1) left ++ counts_text (passed_of scene all) (failed_of scene all)))
-next_text scene all left t v old mid h =
-    let counts = counts_text (passed_of scene all) (failed_of scene all) in
-    let e : 1 + length h.told ≡ (v.passed + v.failed) + 1 = omega (arith, h.number) in
-    ap (λ ts. tests_text scene 1 ts ++ counts) (sym h.whole)
-    ∙ ap (λ x. x ++ counts) (text_of_both scene 1 h.told (t ∷ left) ∙ ap (λ n. tests_text scene 1 h.told ++ tests_text scene n (t ∷ left)) e)
-    ∙ append_assoc (tests_text scene 1 h.told) (tests_text scene ((v.passed + v.failed) + 1) (t ∷ left)) counts
-    ∙ ap (λ x. tests_text scene 1 h.told ++ x) (append_assoc (test_text scene ((v.passed + v.failed) + 1) t) (tests_text scene (((v.passed + v.failed) + 1) + 1) left) counts)
+pub all_told : {F : Type 0} (scene : Test → Scene F) (outcome : Result (List Test) TestFault) (ts : List Test) (v : Verdict) (old new : List ℕ)
+    → outcome ≡ Ok ts → Told scene ts v old new → AreTold scene outcome old new v
+all_told scene outcome ts v old new is h = (ts, is, h.passed, h.failed, h.written)
 
-take_told : (told left all : List Test) → told ++ left ≡ all → take (length told) all ≡ told
-take_told told left all h = ap (take (length told)) (sym h) ∙ take-append_seam told left
-
--- memory ran out after these tests
-pub cut_off : {F : Type 0} (scene : Test → Scene F) (all left : List Test) (v : Verdict) (old mid new : Option (List ℕ))
-    → Progress scene all left v old mid → Keeps mid new → IsReport scene all old new (Err fault.Memory)
-cut_off scene all left v old mid new h kept =
-    (length h.told, subst (λ ts. Appends old new (tests_text scene 1 ts)) (sym (take_told h.told left all h.whole)) (grown_then_kept old mid new (tests_text scene 1 h.told) h.written kept))
-
-pub stopped : {F : Type 0} (scene : Test → Scene F) (all left : List Test) (t : Test) (v : Verdict) (old mid new : Option (List ℕ)) (e : VerdictFault) (b : Bool)
-    → Progress scene all (t ∷ left) v old mid → IsWritten b (test_text scene ((v.passed + v.failed) + 1) t) mid new (Err e) → IsReport scene all old new (Err e)
-stopped scene all left t v old mid new fault.Write b h w =
-    subst (λ text. AppendsPart text old new) (sym (next_text scene all left t v old mid h)) (part_behind old mid new (tests_text scene 1 h.told) (test_text scene ((v.passed + v.failed) + 1) t) _ h.written w)
-stopped scene all left t v old mid new fault.Memory b h w = cut_off scene all (t ∷ left) v old mid new h w
-
--- Where no test is left
-
-pub none_left : {X : Type 0} (xs : List X) → length xs ≡ 0 → xs ≡ []
-none_left [] h = refl
-none_left (x ∷ xs) h = absurd (omega arith)
-
-all_told : {F : Type 0} (scene : Test → Scene F) (all : List Test) (v : Verdict) (old mid : Option (List ℕ)) (h : Progress scene all [] v old mid) → h.told ≡ all
-all_told scene all v old mid h = sym (append-nil h.told) ∙ h.whole
-
-all_passed : {F : Type 0} (scene : Test → Scene F) (all : List Test) (v : Verdict) (old mid : Option (List ℕ)) → Progress scene all [] v old mid → v.passed ≡ passed_of scene all
-all_passed scene all v old mid h = h.passed ∙ ap (passed_of scene) (all_told scene all v old mid h)
-
-all_failed : {F : Type 0} (scene : Test → Scene F) (all : List Test) (v : Verdict) (old mid : Option (List ℕ)) → Progress scene all [] v old mid → v.failed ≡ failed_of scene all
-all_failed scene all v old mid h = h.failed ∙ ap (failed_of scene) (all_told scene all v old mid h)
-
-last_text : {F : Type 0} (scene : Test → Scene F) (all : List Test) (v : Verdict) (old mid : Option (List ℕ)) (h : Progress scene all [] v old mid)
-    → tests_text scene 1 h.told ++ counts_text v.passed v.failed ≡ report_text scene all
-last_text scene all v old mid h =
-    ap (λ ts. tests_text scene 1 ts ++ counts_text v.passed v.failed) (all_told scene all v old mid h)
-    ∙ ap (λ n. tests_text scene 1 all ++ counts_text n v.failed) (all_passed scene all v old mid h)
-    ∙ ap (λ n. tests_text scene 1 all ++ counts_text (passed_of scene all) n) (all_failed scene all v old mid h)
-
-pub stopped_last : {F : Type 0} (scene : Test → Scene F) (all : List Test) (v : Verdict) (old mid new : Option (List ℕ)) (e : VerdictFault)
-    → Progress scene all [] v old mid → IsWritten {X = Unit {0}} tt (counts_text v.passed v.failed) mid new (Err e) → IsReport scene all old new (Err e)
-stopped_last scene all v old mid new fault.Write h w =
-    subst (λ text. AppendsPart text old new) (last_text scene all v old mid h) (last_behind old mid new (tests_text scene 1 h.told) (counts_text v.passed v.failed) h.written w)
-stopped_last scene all v old mid new fault.Memory h w = cut_off scene all [] v old mid new h w
+-- and last the counts
+pub reported : {F : Type 0} (scene : Test → Scene F) (outcome : Result (List Test) TestFault) (v : Verdict) (mid new : List ℕ)
+    → AreTold scene outcome [] mid v → new ≡ mid ++ counts_text v.passed v.failed → IsReport scene outcome v new
+reported scene outcome v mid new h w =
+    let ts = h.0 in (
+      ts,
+      h.1,
+      h.2,
+      h.3,
+      w ∙ ap (λ x. x ++ counts_text v.passed v.failed) h.4 ∙ ap (λ n. tests_text scene 1 ts ++ counts_text n v.failed) h.2
+          ∙ ap (λ n. tests_text scene 1 ts ++ counts_text (passed_of scene ts) n) h.3,
+    )

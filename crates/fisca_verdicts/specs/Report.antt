@@ -1,12 +1,10 @@
 -- What `fisca test` prints: for each test whether it passed, with a line for each output that failed, and last how many passed and failed.
-use Rattle.std.specs.Prelude.{◌≡◌, ℕ, ◌+◌, List, [], ◌∷◌, ◌++◌, count_by, take, Bool, true, false, not, if◌then◌else◌, Option, Some, None, Result, Ok, Err, codes}
+use Rattle.std.specs.Prelude.{◌≡◌, ℕ, ◌+◌, List, [], ◌∷◌, ◌++◌, count_by, Bool, true, false, not, if◌then◌else◌, Option, Some, None, Result, Ok, codes}
 use Rattle.std.specs.Fmt.{decimal}
-use Rattle.std.specs.Io.KnownBytes.{Appends, Keeps}
 use Rattle.std.specs.List.{flat_map, list_all}
 use Rattle.fisca_columns.specs.Texts.{key_text, value_text}
 use Rattle.fisca_inputs.specs.declared.given.Value.{Value}
 use Rattle.fisca_inputs.specs.declared.key.Key.{Key}
-use Rattle.fisca_lines.specs.Run.{AppendsPart}
 use Rattle.fisca_members.specs.declared.entity_members.EntityMembers.{EntityMembers}
 use Rattle.fisca_outputs.specs.Outputs.{Output}
 use Rattle.fisca_situations.specs.Situations.{Situation}
@@ -14,8 +12,7 @@ use Rattle.fisca_typing.specs.Tables.{Tables}
 use Rattle.fisca_verdicts.specs.Tests.{Test}
 use Rattle.fisca_verdicts.specs.Verdicts.{is_passed, outcome_of}
 use Rattle.fisca_verdicts.specs.declared.all.Verdict.{Verdict}
-use Rattle.fisca_verdicts.specs.declared.fault.VerdictFault.{VerdictFault}
-use Rattle.fisca_verdicts.specs.declared.fault.VerdictFault.TheVariants as fault
+use Rattle.fisca_verdicts.specs.declared.fault.TestFault.{TestFault}
 use Rattle.fisca_verdicts.specs.declared.margins.Margins.{Margins}
 use Rattle.fisca_verdicts.specs.declared.outcome.Outcome.{Outcome}
 use Rattle.fisca_verdicts.specs.declared.outcome.Outcome.TheVariants.{Passed, Missed, TooWide, Faulted}
@@ -124,21 +121,14 @@ counted false v = record { passed = v.passed; failed = v.failed + 1 }
 abbrev pub report_text : {F : Type 0} → (Test → Scene F) → List Test → List ℕ
 report_text scene ts = tests_text scene 1 ts ++ counts_text (passed_of scene ts) (failed_of scene ts)
 
--- What is answered
+-- What is told
 
--- the text is written, and this is answered; or the sink failed, and has a proper beginning of it; or memory ran out before any of it
-abbrev pub IsWritten : {X : Type 0} → X → List ℕ → Option (List ℕ) → Option (List ℕ) → Result X VerdictFault → Type 0
-IsWritten answer text old new (Ok x) = (x ≡ answer) × Appends old new text
-IsWritten answer text old new (Err fault.Write) = AppendsPart text old new
-IsWritten answer text old new (Err fault.Memory) = Keeps old new
+-- the tests that this outcome has are told behind what was there, and so many pass and fail
+abbrev pub AreTold : {F : Type 0} → (Test → Scene F) → Result (List Test) TestFault → List ℕ → List ℕ → Verdict → Type 0
+AreTold scene outcome old new v =
+    (ts : List Test) × (outcome ≡ Ok ts) × (v.passed ≡ passed_of scene ts) × (v.failed ≡ failed_of scene ts) × (new ≡ old ++ tests_text scene 1 ts)
 
--- the same of all tests, of which the first may have been told where memory ran out
-abbrev pub IsReport : {F : Type 0} → (Test → Scene F) → List Test → Option (List ℕ) → Option (List ℕ) → Result Verdict VerdictFault → Type 0
-IsReport scene ts old new (Ok v) = (v.passed ≡ passed_of scene ts) × (v.failed ≡ failed_of scene ts) × Appends old new (report_text scene ts)
-IsReport scene ts old new (Err fault.Write) = AppendsPart (report_text scene ts) old new
-IsReport scene ts old new (Err fault.Memory) = (count : ℕ) × Appends old new (tests_text scene 1 (take count ts))
-
-abbrev pub is_write : {X : Type 0} → Result X VerdictFault → Bool
-is_write (Ok x) = false
-is_write (Err fault.Write) = true
-is_write (Err fault.Memory) = false
+-- the same of the whole report
+abbrev pub IsReport : {F : Type 0} → (Test → Scene F) → Result (List Test) TestFault → Verdict → List ℕ → Type 0
+IsReport scene outcome v text =
+    (ts : List Test) × (outcome ≡ Ok ts) × (v.passed ≡ passed_of scene ts) × (v.failed ≡ failed_of scene ts) × (text ≡ report_text scene ts)

@@ -1,4 +1,4 @@
-//! Why tests are refused, and what stops their report.
+//! Why tests are refused.
 
 ghost use Rattle.std.specs.Prelude.{◌≡◌};
 ghost use Rattle.fisca_verdicts.specs.Faults as spec;
@@ -56,17 +56,6 @@ pub struct TestFault {
     pub line: usize,
     /// What the fault is.
     pub kind: TestKind,
-}
-
-/// What stops the report on a test.
-#[derive(Clone, Copy, Debug, PartialEq, Eq, Error)]
-pub enum VerdictFault {
-    /// 1: the sink failed. It has a proper beginning of the text.
-    #[error("Write")]
-    Write = 1,
-    /// 2: memory was refused. Nothing of the text was handed over.
-    #[error("Memory")]
-    Memory = 2,
 }
 
 /// The kind of a fault of a situation.

@@ -15,14 +15,13 @@ mod scenes;
 mod test;
 mod tests;
 
-pub use all::{Verdict, write_report};
+pub use all::{Report, Verdict};
 pub use comparing::passes;
-pub use fault::{TestFault, TestKind, VerdictFault};
+pub use fault::{TestFault, TestKind};
 pub use key_fault::KeyFault;
 pub use law::situations_are_read;
 pub use margins::Margins;
 pub use outcome::Outcome;
-pub use report::{write_counts, write_verdict};
 pub use scenes::Scenes;
 pub use test::Test;
-pub use tests::Tests;
+pub use tests::report_on;

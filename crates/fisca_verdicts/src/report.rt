@@ -1,21 +1,19 @@
 //! What is told of tests.
 
 ghost use Rattle.std.specs.Prelude.{◌≡◌, ◌++◌, string_bytes, option_map, IfOk, OnOk};
-ghost use Rattle.fisca_lines.specs.Sink.{CountsFailure};
 ghost use Rattle.fisca_situations.specs.Views.{situation as situation_view};
 ghost use Rattle.fisca_tables.specs.Known.{tables as known};
 ghost use Rattle.fisca_verdicts.specs.Report as spec;
 ghost use Rattle.fisca_verdicts.specs.Verdicts.{outcome_of as outcome_spec};
 
 use crate::comparing::outcome_of;
-use crate::fault::VerdictFault;
 use crate::key_fault::KeyFault;
 use crate::lines::write_outcome;
 use crate::margins::Margins;
 use crate::outcome::Outcome;
 use fisca_calc::Answers;
 use fisca_inputs::{Key, Value};
-use fisca_lines::{RowFault, RowSink, hand_over};
+use fisca_lines::RowFault;
 use fisca_outputs::Outputs;
 use fisca_tables::Tables;
 use std::alloc::{AllocError, Global};
@@ -112,108 +110,44 @@ fn write_head(
     line.push('\n')
 }
 
-/// Works out a test. Whether it passed, and what is told of it.
-fn verdict_of<F: KeyFault + Drop, A: Answers<Fault = F>>(
+/// Works out a test, the one at `number` counted from 1, and appends what is told of it: `ok` and its name where all its outputs pass, else `failed` and
+/// its name, and a line for each output that failed, with its key and why. A test without a name is `test` and its number. Whether it passed is
+/// answered. `AllocError` only where memory was refused. This project's own rule.
+pub(crate) fn write_verdict<F: KeyFault + Drop, A: Answers<Fault = F>>(
     alloc: Global,
     tables: &Tables<'_>,
     number: u64,
     name: Option<&str>,
-    margins: Margins,
+    margins: &Margins,
     outputs: &Outputs,
     answers: &mut A,
-) -> Result<(bool, String), AllocError>
+    text: &mut String,
+) -> Result<bool, AllocError>
     requires { A.ready answers.old }
-    ensures passed { IfOk result (λ v. v.0 ≡ spec.passes (spec.scene (known tables.now) (A.members answers.old) (A.answer answers.old) F.fault_name F.fault_key) margins outputs.now) }
-    ensures text { IfOk result (λ v. string_bytes v.1 ≡ spec.verdict_text (spec.scene (known tables.now) (A.members answers.old) (A.answer answers.old) F.fault_name F.fault_key) number (option_map (λ t. t.now) name.entry) margins outputs.now) }
-    ensures ready { A.ready answers.new }
-    ensures same_answers { A.answer answers.new ≡ A.answer answers.old }
-    ensures same_members { A.members answers.new ≡ A.members answers.old }
+    ensures passed { IfOk result (λ b. b ≡ spec.passes (spec.scene (known tables.now) (A.members answers.old) (A.answer answers.old) F.fault_name F.fault_key) margins.now outputs.now) }
+    ensures text { OnOk result (string_bytes text.new ≡ string_bytes text.old ++ spec.verdict_text (spec.scene (known tables.now) (A.members answers.old) (A.answer answers.old) F.fault_name F.fault_key) number (option_map (λ t. t.now) name.entry) margins.now outputs.now) }
 {
     let mut lines = String::new(alloc);
     let passed = write_outputs(
         alloc,
         tables,
-        &margins,
+        margins,
         outputs.as_slice(),
         answers,
         &mut lines,
     )?;
-    let mut text = String::new(alloc);
-    write_head(passed, number, name, &mut text)?;
+    write_head(passed, number, name, text)?;
     text.push_str(lines.as_str())?;
-    Ok((passed, text))
+    Ok(passed)
 }
 
-/// Works out a test, the one at `number` counted from 1, and writes what is told of it into a sink: `ok` and its name where all its outputs
-/// pass, else `failed` and its name, and a line for each output that failed, with its key and why. A test without a name is `test` and its
-/// number. The outputs are all worked out before any of the text is handed over. Whether it passed is answered; what answers keys stays ready, with the
-/// answers and the members that it had.
-///
-/// - `Write` only where the sink failed in this call: it has a proper beginning of the text.
-/// - `Memory` only where memory was refused: the sink has nothing of the text.
-///
-/// This project's own rule.
-pub fn write_verdict<F: KeyFault + Drop, A: Answers<Fault = F>, S: RowSink>(
-    alloc: Global,
-    tables: &Tables<'_>,
-    number: u64,
-    name: Option<&str>,
-    margins: Margins,
-    outputs: &Outputs,
-    answers: &mut A,
-    sink: &mut S,
-) -> Result<bool, VerdictFault>
-    requires { A.ready answers.old }
-    ensures written { spec.IsWritten (spec.passes (spec.scene (known tables.now) (A.members answers.old) (A.answer answers.old) F.fault_name F.fault_key) margins outputs.now)
-        (spec.verdict_text (spec.scene (known tables.now) (A.members answers.old) (A.answer answers.old) F.fault_name F.fault_key) number (option_map (λ t. t.now) name.entry) margins outputs.now)
-        (S.taken sink.old) (S.taken sink.new) result }
-    ensures failures { CountsFailure (spec.is_write result) (S.failures sink.old) (S.failures sink.new) }
-    ensures ready { A.ready answers.new }
-    ensures same_answers { A.answer answers.new ≡ A.answer answers.old }
-    ensures same_members { A.members answers.new ≡ A.members answers.old }
+/// Appends the last line of a report: `passed P, failed F`.
+pub(crate) fn write_counts(passed: u64, failed: u64, text: &mut String) -> Result<(), AllocError>
+    ensures { OnOk result (string_bytes text.new ≡ string_bytes text.old ++ spec.counts_text passed failed) }
 {
-    match verdict_of(alloc, tables, number, name, margins, outputs, answers) {
-        Ok((passed, text)) => match hand_over(sink, text.as_bytes()) {
-            Ok(()) => Ok(passed),
-            Err(_) => Err(VerdictFault::Write),
-        },
-        Err(_) => Err(VerdictFault::Memory),
-    }
-}
-
-/// The last line of a report.
-fn counts_text(alloc: Global, passed: u64, failed: u64) -> Result<String, AllocError>
-    ensures { IfOk result (λ t. string_bytes t ≡ spec.counts_text passed failed) }
-{
-    let mut line = String::new(alloc);
-    line.push_str("passed ")?;
-    line.push_str(itoa::Buffer::new().format(passed))?;
-    line.push_str(", failed ")?;
-    line.push_str(itoa::Buffer::new().format(failed))?;
-    line.push('\n')?;
-    Ok(line)
-}
-
-/// Writes the last line of a report into a sink: `passed P, failed F`.
-///
-/// - `Write` only where the sink failed in this call: it has a proper beginning of the line.
-/// - `Memory` only where memory was refused: the sink has nothing of the line.
-///
-/// This project's own rule.
-pub fn write_counts<S: RowSink>(
-    alloc: Global,
-    passed: u64,
-    failed: u64,
-    sink: &mut S,
-) -> Result<(), VerdictFault>
-    ensures written { spec.IsWritten tt (spec.counts_text passed failed) (S.taken sink.old) (S.taken sink.new) result }
-    ensures failures { CountsFailure (spec.is_write result) (S.failures sink.old) (S.failures sink.new) }
-{
-    match counts_text(alloc, passed, failed) {
-        Ok(line) => match hand_over(sink, line.as_bytes()) {
-            Ok(()) => Ok(()),
-            Err(_) => Err(VerdictFault::Write),
-        },
-        Err(_) => Err(VerdictFault::Memory),
-    }
+    text.push_str("passed ")?;
+    text.push_str(itoa::Buffer::new().format(passed))?;
+    text.push_str(", failed ")?;
+    text.push_str(itoa::Buffer::new().format(failed))?;
+    text.push('\n')
 }

@@ -1,13 +1,12 @@
-use Rattle.std.proofs.Common.{◌≡◌, ◌∙◌, false, cond, inl, inr, Err, ap, sym, rules}
+use Rattle.std.proofs.Common.{◌≡◌, ◌∙◌, false, cond, inl, inr, Err, ap, refl, sym, rules}
 use Rattle.std.proofs.lemmas.Result.{err_from_is_err_and}
 use Rattle.std.specs.Io.KnownBytes.{Keeps}
 use Rattle.fisca_lines.specs.Sink.{one_more}
 use Rattle.fisca_refusals.specs.Refusal.{is_write}
-use Rattle.fisca_verdicts.specs.Views.{tests_view}
 use Rattle.fisca_yaml.specs.Views.{node}
 use Rattle.fisca_commands.specs.Test.{Testing}
 use Rattle.fisca_commands.proofs.Telling.{tests_unwritten, yaml_unwritten}
-use Rattle.fisca_commands.proofs.Tested.{ready}
+use Rattle.fisca_commands.proofs.Tested.{ready, tested}
 use Rattle.fisca_commands.proofs.test.test_rules.Goals as goal
 
 pub returns-in_err-rules-clause-answer : goal.returns-in_err-rules-clause-answer
@@ -28,25 +27,26 @@ returns-in_err-tree-clause-failures g c =
     let unwritten : is_write c.from_residual-in_err-tree.result ≡ false = ap is_write (told.1 ∙ ap Err told.2) ∙ yaml_unwritten c.args.text.now c.in_err-tree.field-0.0 c.in_err-tree.ensures.err in
     ap (λ failed. cond failed (one_more (g.S.RowSink.failures c.args.sink.now)) (g.S.RowSink.failures c.args.sink.now)) (sym unwritten)
 
-pub returns-in_err-tests-clause-answer : goal.returns-in_err-tests-clause-answer
-returns-in_err-tests-clause-answer g c =
-    let told = err_from_is_err_and c.from_residual-in_err-tests.result c.from_residual-in_err-tests.ensures.1 in
+pub returns-in_err-report-clause-answer : goal.returns-in_err-report-clause-answer
+returns-in_err-report-clause-answer g c =
+    let told = err_from_is_err_and c.from_residual-in_err-report.result c.from_residual-in_err-report.ensures.1 in
     let keeps : Keeps (g.S.RowSink.taken c.args.sink.now) (g.S.RowSink.taken c.args.sink.now) = search rules in
-    inl (c.in_err-tests.field-0.0, told.1 ∙ ap Err told.2, inr (c.in_ok-rules.rules, c.in_ok-rules.ensures.ok, inr (node c.in_ok-tree.tree, c.in_ok-tree.ensures.ok, c.in_err-tests.ensures.err)), keeps)
+    inl (c.in_err-report.field-0.0, told.1 ∙ ap Err told.2, inr (c.in_ok-rules.rules, c.in_ok-rules.ensures.ok, inr (node c.in_ok-tree.tree, c.in_ok-tree.ensures.ok, c.in_err-report.ensures.err)), keeps)
 
-pub returns-in_err-tests-clause-failures : goal.returns-in_err-tests-clause-failures
-returns-in_err-tests-clause-failures g c =
-    let told = err_from_is_err_and c.from_residual-in_err-tests.result c.from_residual-in_err-tests.ensures.1 in
-    let unwritten : is_write c.from_residual-in_err-tests.result ≡ false = ap is_write (told.1 ∙ ap Err told.2) ∙ tests_unwritten c.in_ok-rules.rules (node c.in_ok-tree.tree) c.in_err-tests.field-0.0 c.in_err-tests.ensures.err in
+pub returns-in_err-report-clause-failures : goal.returns-in_err-report-clause-failures
+returns-in_err-report-clause-failures g c =
+    let told = err_from_is_err_and c.from_residual-in_err-report.result c.from_residual-in_err-report.ensures.1 in
+    let unwritten : is_write c.from_residual-in_err-report.result ≡ false = ap is_write (told.1 ∙ ap Err told.2) ∙ tests_unwritten c.in_ok-rules.rules (node c.in_ok-tree.tree) c.in_err-report.field-0.0 c.in_err-report.ensures.err in
     ap (λ failed. cond failed (one_more (g.S.RowSink.failures c.args.sink.now)) (g.S.RowSink.failures c.args.sink.now)) (sym unwritten)
 
-pub write_tests-requires : goal.write_tests-requires
-write_tests-requires g c =
-    let testing : Testing = record { rules = c.in_ok-rules.rules; tests = tests_view c.in_ok-tests.tests.items.items } in
-    ready c.args.files.now testing c.rule_sets_are_safe.ensures c.inputs_fit.ensures c.in_ok-rules.ensures.ok
-    (c.situations_are_read.ensures testing.rules.tables (node c.in_ok-tree.tree) testing.tests c.in_ok-tests.ensures.ok)
+pub report_of-requires : goal.report_of-requires
+report_of-requires g c line n t read =
+    ready c.args.files.now c.in_ok-rules.rules c.rule_sets_are_safe.ensures c.inputs_fit.ensures c.in_ok-rules.ensures.ok t.situation
+    (c.situations_are_read.ensures c.in_ok-rules.rules.tables line n t read)
 
 pub returns-clause-answer : goal.returns-clause-answer
 returns-clause-answer g c =
-    let testing : Testing = record { rules = c.in_ok-rules.rules; tests = tests_view c.in_ok-tests.tests.items.items } in
-    inr (testing, (c.in_ok-rules.ensures.ok, (node c.in_ok-tree.tree, c.in_ok-tree.ensures.ok, c.in_ok-tests.ensures.ok)), c.write_tests.ensures.answer)
+    let report = c.in_ok-report.ensures.report in
+    let testing : Testing = record { rules = c.in_ok-rules.rules; tests = report.0 } in
+    let is = tested testing (node c.in_ok-tree.tree) _ _ _ _ _ report refl c.write_report.ensures.written in
+    inr (testing, (c.in_ok-rules.ensures.ok, (node c.in_ok-tree.tree, c.in_ok-tree.ensures.ok, report.1)), is)

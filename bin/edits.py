@@ -1,16 +1,18 @@
 #!/usr/bin/env python3
 """bin/edits.py [NAME..]: tries the must-fail edits of these crates, or of all.
 
-A must-fail edit, crates/NAME/must-fail/*.edit, puts a wrong body in place of a right one, and the prover has to refuse the crate
-with it, since a clause of a contract fails. First these crates are checked as they stand, over what earlier checks of this checkout
-keep in out/. Then the edits are tried in copies of their crates, over that work, several side by side: so each costs what it
-changes, and not a proof from nothing. A line tells of each edit, and the last one counts them.
+A must-fail edit, crates/NAME/must-fail/*.edit, puts a wrong body in place of a right one. The prover has to refuse the very function
+that the edit changes, by a clause of its own, and not because a name is gone. First these crates are checked as they stand, which
+builds the libraries below them. Then the edits are tried in copies of their crates over these libraries.
 
-Edits of different functions are tried in one check: what a function promises stays the same under an edit of a body, so whether
-another function is proved does not hang on it. Such a check has to say of the very function that an edit changes that it is not
-proved, and by a clause of its own; where it says anything else, the edit is tried alone.
+A check of an edit asks for the function that it changes and for what that calls, and leaves the rest of the crate alone. Edits of
+different functions are tried in one check: what a function promises stays the same under an edit of a body, so whether another
+function is proved does not hang on it. Where such a check does not say of the very function that it is not proved, the edit is tried
+again with fewer beside it, and at last alone. An edit outside of functions, as of a constant, is tried alone on the whole crate. A line
+tells of each edit, and the last one counts them.
 """
 import concurrent.futures
+import importlib
 import os
 import pathlib
 import re
@@ -23,11 +25,13 @@ import time
 TOP = pathlib.Path(__file__).resolve().parent.parent
 RT = TOP / "bin" / "rt"
 PROVED = ("src", "specs", "proofs")
-# the edits of a crate that are tried in one copy of it
-AT_ONCE = 30
+# the bytes of memory that a check of edits may take
+MEMORY = 4 << 30
 # what a proof file says that only names what an edit took away
 NAMES_ALONE = re.compile(r"(\./)?proofs/.*(has no field|is not in scope|has no `|was not admitted)")
 SAID = re.compile(r"(note: )?\S+:\d+:\d+:")
+# what it says of a function that it refuses: it is known not to be proved, or goals are left that need answers
+REFUSED = re.compile(r": (not proved|no proof: expected answers in )")
 HEAD = re.compile(r"^( *)(?:pub(?:\(\w+\))? )?fn (\w+)", re.M)
 IMPL = re.compile(r"^impl(?:<[^>]*>)? (?:(\w+)\S* for )?(\w+)", re.M)
 
@@ -58,15 +62,16 @@ def edits_of(name):
     return sorted((TOP / "crates" / name / "must-fail").glob("*.edit"))
 
 
-def function_at(path, text, at):
-    """How the prover's name of the function ends in whose body a place of a file's text lies, if it lies in one. The name of a
-    function that stands alone has its module's name before it, that of a method its type's, with the trait's behind it."""
+def function_at(path, text, at, is_longer):
+    """How the prover's name of the function ends in whose body a place of a file's text lies, or before whose body, where the text there only
+    grows longer; None for another place. The name of a function that stands alone has its module's name before it, that of a method its
+    type's, with the trait's behind it."""
     heads = list(HEAD.finditer(text, 0, at))
     if not heads:
         return None
     indent, name = heads[-1].groups()
     body = re.compile(rf"^{indent}(?:\{{.*\}}$|(?:\{{|\S.* \{{)$(?:\n(?!{indent}\}}).*)*)", re.M).search(text, heads[-1].start())
-    if not body or not body.start() <= at <= body.end():
+    if not body or at > body.end() or at < body.start() and not is_longer:
         return None
     impls = list(IMPL.finditer(text, 0, at)) if indent else []
     module = "::".join(it for it in path.removeprefix("src/").removesuffix(".rt").split("/") if it != "lib")
@@ -89,47 +94,93 @@ def changes(edit, folder):
         elif line.startswith("new:"):
             if path is None or old is None or texts[path].count(old) != 1:
                 raise ValueError(f"its text 'old: {old}' does not stand once in {path}")
-            functions.add(function_at(path, texts[path], texts[path].index(old)))
-            texts[path] = texts[path].replace(old, line.removeprefix("new:").removeprefix(" "))
+            new = line.removeprefix("new:").removeprefix(" ")
+            functions.add(function_at(path, texts[path], texts[path].index(old), new.startswith(old)))
+            texts[path] = texts[path].replace(old, new)
             old = None
     if not texts:
         raise ValueError("it changes nothing")
     return texts, functions
 
 
-def edited(edit, folder):
-    """The texts of the files that an edit changes, by their paths in the crate."""
-    return changes(edit, folder)[0]
+def restore(folder, kept):
+    """Puts texts of files back."""
+    for path, text in kept.items():
+        (folder / path).write_text(text)
 
 
-def copied(name, known, top, room):
-    """Copies a crate, with what its checks keep, and the built libraries that it stands on into a room. Answers its folder."""
-    lower = below(name, known)
-    for it in [name, *lower]:
+class Checks:
+    """Checks of a crate in a copy of it, over the libraries that are built below a folder."""
+
+    def __init__(self, name, top, room):
+        self.folder = room
         for part in PROVED:
-            if (top / "crates" / it / part).is_dir():
-                shutil.copytree(top / "crates" / it / part, room / "crates" / it / part)
-    for it in lower:
-        # (a built library is read here, and a new one is never written into the old files)
-        shutil.copytree(top / "crates" / it / "out" / "rlib", room / "crates" / it / "out" / "rlib", copy_function=os.link)
-    folder = room / "crates" / name
-    shutil.copytree(top / "crates" / name / "out" / "incremental", folder / "out" / "incremental", symlinks=True)
-    (room / "crates.txt").write_text("".join(f"{known[it][1]}\n" for it in known if it in lower or it == name))
-    shutil.copy(top / "HANDLES", room / "HANDLES")
-    return folder
+            if (TOP / "crates" / name / part).is_dir():
+                shutil.copytree(TOP / "crates" / name / part, self.folder / part)
+        # the toolchain's own words for a check of the crate
+        tools = os.path.dirname(os.path.realpath(shutil.which("rt")))
+        if tools not in sys.path:
+            sys.path.append(tools)
+        rtlib = importlib.import_module("rtlib")
+        home = str(top / "crates" / name)
+        self.words = [rtlib.RATTLE, "check", *rtlib.Crate(home, rtlib.root_above(home), {}).words(["--jobs", "1"], keeps=False, as_source=False)]
 
+    def check(self, functions):
+        """Checks these functions, or all where there are none. Answers the status, and the lines that it wrote."""
+        only = [word for it in functions for word in ("--only", it.removeprefix("::"))]
+        run = subprocess.run([*self.words, *only], cwd=self.folder, stdin=subprocess.DEVNULL, stdout=subprocess.PIPE, stderr=subprocess.STDOUT, text=True, errors="replace")
+        return run.returncode, run.stdout.splitlines()
 
-def check(folder):
-    """Checks a crate. Answers the status, and the lines that it wrote."""
-    run = subprocess.run([RT, "check", "--jobs", "1"], cwd=folder, stdin=subprocess.DEVNULL, stdout=subprocess.PIPE, stderr=subprocess.STDOUT, text=True, errors="replace")
-    return run.returncode, run.stdout.splitlines()
+    def side_by_side(self, edits):
+        """Puts edits of functions that differ into the copy, those that fit beside one another. Answers them by function, and the texts
+        that stood there."""
+        some, kept = {}, {}
+        for edit in edits:
+            try:
+                texts, functions = changes(edit, self.folder)
+            except (OSError, ValueError):
+                continue
+            function = min(functions, key=str)
+            if len(functions) == 1 and function and function not in some:
+                some[function] = edit
+                for path, text in texts.items():
+                    kept.setdefault(path, (self.folder / path).read_text())
+                    (self.folder / path).write_text(text)
+        return some, kept
+
+    def together(self, edits):
+        """Tries edits of functions that differ in one check. Answers how many, and what the check said of each that it surely refused."""
+        some, kept = self.side_by_side(edits)
+        try:
+            lines = self.check(some)[1] if some else []
+        finally:
+            restore(self.folder, kept)
+        return len(some), {edit: line for function, edit in some.items() if (line := refused_for(function, lines))}
+
+    def alone(self, edit):
+        """Tries one edit. Answers whether it was refused, and what to say of it."""
+        try:
+            texts, functions = changes(edit, self.folder)
+        except (OSError, ValueError) as error:
+            return False, f"BAD EDIT: {error}"
+        kept = {path: (self.folder / path).read_text() for path in texts}
+        restore(self.folder, texts)
+        try:
+            status, lines = self.check([] if None in functions else sorted(functions))
+        finally:
+            restore(self.folder, kept)
+        well, said = judged(status, lines)
+        line = next((line for it in functions if it and (line := refused_for(it, lines))), None)
+        if well and None not in functions and not line:
+            return False, "NOT REFUSED: the function that it changes is still proved"
+        return well, f"refused, as it must be: {line[:160]}" if well and line else said
 
 
 def judged(status, lines):
     """Whether a check refused an edit, and what to say of it."""
     if status == 0:
         return False, "NOT REFUSED: the crate is still proved with this edit"
-    if not any(line.startswith("logic=not-proved") for line in lines):
+    if not any(line.startswith("fn ") for line in lines):
         return False, f"BAD EDIT: it did not reach the prover: {(lines or [''])[0][:160]}"
     told = [line for line in lines if SAID.match(line) and (": error" in line or line.startswith("note: "))]
     telling = [line for line in told if not NAMES_ALONE.match(line)]
@@ -139,10 +190,11 @@ def judged(status, lines):
 
 
 def refused_for(function, lines):
-    """What a check said of the function whose name ends so, where it is not proved by a clause of its own; None where it says
-    anything else."""
-    places = [at for at, line in enumerate(lines) if re.match(rf"fn \w[\w:]*{function}: ", line)]
-    if len(places) != 1 or re.search(": (proved$|no proof: it calls )", lines[places[0]]):
+    """What a check said of the function whose name ends so, or of a closure in it, where it is not proved by a clause of its own; None where
+    it says anything else."""
+    name = re.compile(rf"fn \w[\w:]*(?:{function}|::fn{function}::\w+): ")
+    places = [at for at, line in enumerate(lines) if name.match(line) and REFUSED.search(line)]
+    if len(places) != 1:
         return None
     folder = "/".join(lines[places[0]].removeprefix("fn ").partition(": ")[0].split("::")[1:])
     own = [line for line in lines if line.startswith(f"./proofs/{folder}/") and SAID.match(line) and ": error" in line and not NAMES_ALONE.match(line)]
@@ -153,114 +205,54 @@ def refused_for(function, lines):
     return own[0] if own else None
 
 
-def rounds(edits, folder):
-    """Rounds of edits: in each those of functions that differ."""
-    found = []
-    for edit in edits:
-        try:
-            functions = changes(edit, folder)[1]
-        except (OSError, ValueError):
-            continue
-        if len(functions) == 1 and None not in functions:
-            function = min(functions)
-            free = next((it for it in found if function not in it), None)
-            if free is None:
-                found.append(free := {})
-            free[function] = edit
-    return [it for it in found if len(it) > 1]
-
-
-def together(folder, some):
-    """Tries edits of functions that differ in one check of a copy of their crate, and puts its texts back. Answers what the check
-    said of each edit that it surely refused."""
-    kept, tried = {}, []
-    try:
-        for function, edit in some.items():
-            try:
-                texts = edited(edit, folder)
-            except ValueError:
-                continue
-            for path, text in texts.items():
-                kept.setdefault(path, (folder / path).read_text())
-                (folder / path).write_text(text)
-            tried.append(function)
-        lines = check(folder)[1]
-    finally:
-        restore(folder, kept)
-    return {some[it]: line for it in tried if (line := refused_for(it, lines))}
-
-
-def restore(folder, kept):
-    """Puts texts of files back."""
-    for path, text in kept.items():
-        (folder / path).write_text(text)
-
-
-def attempt(folder, edit):
-    """Tries one edit in a copy of its crate, and puts the crate's texts back."""
-    try:
-        texts = edited(edit, folder)
-    except (OSError, ValueError) as error:
-        return False, f"BAD EDIT: {error}"
-    kept = {path: (folder / path).read_text() for path in texts}
-    try:
-        for path, text in texts.items():
-            (folder / path).write_text(text)
-        return judged(*check(folder))
-    finally:
-        restore(folder, kept)
-
-
-def attempts(name, edits, known, top, tell):
-    """Tries some edits of a crate in one copy of it, which is proved as it stands. Answers those that were refused."""
-    refused = []
+def attempts(name, top, tell):
+    """Tries the edits of a crate, which is proved as it stands, over the libraries that are built below a folder. Answers the names of those
+    that were refused."""
+    refused, left = [], edits_of(name)
     with tempfile.TemporaryDirectory(prefix="fisca-edits-") as room:
-        folder = copied(name, known, top, pathlib.Path(room))
-        status, lines = check(folder)
-        if status:
-            tell(f"must-fail {name}: the crate itself is not proved in a copy: {(lines or [''])[-1][:160]}")
-            return refused
-        left = list(edits)
-        for some in rounds(edits, folder):
+        checks = Checks(name, top, pathlib.Path(room))
+        while left:
             began = time.monotonic()
-            said = together(folder, some)
-            tell(f"must-fail {name}: {len(said)} of {len(some)} edits refused in one check ({time.monotonic() - began:.0f} s)")
+            count, said = checks.together(left)
+            if not said:
+                break
+            tell(f"must-fail {name}: {len(said)} of {count} edits refused in one check ({time.monotonic() - began:.0f} s)")
             for edit, line in said.items():
                 tell(f"must-fail {name}/{edit.name}: refused, as it must be: {line[:160]}")
                 left.remove(edit)
                 refused.append(edit.name)
         for edit in left:
             began = time.monotonic()
-            well, said = attempt(folder, edit)
+            well, said = checks.alone(edit)
             tell(f"must-fail {name}/{edit.name}: {said} ({time.monotonic() - began:.0f} s)")
             refused += [edit.name] * well
-    return sorted(refused)
+    return refused
 
 
-def check_all(names, workers, top, tell):
-    """Whether these crates are proved as they stand, over what earlier checks below this folder keep."""
-    def proved(name):
-        checked = subprocess.run([RT, "check", "--jobs", "1"], cwd=top / "crates" / name, stdin=subprocess.DEVNULL, stdout=subprocess.PIPE, stderr=subprocess.STDOUT, text=True, errors="replace")
+def workers():
+    """How many checks of edits fit side by side on this machine."""
+    memory = os.sysconf("SC_PAGE_SIZE") * os.sysconf("SC_PHYS_PAGES")
+    return max(1, min(int(os.environ.get("RT_JOBS") or os.cpu_count() or 1), memory // MEMORY))
+
+
+def try_edits(names, tell=print, top=TOP):
+    """Tries the edits of these crates, which are proved as they stand and whose libraries are built below a folder. Answers for each crate
+    the names of the edits that were refused."""
+    known = crates()
+    # those of the crates that stand on most take longest
+    order = sorted(names, key=lambda it: -len(below(it, known)) * len(edits_of(it)))
+    with concurrent.futures.ThreadPoolExecutor(workers()) as pool:
+        return dict(zip(order, pool.map(lambda it: attempts(it, top, tell), order)))
+
+
+def check_all(names, tell):
+    """Whether these crates are proved as they stand, over what earlier checks in this checkout keep. It builds the libraries below them."""
+    for name in names:
+        checked = subprocess.run([RT, "check", "--jobs", "1"], cwd=TOP / "crates" / name, stdin=subprocess.DEVNULL, stdout=subprocess.PIPE, stderr=subprocess.STDOUT, text=True, errors="replace")
         if checked.returncode:
             tell(f"{name} is not proved as it stands: {(checked.stdout.splitlines() or [''])[-1]}")
-        return not checked.returncode
-
-    with concurrent.futures.ThreadPoolExecutor(workers) as pool:
-        return all(list(pool.map(proved, names)))
-
-
-def try_edits(names, workers, tell=print, top=TOP):
-    """Tries the edits of these crates, which are proved as they stand below this folder. Answers for each crate the names of
-    the edits that were refused."""
-    known = crates()
-    groups = [(name, edits_of(name)[at : at + AT_ONCE]) for name in names for at in range(0, len(edits_of(name)), AT_ONCE)]
-    # those of the crates that stand on most take longest
-    groups.sort(key=lambda it: -len(below(it[0], known)) * len(it[1]))
-    refused = {name: [] for name in names}
-    with concurrent.futures.ThreadPoolExecutor(workers) as pool:
-        for (name, _), some in zip(groups, pool.map(lambda it: attempts(*it, known, top, tell), groups)):
-            refused[name] += some
-    return refused
+            return False
+    return True
 
 
 def say(line):
@@ -274,10 +266,12 @@ def main(words):
     if unknown:
         print(f"bin/edits.py: no crate {unknown[0]}", file=sys.stderr)
         return 2
-    workers = os.cpu_count() or 1
-    if not check_all(names, workers, TOP, say):
+    if not shutil.which("rt"):
+        print("bin/edits.py: no command rt (the Rattle toolchain) on PATH", file=sys.stderr)
+        return 127
+    if not check_all(names, say):
         return 1
-    refused = try_edits(names, workers, say)
+    refused = try_edits(names, say)
     wanted = sum(len(edits_of(name)) for name in names)
     count = sum(map(len, refused.values()))
     print(f"{count} edits refused, {wanted - count} not")

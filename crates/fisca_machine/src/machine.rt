@@ -89,11 +89,16 @@ impl<'a> Machine<'a> {
     }
 
     /// The value is given on next.
+    #[inline(always)]
     pub fn give(&mut self, value: Value) -> Control<'a>
         ensures control { result ≡ Control.Give }
         ensures machine { self.new ≡ record self.old { value = value } }
     {
-        self.value = value;
+        self.value = match value {
+            Value::Number(number) => Value::Number(number),
+            Value::Bool(truth) => Value::Bool(truth),
+            Value::Member(place) => Value::Member(place),
+        };
         Control::Give
     }
 
@@ -149,7 +154,25 @@ impl<'a> Machine<'a> {
             };
             match next {
                 Ok(control) => now = control,
-                Err(step) => return step,
+                // by its parts, so that each is written in one piece
+                Err(
+                    Step::Needs(
+                        Key {
+                            variable,
+                            member,
+                            period,
+                        },
+                    ),
+                ) => {
+                    return Step::Needs(Key {
+                        variable,
+                        member,
+                        period,
+                    });
+                }
+                Err(Step::Done(value)) => return Step::Done(value),
+                Err(Step::Failed(fault)) => return Step::Failed(fault),
+                Err(Step::Memory) => return Step::Memory,
             }
         }
     }

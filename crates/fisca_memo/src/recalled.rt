@@ -247,7 +247,18 @@ fn work_out<'r, R: Recall>(
             Step::Failed(fault) => return Err(told_of(fault, *key)),
             Step::Memory => return Err(EvalFault::Memory),
             Step::Needs(asked) => {
-                let known = value_below(scene, store, machine, keys, &asked)?;
+                // by its parts, as it was written: to read it in one piece would wait for them
+                let Key {
+                    variable,
+                    member,
+                    period,
+                } = asked;
+                let needed = Key {
+                    variable,
+                    member,
+                    period,
+                };
+                let known = value_below(scene, store, machine, keys, &needed)?;
                 tallest = tallest.max(known.height);
                 reads |= known.reads;
                 control = machine.give(known.value);

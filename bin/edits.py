@@ -196,8 +196,10 @@ def refused_for(function, lines):
     places = [at for at, line in enumerate(lines) if name.match(line) and REFUSED.search(line)]
     if len(places) != 1:
         return None
-    folder = "/".join(lines[places[0]].removeprefix("fn ").partition(": ")[0].split("::")[1:])
-    own = [line for line in lines if line.startswith(f"./proofs/{folder}/") and SAID.match(line) and ": error" in line and not NAMES_ALONE.match(line)]
+    folder, _, last = "/".join(lines[places[0]].removeprefix("fn ").partition(": ")[0].split("::")[1:]).rpartition("/")
+    # in a folder of its own, or in that of a cycle of functions, where its goals begin with its name
+    own = re.compile(rf"\./proofs/{re.escape(folder)}/(?:{re.escape(last)}/.*: error|\+\w+/.*: error: `{re.escape(last)}-)")
+    own = [line for line in lines if own.match(line) and SAID.match(line) and not NAMES_ALONE.match(line)]
     for line in reversed(lines[: places[0]]):
         if line.startswith("fn "):
             break

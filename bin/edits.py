@@ -204,7 +204,9 @@ def refused_for(function, lines):
         if line.startswith("fn "):
             break
         own += [line] * line.startswith("note: src/")
-    return own[0] if own else None
+    # where the search for a goal ended at its limit, the function's line alone names the goal
+    line = lines[places[0]]
+    return own[0] if own else line if "; `search` did not prove `" in line and "; it calls " not in line else None
 
 
 def attempts(name, top, tell):

@@ -192,7 +192,8 @@ def judged(status, lines):
 def refused_for(function, lines):
     """What a check said of the function whose name ends so, or of a closure in it, where it is not proved by a clause of its own; None where
     it says anything else."""
-    name = re.compile(rf"fn \w[\w:]*(?:{function}|::fn{function}::\w+): ")
+    owner, _, own_name = function.rpartition("::")
+    name = re.compile(rf"fn \w[\w:]*(?:{function}|::fn{function}::\w+|{owner}::fn::{own_name}::\w+): ")
     places = [at for at, line in enumerate(lines) if name.match(line) and REFUSED.search(line)]
     if len(places) != 1:
         return None

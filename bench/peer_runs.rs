@@ -1,7 +1,8 @@
 // The peer of `fisca run` in plain Rust: the lines of the run files that `bench/runs` writes, by the very formulas as trees. Each position has a situation
 // and a memory of its own, in hash tables: the inputs are shared over the parts of their periods anew, and what a formula gave is remembered. With
 // FISCA_PEER=kept the two tables are emptied for the next position, and not made anew. With FISCA_PEER=wheels there is one situation and one memory for the
-// run: each group of axes is a wheel, a position sets the inputs of the wheels that turn, and what was remembered counts until a wheel turns that it read.
+// run: each group of axes is a wheel, a position sets the inputs of the wheels that turn, and what was remembered counts until a wheel turns that it read;
+// with FISCA_PEER=machine that, and formulas are worked out by the same machine as ours.
 //
 // rustc -O -C codegen-units=1 bench/peer_runs.rs; peer_runs NAME COUNT [--from POSITION], COUNT that of the last group of axes
 #[allow(dead_code)]
@@ -19,6 +20,7 @@ use std::io::{self, BufWriter, Write};
 use std::path::Path;
 
 include!("peer_common.rs");
+include!("peer_machine.rs");
 include!("peer_lines.rs");
 
 /// A hash by one multiplication for each word.
@@ -286,8 +288,8 @@ impl Run {
         Slot { keys, parts: if sharing == Sharing::Divide { count as u64 } else { 1 } }
     }
 
-    /// Writes the lines from a position on, by one situation and one memory.
-    fn write_turning(&self, from: u64, out: &mut impl Write) -> io::Result<()> {
+    /// Writes the lines from a position on, by one situation and one memory, the formulas by recursion or by the same machine as ours.
+    fn write_turning(&self, from: u64, is_machine: bool, out: &mut impl Write) -> io::Result<()> {
         let mut given = self.given.clone();
         let (mut places, size) = self.places(from);
         let mut wheels = vec![0; self.rules.variables.len()];
@@ -299,7 +301,7 @@ impl Run {
         let (homes, persons) = (self.homes.clone(), self.persons.clone());
         let mut situation = Situation { inputs: Turning { inputs, wheels }, homes, persons };
         let slots: Vec<Slot> = self.axes.iter().map(|moving| self.slot(moving)).collect();
-        let (mut clock, mut keys, mut line) = (Clock::default(), Vec::new(), Vec::with_capacity(256));
+        let (mut clock, mut keys, mut stacks, mut line) = (Clock::default(), Vec::new(), machine::Stacks::new(), Vec::with_capacity(256));
         let mut turned = places.len();
         for position in from..size {
             (0..turned).for_each(|wheel| clock.turn(wheel));
@@ -314,13 +316,22 @@ impl Run {
                     situation.inputs.inputs.insert(packed(key), part);
                 }
             }
-            let mut evaluator = Evaluator { rules: &self.rules, situation: &situation, recall: &mut clock, keys, tallest: 0, reads: 0 };
             line.clear();
-            if self.write_row(position, &given, &mut evaluator, &mut line).is_err() {
+            let written = if is_machine {
+                let mut evaluator = machine::Evaluator { rules: &self.rules, situation: &situation, recall: &mut clock, stacks };
+                let written = self.write_row(position, &given, |key| evaluator.value(key), &mut line);
+                stacks = evaluator.stacks;
+                written
+            } else {
+                let mut evaluator = Evaluator { rules: &self.rules, situation: &situation, recall: &mut clock, keys, tallest: 0, reads: 0 };
+                let written = self.write_row(position, &given, |key| evaluator.value(key), &mut line);
+                keys = evaluator.keys;
+                written
+            };
+            if written.is_err() {
                 panic!("position {position}: a value cannot be worked out");
             }
             out.write_all(&line)?;
-            keys = evaluator.keys;
             turned = self.step(&mut places);
         }
         out.write_all(b"end\n")
@@ -348,7 +359,7 @@ impl Run {
             let situation = Situation { inputs, homes, persons };
             let mut evaluator = Evaluator { rules: &self.rules, situation: &situation, recall, keys, tallest: 0, reads: 0 };
             line.clear();
-            if self.write_row(position, &given, &mut evaluator, &mut line).is_err() {
+            if self.write_row(position, &given, |key| evaluator.value(key), &mut line).is_err() {
                 panic!("position {position}: a value cannot be worked out");
             }
             out.write_all(&line)?;
@@ -360,9 +371,9 @@ impl Run {
     }
 
     /// Appends the line of a position, where all conditions hold.
-    fn write_row<I: Inputs, R: Recall>(&self, position: u64, given: &[Given], evaluator: &mut Evaluator<I, R>, line: &mut Vec<u8>) -> Result<(), Fault> {
+    fn write_row(&self, position: u64, given: &[Given], mut value: impl FnMut(Key) -> Result<Value, Fault>, line: &mut Vec<u8>) -> Result<(), Fault> {
         for condition in &self.filter {
-            if !compared(condition.comparison, number(evaluator.value(condition.key)?), condition.constant) {
+            if !compared(condition.comparison, number(value(condition.key)?), condition.constant) {
                 return Ok(());
             }
         }
@@ -371,7 +382,7 @@ impl Run {
             push_value(line, given[moving.given].value);
         }
         for column in &self.columns {
-            push_value(line, evaluator.value(*column)?);
+            push_value(line, value(*column)?);
         }
         line.push(b'\n');
         Ok(())
@@ -724,7 +735,7 @@ fn main() -> io::Result<()> {
     let peer = std::env::var("FISCA_PEER").unwrap_or_default();
     let mut out = BufWriter::with_capacity(1 << 16, io::stdout().lock());
     match peer.as_str() {
-        "wheels" => run.write_turning(from, &mut out)?,
+        "wheels" | "machine" => run.write_turning(from, peer == "machine", &mut out)?,
         _ => run.write(from, peer == "kept", &mut out)?,
     }
     out.flush()

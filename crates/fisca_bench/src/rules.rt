@@ -65,14 +65,16 @@ pub(crate) fn modules<'a>(alloc: Global, files: &'a [SourceFile]) -> Vec<Module<
     modules
 }
 
-/// Reads the modules so often. The checksum is of their statements.
+/// Reads the modules so often, each time dropped outside the time. The checksum is of their statements.
 fn read(rt: &impl Clock, alloc: Global, files: &[SourceFile], count: u64) -> io::Result<Measured> {
     let mut checksum = 0;
-    let start = Instant::now(rt)?;
+    let mut nanoseconds = 0u128;
     for _run in 0..count {
-        checksum = statements(modules(alloc, files).as_slice());
+        let start = Instant::now(rt)?;
+        let read = modules(alloc, files);
+        nanoseconds = nanoseconds.saturating_add(start.elapsed(rt)?.as_nanos());
+        checksum = statements(read.as_slice());
     }
-    let nanoseconds = start.elapsed(rt)?.as_nanos();
     Ok(Measured {
         nanoseconds,
         checksum,
@@ -87,7 +89,7 @@ fn statements(modules: &[Module<'_>]) -> u64 {
     sum
 }
 
-/// Builds the rule set so often, dropped within the time, each time of modules and parameters that were read before. The
+/// Builds the rule set so often, each time of modules and parameters that were read before, and dropped outside the time. The
 /// checksum is of its variables.
 fn build(rt: &impl Clock, alloc: Global, files: &[SourceFile], count: u64) -> io::Result<Measured> {
     let mut checksum = 0;
@@ -98,8 +100,9 @@ fn build(rt: &impl Clock, alloc: Global, files: &[SourceFile], count: u64) -> io
         };
         let read = modules(alloc, files);
         let start = Instant::now(rt)?;
-        checksum = built(alloc, parameters, read);
+        let rules = RuleSet::build(alloc, parameters, read).ok();
         nanoseconds = nanoseconds.saturating_add(start.elapsed(rt)?.as_nanos());
+        checksum = built(rules);
     }
     Ok(Measured {
         nanoseconds,
@@ -107,9 +110,9 @@ fn build(rt: &impl Clock, alloc: Global, files: &[SourceFile], count: u64) -> io
     })
 }
 
-fn built(alloc: Global, parameters: ParamTree, modules: Vec<Module<'_>>) -> u64 {
-    match RuleSet::build(alloc, parameters, modules) {
-        Ok(rules) => rules.tables.variables.as_slice().len() as u64,
-        Err(_) => u64::MAX,
+fn built(rules: Option<RuleSet<'_>>) -> u64 {
+    match rules {
+        Some(rules) => rules.tables.variables.as_slice().len() as u64,
+        None => u64::MAX,
     }
 }

@@ -5,12 +5,13 @@ A must-fail edit, crates/NAME/must-fail/*.edit, puts a wrong body in place of a 
 that the edit changes, by a clause of its own, and not because a name is gone. First these crates are checked as they stand, which
 builds the libraries below them. Then the edits are tried in copies of their crates over these libraries.
 
-A check of an edit asks for the function that it changes and for what that calls, and leaves the rest of the crate alone. Edits of
-different functions are tried in one check: what a function promises stays the same under an edit of a body, so whether another
-function is proved does not hang on it. Where such a check does not say of the very function that it is not proved, the edit is tried
-again with fewer beside it, and at last alone. An edit outside of functions, as of a constant, is tried alone on the whole crate. A line
-tells of each edit, and the last one counts them.
+A check of an edit asks for the function that it changes, and takes what the crate's other functions promise, since they are proved as
+they stand: in the copy a hole stands in the place of each of their proofs. Edits of different functions are tried in one check: what a
+function promises stays the same under an edit of a body, so whether another function is proved does not hang on it. Where such a check
+does not say of the very function that it is not proved, the edit is tried again with fewer beside it, and at last alone. An edit of a
+constant asks for the functions that name it, one of which has to be refused. A line tells of each edit, and the last one counts them.
 """
+import collections
 import concurrent.futures
 import importlib
 import os
@@ -33,7 +34,19 @@ SAID = re.compile(r"(note: )?\S+:\d+:\d+:")
 # what it says of a function that it refuses: it is known not to be proved, or goals are left that need answers
 REFUSED = re.compile(r": (not proved|no proof: expected answers in )")
 HEAD = re.compile(r"^( *)(?:pub(?:\(\w+\))? )?fn (\w+)", re.M)
-IMPL = re.compile(r"^impl(?:<[^>]*>)? (?:(\w+)\S* for )?(\w+)", re.M)
+IMPL = re.compile(r"^impl(?:<[^>]*>)? (?:(?:\w+::)*(\w+)(?:<(?:\w+::)*(\w+)?.*>)? for )?(?:\w+::)*(\w+)", re.M)
+TYPE = re.compile(r"^(?:pub(?:\(\w+\))? )?(?:struct|enum) (\w+)", re.M)
+ATTRIBUTES = re.compile(r"(?:^ *#\[.*\]\n)*\Z", re.M)
+CYCLE = re.compile(r"#\[cycle\((\w+)\)\]")
+CONSTANT = re.compile(r"(?:pub(?:\(\w+\))? )?const (\w+):")
+# the functions that a line says are called and are not proved themselves
+CALLED = re.compile(r"; it calls ((?:`[^`]+`(?:, | and )?)+), which (?:is|are) not proved$")
+# a proof that is left open: what the theorem says can be cited, and nothing is proved
+HOLE = "use Rattle.{crate}.proofs.{place}.Statement.{{statement}}\n\npub {name}_spec : {{M : Type 1}} → statement M\n{name}_spec = ?\n"
+
+# a function with a body: how the prover's name of it ends, the folders of its proof and of that of its cycle of calls, if it is in one, and
+# where in a file's text its attributes, its head and its body begin, and where it ends
+Function = collections.namedtuple("Function", "known_as folder cycle attributes start body end")
 
 
 def crates(top=TOP):
@@ -62,61 +75,94 @@ def edits_of(name):
     return sorted((TOP / "crates" / name / "must-fail").glob("*.edit"))
 
 
-def function_at(path, text, at, is_longer):
-    """How the prover's name of the function ends in whose body a place of a file's text lies, or before whose body, where the text there only
-    grows longer; None for another place. The name of a function that stands alone has its module's name before it, that of a method its
-    type's, with the trait's behind it."""
-    heads = list(HEAD.finditer(text, 0, at))
-    if not heads:
-        return None
-    indent, name = heads[-1].groups()
-    body = re.compile(rf"^{indent}(?:\{{.*\}}$|(?:\{{|\S.* \{{)$(?:\n(?!{indent}\}}).*)*)", re.M).search(text, heads[-1].start())
-    if not body or at > body.end() or at < body.start() and not is_longer:
-        return None
-    impls = list(IMPL.finditer(text, 0, at)) if indent else []
-    module = "::".join(it for it in path.removeprefix("src/").removesuffix(".rt").split("/") if it != "lib")
-    owner = f"{impls[-1][2]}{impls[-1][1] or ''}" if impls else module
-    return f"::{owner}::{name}".replace("::::", "::")
+def modules_of(path):
+    """The modules that a source file stands for, from the crate's root."""
+    return [it for it in path.removeprefix("src/").removesuffix(".rt").split("/") if it != "lib"]
 
 
-def changes(edit, folder):
-    """The texts of the files that an edit changes, by their paths in the crate, and the functions whose bodies it changes,
-    by the ends of their names (None for a change outside of one). Each 'old:' text stands once in its file."""
-    path, old, texts, functions = None, None, {}, set()
+def owner_of(path, text, at, types):
+    """The modules, and the name in a list, of the type, with the trait's behind it, in whose impl block a place of a file's text lies. A block without
+    a trait belongs to its type's modules, which these are by the types' names, and one with a trait to those of the file. In a trait's own block
+    there is no type."""
+    impls = list(IMPL.finditer(text, 0, at))
+    if not impls:
+        return modules_of(path), []
+    trait, argument, name = impls[-1].groups()
+    if trait:
+        return modules_of(path), [f"{name[0].upper()}{name[1:]}{trait}{argument or ''}"]
+    return types.get(name, modules_of(path)), [name]
+
+
+def functions_in(path, text, types):
+    """The functions of a source file of a crate that has types in these modules, in order. The name of a function that stands alone has its module's
+    name before it, that of a method its type's."""
+    found, heads = [], list(HEAD.finditer(text))
+    for head, after in zip(heads, heads[1:] + [None]):
+        indent, name = head.groups()
+        body = re.compile(rf"^{indent}(?:\S.*? )?(\{{(?:.*\}}|(?:\n(?!{indent}\}}).*)*\n{indent}\}}))$", re.M).search(text, head.start())
+        if not body or after and body.start() >= after.start():
+            continue
+        modules, owner = owner_of(path, text, head.start(), types) if indent else (modules_of(path), [])
+        attributes = ATTRIBUTES.search(text, 0, head.start())
+        cycle = CYCLE.search(attributes[0])
+        known_as = "::".join(["", *(owner or modules), name])
+        around = "".join(f"{it}/" for it in modules + owner)
+        found.append(Function(known_as, around + name, f"{around}+{cycle[1] if cycle else name}", attributes.start(), head.start(), body.start(1), body.end()))
+    return found
+
+
+def sources_of(folder):
+    """The texts of a crate's source files by their paths, and the modules of its types by their names."""
+    texts = {str(path.relative_to(folder)): path.read_text() for path in sorted((folder / "src").rglob("*.rt"))}
+    return texts, {it[1]: modules_of(path) for path, text in texts.items() for it in TYPE.finditer(text)}
+
+
+def functions_at(path, at, is_longer, texts, types):
+    """How the prover's names end of the functions that a change at a place of a file's text changes: the one in whose body it lies, or before
+    whose body, where the text there only grows longer; those that name the constant that begins there. None for another place."""
+    constant = CONSTANT.match(texts[path], at)
+    if constant:
+        word = re.compile(rf"\b{constant[1]}\b")
+        return {it.known_as for file, text in texts.items() for it in functions_in(file, text, types) if word.search(text, it.start, it.end)}
+    before = [it for it in functions_in(path, texts[path], types) if it.start <= at]
+    if not before or at > before[-1].end or at < before[-1].body and not is_longer:
+        return None
+    return {before[-1].known_as}
+
+
+def changes(edit, texts, types):
+    """Those of a crate's texts, by their paths, that an edit changes, as it leaves them, and the functions that it changes, by the ends of their
+    names. Each 'old:' text stands once in its file."""
+    path, old, changed, functions = None, None, {}, set()
     for line in edit.read_text().split("\n"):
         if line.startswith("file: "):
             path = line.removeprefix("file: ").strip()
-            if not re.fullmatch(r"src/[\w/]+\.rt", path):
+            if path not in texts:
                 raise ValueError(f"{path} is no file of src/: an edit changes a body, and no definition")
-            texts.setdefault(path, (folder / path).read_text())
         elif line.startswith("old: "):
             old = line.removeprefix("old: ")
         elif line.startswith("new:"):
-            if path is None or old is None or texts[path].count(old) != 1:
+            now = texts | changed
+            if path is None or old is None or now[path].count(old) != 1:
                 raise ValueError(f"its text 'old: {old}' does not stand once in {path}")
             new = line.removeprefix("new:").removeprefix(" ")
-            functions.add(function_at(path, texts[path], texts[path].index(old), new.startswith(old)))
-            texts[path] = texts[path].replace(old, new)
+            some = functions_at(path, now[path].index(old), new.startswith(old), now, types)
+            if not some:
+                raise ValueError(f"its text 'old: {old}' stands in no body, and begins no constant that a function names")
+            functions |= some
+            changed[path] = now[path].replace(old, new)
             old = None
-    if not texts:
+    if not changed:
         raise ValueError("it changes nothing")
-    return texts, functions
-
-
-def restore(folder, kept):
-    """Puts texts of files back."""
-    for path, text in kept.items():
-        (folder / path).write_text(text)
+    return changed, functions
 
 
 class Checks:
     """Checks of a crate in a copy of it, over the libraries that are built below a folder."""
 
     def __init__(self, name, top, room):
-        self.folder = room
-        for part in PROVED:
-            if (TOP / "crates" / name / part).is_dir():
-                shutil.copytree(TOP / "crates" / name / part, self.folder / part)
+        self.name, self.folder, self.crate = name, room, TOP / "crates" / name
+        self.texts, self.types = sources_of(self.crate)
         # the toolchain's own words for a check of the crate
         tools = os.path.dirname(os.path.realpath(shutil.which("rt")))
         if tools not in sys.path:
@@ -125,73 +171,85 @@ class Checks:
         home = str(top / "crates" / name)
         self.words = [rtlib.RATTLE, "check", *rtlib.Crate(home, rtlib.root_above(home), {}).words(["--jobs", "1"], keeps=False, as_source=False)]
 
-    def check(self, functions):
-        """Checks these functions, or all where there are none. Answers the status, and the lines that it wrote."""
-        only = [word for it in functions for word in ("--only", it.removeprefix("::"))]
-        run = subprocess.run([*self.words, *only], cwd=self.folder, stdin=subprocess.DEVNULL, stdout=subprocess.PIPE, stderr=subprocess.STDOUT, text=True, errors="replace")
-        return run.returncode, run.stdout.splitlines()
+    def leave_open(self, asked, texts):
+        """Lays out the crate with these texts in place of its own. Each function but these, and but those of the cycles of calls that they are in,
+        keeps its contract, and has a loop without an end for its body and a hole for its proof."""
+        shutil.rmtree(self.folder)
+        for part in PROVED:
+            if (self.crate / part).is_dir():
+                shutil.copytree(self.crate / part, self.folder / part)
+        found = {path: functions_in(path, text, self.types) for path, text in texts.items()}
+        cycles = {it.cycle for some in found.values() for it in some if it.known_as in asked}
+        for path, text in texts.items():
+            for it in reversed(found[path]):
+                if it.known_as not in asked and it.cycle not in cycles:
+                    attributes = CYCLE.sub("", text[it.attributes : it.start])
+                    text = text[: it.attributes] + attributes + text[it.start : it.body] + "{ loop {} }" + text[it.end :]
+                    self.put_hole(it)
+            (self.folder / path).write_text(text)
+
+    def put_hole(self, function):
+        """Puts a hole in the place of the proof of a function."""
+        proofs = self.folder / "proofs"
+        shutil.rmtree(proofs / function.cycle, ignore_errors=True)
+        at = proofs / function.folder
+        at.mkdir(parents=True, exist_ok=True)
+        for own in ("Invariants.antt", "Answers.antt"):
+            (at / own).unlink(missing_ok=True)
+        (at / "Proof.antt").write_text(HOLE.format(crate=self.name, place=function.folder.replace("/", "."), name=at.name))
+
+    def check(self, functions, texts):
+        """Checks these functions in the crate with these texts in place of its own, over what its other functions promise. Answers the lines
+        that it wrote."""
+        self.leave_open(functions, self.texts | texts)
+        only = [word for it in sorted(functions) for word in ("--only", it.removeprefix("::"))]
+        run = subprocess.run([*self.words, "--allow-holes", *only], cwd=self.folder, stdin=subprocess.DEVNULL, stdout=subprocess.PIPE, stderr=subprocess.STDOUT, text=True, errors="replace")
+        return run.stdout.splitlines()
 
     def side_by_side(self, edits):
-        """Puts edits of functions that differ into the copy, those that fit beside one another. Answers them by function, and the texts
-        that stood there."""
-        some, kept = {}, {}
+        """Edits of one function each, of functions that differ, that fit beside one another, by these functions, and the texts with them."""
+        some, texts = {}, self.texts
         for edit in edits:
             try:
-                texts, functions = changes(edit, self.folder)
+                changed, functions = changes(edit, texts, self.types)
             except (OSError, ValueError):
                 continue
-            function = min(functions, key=str)
-            if len(functions) == 1 and function and function not in some:
-                some[function] = edit
-                for path, text in texts.items():
-                    kept.setdefault(path, (self.folder / path).read_text())
-                    (self.folder / path).write_text(text)
-        return some, kept
+            function = min(functions)
+            if len(functions) == 1 and function not in some:
+                some[function], texts = edit, texts | changed
+        return some, texts
 
     def together(self, edits):
         """Tries edits of functions that differ in one check. Answers how many, and what the check said of each that it surely refused."""
-        some, kept = self.side_by_side(edits)
-        try:
-            lines = self.check(some)[1] if some else []
-        finally:
-            restore(self.folder, kept)
-        return len(some), {edit: line for function, edit in some.items() if (line := refused_for(function, lines))}
+        some, texts = self.side_by_side(edits)
+        lines = self.check(set(some), texts) if some else []
+        return len(some), {edit: line for function, edit in some.items() if (line := refused_for(function, set(some), lines))}
 
     def alone(self, edit):
         """Tries one edit. Answers whether it was refused, and what to say of it."""
         try:
-            texts, functions = changes(edit, self.folder)
+            changed, functions = changes(edit, self.texts, self.types)
         except (OSError, ValueError) as error:
             return False, f"BAD EDIT: {error}"
-        kept = {path: (self.folder / path).read_text() for path in texts}
-        restore(self.folder, texts)
-        try:
-            status, lines = self.check([] if None in functions else sorted(functions))
-        finally:
-            restore(self.folder, kept)
-        well, said = judged(status, lines)
-        line = next((line for it in functions if it and (line := refused_for(it, lines))), None)
-        if well and None not in functions and not line:
-            return False, "NOT REFUSED: the function that it changes is still proved"
-        return well, f"refused, as it must be: {line[:160]}" if well and line else said
+        lines = self.check(functions, changed)
+        line = next((line for it in sorted(functions) if (line := refused_for(it, functions, lines))), None)
+        return (True, f"refused, as it must be: {line[:160]}") if line else (False, unrefused(functions, lines))
 
 
-def judged(status, lines):
-    """Whether a check refused an edit, and what to say of it."""
-    if status == 0:
-        return False, "NOT REFUSED: the crate is still proved with this edit"
+def unrefused(functions, lines):
+    """What to say of an edit of which a check did not say that one of the functions that it changes is not proved by a clause of its own."""
     if not any(line.startswith("fn ") for line in lines):
-        return False, f"BAD EDIT: it did not reach the prover: {(lines or [''])[0][:160]}"
+        return f"BAD EDIT: it did not reach the prover: {(lines or [''])[0][:160]}"
     told = [line for line in lines if SAID.match(line) and (": error" in line or line.startswith("note: "))]
-    telling = [line for line in told if not NAMES_ALONE.match(line)]
-    if told and not telling:
-        return False, f"REFUSED BY A NAME ALONE: change a value and keep the names: {told[0][:160]}"
-    return True, f"refused, as it must be: {(telling or lines)[0][:160]}"
+    if told and all(NAMES_ALONE.match(line) for line in told):
+        return f"REFUSED BY A NAME ALONE: change a value and keep the names: {told[0][:160]}"
+    own = [line for line in lines if line.startswith("fn ") and any(line.partition(": ")[0].endswith(it) for it in functions)]
+    return f"NOT REFUSED by a clause of a function that it changes: {(told or own or lines)[0][:160]}"
 
 
-def refused_for(function, lines):
-    """What a check said of the function whose name ends so, or of a closure in it, where it is not proved by a clause of its own; None where
-    it says anything else."""
+def refused_for(function, asked, lines):
+    """What a check that asked for these functions said of the one whose name ends so, or of a closure in it, where it is not proved by a clause of
+    its own; None where it says anything else."""
     owner, _, own_name = function.rpartition("::")
     name = re.compile(rf"fn \w[\w:]*(?:{function}|::fn{function}::\w+|{owner}::fn::{own_name}::\w+): ")
     places = [at for at, line in enumerate(lines) if name.match(line) and REFUSED.search(line)]
@@ -207,7 +265,14 @@ def refused_for(function, lines):
         own += [line] * line.startswith("note: src/")
     # where the search for a goal ended at its limit, the function's line alone names the goal
     line = lines[places[0]]
-    return own[0] if own else line if "; `search` did not prove `" in line and "; it calls " not in line else None
+    return own[0] if own else line if "; `search` did not prove `" in line and calls_no(asked, line) else None
+
+
+def calls_no(asked, line):
+    """Whether the functions that a line says are called, and are not proved themselves, are holes, and none of those that were asked for."""
+    called = CALLED.search(line)
+    names = re.findall(r"`([^`]+)`", called[1]) if called else []
+    return (bool(called) or "; it calls " not in line) and not any(f"::{name}".endswith(it) for name in names for it in asked)
 
 
 def attempts(name, top, tell):

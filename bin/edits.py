@@ -34,7 +34,8 @@ SAID = re.compile(r"(note: )?\S+:\d+:\d+:")
 # what it says of a function that it refuses: it is known not to be proved, or goals are left that need answers
 REFUSED = re.compile(r": (not proved|no proof: expected answers in )")
 HEAD = re.compile(r"^( *)(?:pub(?:\(\w+\))? )?fn (\w+)", re.M)
-IMPL = re.compile(r"^impl(?:<[^>]*>)? (?:(?:\w+::)*(\w+)(?:<(?:\w+::)*(\w+)?.*>)? for )?(?:\w+::)*(\w+)", re.M)
+IMPL = re.compile(r"^impl(?:<([^>]*)>)? (?:(?:\w+::)*(\w+)(?:<(.*?)>)? for )?(?:\w+::)*(\w+)", re.M)
+NAME = re.compile(r"(?<![\w'])\w+(?!\w*::)")
 TYPE = re.compile(r"^(?:pub(?:\(\w+\))? )?(?:struct|enum) (\w+)", re.M)
 ATTRIBUTES = re.compile(r"(?:^ *#\[.*\]\n)*\Z", re.M)
 CYCLE = re.compile(r"#\[cycle\((\w+)\)\]")
@@ -81,15 +82,16 @@ def modules_of(path):
 
 
 def owner_of(path, text, at, types):
-    """The modules, and the name in a list, of the type, with the trait's behind it, in whose impl block a place of a file's text lies. A block without
-    a trait belongs to its type's modules, which these are by the types' names, and one with a trait to those of the file. In a trait's own block
-    there is no type."""
+    """The modules, and the name in a list, of the type, with those of the trait and of its arguments behind it, in whose impl block a place of a file's
+    text lies. A block without a trait belongs to its type's modules, which these are by the types' names, and one with a trait to those of the
+    file. In a trait's own block there is no type."""
     impls = list(IMPL.finditer(text, 0, at))
     if not impls:
         return modules_of(path), []
-    trait, argument, name = impls[-1].groups()
+    parameters, trait, arguments, name = impls[-1].groups()
     if trait:
-        return modules_of(path), [f"{name[0].upper()}{name[1:]}{trait}{argument or ''}"]
+        words = [name, trait, *(it for it in NAME.findall(arguments or "") if it not in NAME.findall(parameters or ""))]
+        return modules_of(path), ["".join(it[0].upper() + it[1:] for it in words)]
     return types.get(name, modules_of(path)), [name]
 
 

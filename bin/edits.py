@@ -6,10 +6,11 @@ that the edit changes, by a clause of its own, and not because a name is gone. F
 builds the libraries below them. Then the edits are tried in copies of their crates over these libraries.
 
 A check of an edit asks for the function that it changes, and takes what the crate's other functions promise, since they are proved as
-they stand: in the copy a hole stands in the place of each of their proofs. Edits of different functions are tried in one check: what a
-function promises stays the same under an edit of a body, so whether another function is proved does not hang on it. Where such a check
-does not say of the very function that it is not proved, the edit is tried again with fewer beside it, and at last alone. An edit of a
-constant asks for the functions that name it, one of which has to be refused. A line tells of each edit, and the last one counts them.
+they stand: in the copy each has a loop without an end for its body and a hole for its proof. Edits of different functions are tried in
+one check: what a function promises stays the same under an edit of a body, so whether another function is proved does not hang on it.
+Where such a check does not say of the very function that it is not proved, the edit is tried again with fewer beside it, and at last
+alone. An edit of a constant asks for the functions that name it, one of which has to be refused. A line tells of each edit, and the
+last one counts them.
 """
 import collections
 import concurrent.futures

@@ -31,6 +31,7 @@ pub fn moved(step: Move, period: Period) -> Result<Period, TimeFault>
 }
 
 /// The period that steps lead to one after another, as `moved_all` has it, or the first one's fault.
+#[inline(always)]
 pub fn moved_all(steps: &[Move], period: Period) -> Result<Period, TimeFault>
     ensures { result ≡ asking.moved_all steps.now period }
 {

@@ -1,7 +1,19 @@
 use Rattle.std.proofs.Common.{◌+◌, ◌-◌, ◌%◌, ◌^◌, arith, refl}
+use Rattle.std.proofs.Math.Nat.{one-dvd}
 use Rattle.std.proofs.lemmas.Nat.Gcd.{dvd_refl}
 use Rattle.fisca_num.proofs.Halving.{IsStep, step_gcd, step_odd}
 use Rattle.fisca_num.proofs.divisors.odd_gcd.Goals as goal
+use Rattle.fisca_num.proofs.divisors.odd_gcd.Goals.{then-a-eq1-via-then-a-eq1, then-a-eq1-via-else-a-eq1+then-b-eq1}
+
+pub returns-then-a-eq1 : goal.returns-then-a-eq1
+returns-then-a-eq1 c = (
+  one-dvd _,
+  one-dvd _,
+  elim c.then-a-eq1.branch [
+    | then-a-eq1-via-then-a-eq1 w ↦ λ d p q. rw w.if-a-eq1.true at p
+    | then-a-eq1-via-else-a-eq1+then-b-eq1 w ↦ λ d p q. rw w.if-b-eq1.true at q
+  ],
+)
 
 pub loop-x-preserved : goal.loop-x-preserved
 loop-x-preserved c =

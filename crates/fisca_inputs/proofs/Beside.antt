@@ -109,7 +109,7 @@ looked-row line r counts k es new q (Some x) e h =
     by true false = refl
     by false c = refl
 
-looked-beside : (rules : List Rule) (counts : List ℕ) (gs : List Given) (k : Key) (es new : Entries) (q : Key) → beside rules counts gs k es ≡ Ok new
+pub looked-beside : (rules : List Rule) (counts : List ℕ) (gs : List Given) (k : Key) (es new : Entries) (q : Key) → beside rules counts gs k es ≡ Ok new
     → value_at new q ≡ otherwise (value_at es q) (of_rule (slice_get rules k.variable) counts k q)
 looked-beside rules counts gs k es new q h = by (slice_get rules k.variable) h
   where

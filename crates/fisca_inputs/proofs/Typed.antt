@@ -1,5 +1,5 @@
 -- Inputs are of their variables' types where what is given is, and the defaults are.
-use Rattle.std.proofs.Common.{◌≡◌, ap, sym, subst, ℕ, List, [], ◌∷◌, ◌++◌, map, length, pos, Bool, true, false, cond, Option, Some, None, slice_get, refl, if◌then◌else◌}
+use Rattle.std.proofs.Common.{◌≡◌, sym, subst, ℕ, List, [], ◌∷◌, ◌++◌, map, length, pos, Bool, true, false, cond, Option, Some, None, slice_get, refl, if◌then◌else◌}
 use Rattle.std.specs.Prelude.{Result, Ok, Err, nat_lt, ◌==◌, ◌&&◌}
 use Rattle.std.specs.List.{range_with_len}
 use Rattle.std.specs.Map.{lookup}
@@ -23,7 +23,7 @@ use Rattle.fisca_inputs.specs.Inputs.{inputs_of}
 use Rattle.fisca_inputs.specs.Order.{given_cmp, put_in_order, in_order_with, in_order}
 use Rattle.fisca_inputs.specs.Rules.{Rule, is_longer}
 use Rattle.fisca_inputs.specs.Seen.{value_seen}
-use Rattle.fisca_inputs.specs.Sharing.{rest_of, count_free, share_of, spread, divided, divided_value, alone, parts_of, over_parts, own_key, shared, shared_by, all_shared}
+use Rattle.fisca_inputs.specs.Sharing.{rest_of, count_free, share_of, spread, divided_value, alone, parts_of, over_parts, own_key, shared_by, all_shared}
 use Rattle.fisca_inputs.specs.Typed.{is_typed, IsValueOf, GivensTyped, EntriesTyped, DefaultsTyped}
 use Rattle.fisca_inputs.specs.declared.fault.SituationFault.{SituationFault}
 use Rattle.fisca_inputs.specs.declared.fault.SituationKind.TheVariants.{InconsistentInput, PeriodMismatch, TooMany}

@@ -1,10 +1,10 @@
 -- Defaults beside another member's input.
-use Rattle.std.specs.Prelude.{ℕ, ◌==◌, List, [], ◌∷◌, ◌++◌, map, if◌then◌else◌, slice_get, Option, Some, None, Result, Ok}
+use Rattle.std.specs.Prelude.{◌≡◌, ◌<◌, true, ℕ, ◌==◌, List, [], ◌∷◌, ◌++◌, map, if◌then◌else◌, slice_get, Option, Some, None, Result, Ok}
 use Rattle.std.specs.List.{range_with_len, list_any}
 use Rattle.std.specs.Option.{unwrap_or}
 use Rattle.fisca_params.specs.Results.{and_then}
 use Rattle.fisca_time.specs.Period.{Span}
-use Rattle.fisca_inputs.specs.Entries.{Entries, key, same_key, put_all}
+use Rattle.fisca_inputs.specs.Entries.{Entries, key, same_key, has, put_all}
 use Rattle.fisca_inputs.specs.Rules.{Rule}
 use Rattle.fisca_inputs.specs.declared.fault.SituationFault.{SituationFault}
 use Rattle.fisca_inputs.specs.declared.given.Given.{Given}
@@ -50,6 +50,10 @@ rows_with rows (e ∷ es) = rows_with (and_row rows (row_key e.0)) es
 -- the variables and periods that some member has a value for, each once
 abbrev pub rows_of : Entries → List Key
 rows_of es = rows_with [] es
+
+-- the first members, so many, have a value for the variable and period of this key
+abbrev pub HaveFirst : Entries → Key × ℕ → Type 0
+HaveFirst es row = (m : ℕ) → m < row.1 → has es (key row.0.variable m row.0.period) ≡ true
 
 -- beside each of these
 abbrev pub with_defaults : List Rule → List ℕ → List Given → List Key → Entries → Result Entries SituationFault

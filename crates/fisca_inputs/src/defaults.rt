@@ -1,6 +1,8 @@
 //! Defaults beside another member's input.
 
 ghost use Rattle.std.specs.Prelude.{◌≡◌, ◌≢◌, map};
+ghost use Rattle.std.specs.List.{AllByRecursion};
+ghost use Rattle.std.specs.Map.{keys_of};
 ghost use Rattle.fisca_inputs.specs.Defaults as spec;
 ghost use Rattle.fisca_inputs.specs.Entries as entries;
 ghost use Rattle.fisca_inputs.specs.Outcomes.{Becomes};
@@ -8,7 +10,7 @@ ghost use Rattle.fisca_inputs.specs.Rules as rules;
 
 use crate::fault::{SituationFault, SituationKind};
 use crate::given::{Given, Value};
-use crate::hasher::Keys;
+use crate::hasher::Numbers;
 use crate::inputs::Inputs;
 use crate::key::Key;
 use crate::sharing::fault;
@@ -77,17 +79,19 @@ impl Inputs {
         }
     }
 
-    /// Puts this value for each member that has none at the variable and period of a key.
+    /// Puts this value for each member that has none at the variable and period of a key, where so many of the first members have one.
     fn put_row(
         &mut self,
         givens: &[Given],
         value: &Value,
         key: &Key,
+        first: u32,
         count: u32,
     ) -> Result<(), SituationFault>
+        requires { spec.HaveFirst self.old (key.now, first) }
         ensures { Becomes (entries.put_all (spec.first_line givens.now key.now.variable) value.now (spec.row_of key.now.variable count key.now.period) self.old) self.new result }
     {
-        for member in 0..count {
+        for member in first..count {
             let here = Key {
                 variable: key.variable,
                 member,
@@ -98,14 +102,16 @@ impl Inputs {
         Ok(())
     }
 
-    /// Puts the default of a key's variable for each member that has nothing at its period.
+    /// Puts the default of a key's variable for each member that has nothing at its period, where so many of the first members have something.
     fn put_beside(
         &mut self,
         variables: &[Variable<'_>],
         counts: &[u32],
         givens: &[Given],
         key: &Key,
+        first: u32,
     ) -> Result<(), SituationFault>
+        requires { spec.HaveFirst self.old (key.now, first) }
         ensures { Becomes (spec.beside (map rules.rule_of variables.now) counts.now givens.now key.now self.old) self.new result }
     {
         let Some(variable) = variables.get(key.variable) else {
@@ -114,25 +120,26 @@ impl Inputs {
         match default_of(&variable.default_value) {
             Some(value) => {
                 let count = count_of(counts, variable.entity);
-                self.put_row(givens, &value, key, count)
+                self.put_row(givens, &value, key, first, count)
             }
             None => Ok(()),
         }
     }
 
-    /// Puts defaults beside each of these keys: the members of its kind that have no value for its variable and period get the
+    /// Puts defaults beside each of these keys, each with how many of the first members have a value there: the members of its kind that have no value for its variable and period get the
     /// variable's default. `TooMany` where there would be more than 100,000 inputs, at the line of the variable's first input.
     pub(crate) fn put_defaults(
         &mut self,
         variables: &[Variable<'_>],
         counts: &[u32],
         givens: &[Given],
-        rows: &Keys,
+        rows: &Numbers,
     ) -> Result<(), SituationFault>
-        ensures { Becomes (spec.with_defaults (map rules.rule_of variables.now) counts.now givens.now rows.now.keys self.old) self.new result }
+        requires { AllByRecursion (spec.HaveFirst self.old) rows.now.entries }
+        ensures { Becomes (spec.with_defaults (map rules.rule_of variables.now) counts.now givens.now (keys_of rows.now.entries) self.old) self.new result }
     {
-        for row in rows.iter() {
-            self.put_beside(variables, counts, givens, row)?;
+        for (row, first) in rows.iter() {
+            self.put_beside(variables, counts, givens, row, *first)?;
         }
         Ok(())
     }

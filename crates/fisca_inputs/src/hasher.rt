@@ -4,11 +4,14 @@ ghost use Rattle.std.specs.Prelude.{◌≡◌, ◌<◌};
 ghost use Rattle.fisca_inputs.specs.KeyHashes.{tagged, word};
 
 use crate::key::Key;
-use indexmap::IndexSet;
+use indexmap::{IndexMap, IndexSet};
 use std::hash::{BuildHasherDefault, Hasher};
 
 /// Keys, each once, found by their hashes.
 pub(crate) type Keys = IndexSet<Key, BuildHasherDefault<KeyHasher>>;
+
+/// Numbers of keys, found by their hashes.
+pub(crate) type Numbers = IndexMap<Key, u32, BuildHasherDefault<KeyHasher>>;
 
 /// The fraction of the golden ratio, by which numbers that follow one another are spread.
 const MULTIPLIER: u64 = 0x9e37_79b9_7f4a_7c15;

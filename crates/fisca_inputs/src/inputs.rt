@@ -1,17 +1,19 @@
 //! The table of inputs.
 
-ghost use Rattle.std.specs.Prelude.{◌≡◌, ◌≤◌, [], ◌∷◌, false, not, length, IfOk, OnOk};
+ghost use Rattle.std.specs.Prelude.{◌≡◌, ◌≤◌, ◌<◌, ◌⊎◌, ℕ, [], ◌∷◌, false, true, not, length, IfOk, OnOk};
+ghost use Rattle.std.specs.List.{AllByRecursion};
+ghost use Rattle.std.specs.Map.{keys_of};
 ghost use Rattle.indexmap.specs.IndexMap.{insert_entry};
 ghost use Rattle.fisca_inputs.specs.Anew.{set_keys};
 ghost use Rattle.fisca_inputs.specs.Inputs.{is_marked, without_marked};
-ghost use Rattle.fisca_inputs.specs.Defaults.{rows_of};
+ghost use Rattle.fisca_inputs.specs.Defaults.{HaveFirst, and_row, rows_of};
 ghost use Rattle.fisca_inputs.specs.Entries as spec;
 ghost use Rattle.fisca_inputs.specs.Outcomes.{Becomes};
 ghost use Rattle.fisca_inputs.specs.declared.given.Value.{Value};
 
 use crate::fault::{SituationFault, SituationKind};
 use crate::given::Value;
-use crate::hasher::{KeyHasher, Keys};
+use crate::hasher::{KeyHasher, Numbers};
 use crate::key::Key;
 use indexmap::IndexMap;
 use std::alloc::{AllocError, Global};
@@ -146,18 +148,21 @@ impl Inputs {
         Ok(())
     }
 
-    /// The variables and periods that some member has a value for, each once, by the key of the first member.
-    pub(crate) fn rows(&self, alloc: Global) -> Result<Keys, AllocError>
-        ensures { IfOk result (λ rows. rows.keys ≡ rows_of self.now) }
+    /// The variables and periods that some member has a value for, each once, by the key of the first member, with how many of the first
+    /// members have one for sure. Where all members have one, in their order, these are all.
+    pub(crate) fn rows(&self, alloc: Global) -> Result<Numbers, AllocError>
+        ensures rows { IfOk result (λ rows. keys_of rows.entries ≡ rows_of self.now) }
+        ensures first { IfOk result (λ rows. AllByRecursion (HaveFirst self.now) rows.entries) }
     {
-        let mut rows = Keys::with_hasher(alloc, BuildHasherDefault::new());
+        let mut rows = Numbers::with_hasher(alloc, BuildHasherDefault::new());
         rows.reserve(self.entries.len().min(ROOM))?;
         for (key, _value) in self.entries.iter() {
-            rows.insert(Key {
+            let row = Key {
                 variable: key.variable,
                 member: 0,
                 period: key.period,
-            })?;
+            };
+            note_member(&mut rows, row, key.member)?;
         }
         Ok(rows)
     }
@@ -180,6 +185,34 @@ impl Inputs {
                 ensures { (result ≡ not (is_marked marks.entry.now key.now.variable)) × (value.new ≡ value.old) }
             { !is_marked(marks, key.variable) },
         );
+    }
+}
+
+/// How many of the first members have a value for sure, where so many have and this member has.
+fn first_with(first: u32, member: u32) -> u32
+    ensures { (m : ℕ) → m < result → (m < first) ⊎ (m ≡ member) }
+{
+    if first == member {
+        member.saturating_add(1)
+    } else {
+        first
+    }
+}
+
+/// Notes a row in which a member has a value.
+fn note_member(rows: &mut Numbers, row: Key, member: u32) -> Result<(), AllocError>
+    ensures keys { OnOk result (keys_of rows.new.entries ≡ and_row (keys_of rows.old.entries) row) }
+    ensures first { OnOk result ((es : spec.Entries) → spec.has es (spec.key row.variable member row.period) ≡ true → AllByRecursion (HaveFirst es) rows.old.entries → AllByRecursion (HaveFirst es) rows.new.entries) }
+{
+    match rows.get_mut(&row) {
+        Some(first) => {
+            *first = first_with(*first, member);
+            Ok(())
+        }
+        None => {
+            rows.insert(row, first_with(0, member))?;
+            Ok(())
+        }
     }
 }
 

@@ -1,4 +1,4 @@
-use Rattle.std.proofs.Common.{arith, ap, ◌∙◌, length}
+use Rattle.std.proofs.Common.{arith, ap, length}
 use Rattle.fisca_inputs.proofs.Puts.{part_is}
 use Rattle.fisca_inputs.proofs.inputs.Inputs.put_part.Goals as goal
 

@@ -4,6 +4,7 @@ use Rattle.std.specs.Prelude.{Err}
 use Rattle.fisca_inputs.specs.Defaults.{first_line, row_of}
 use Rattle.fisca_inputs.specs.Entries.{key, put_free, put_all}
 use Rattle.fisca_inputs.specs.declared.fault.SituationKind.TheVariants.{Memory}
+use Rattle.fisca_inputs.proofs.First.{from_first}
 use Rattle.fisca_inputs.proofs.Rows.{row_at, length-row}
 use Rattle.fisca_inputs.proofs.Steps.{goes_on, stops}
 use Rattle.fisca_inputs.proofs.inputs.Inputs.put_row.Goals as goal
@@ -21,6 +22,9 @@ returns-in_err-put_default c =
     λ n. stops (put_free line value) (put_all line value) (λ k ks es. refl) keys m (key x m p) c.loop-member.self fault (put_all line value keys c.args.self.now)
     (row_at x c.args.count p m c.loop-member-test.true) (c.in_err-put_default.ensures.0 n) c.loop-member.invariant in
     search (rules, told, c.in_err-put_default.ensures.1, c.from_residual.ensures)
+
+pub loop-member-init : goal.loop-member-init
+loop-member-init c = from_first (first_line c.args.givens.now c.args.key.now.variable) c.args.value.now c.args.key.now c.args.first c.args.count c.args.self.now c.requires
 
 pub loop-member-preserved : goal.loop-member-preserved
 loop-member-preserved c =

@@ -6,8 +6,9 @@ that the edit changes, by a clause of its own, and not because a name is gone. F
 builds the libraries below them. Then the edits are tried in copies of their crates over these libraries.
 
 A check of an edit asks for the function that it changes, and takes what the crate's other functions promise, since they are proved as
-they stand: in the copy each has a loop without an end for its body and a hole for its proof. Edits of different functions are tried in
-one check: what a function promises stays the same under an edit of a body, so whether another function is proved does not hang on it.
+they stand: in the copy each has a loop without an end for its body and a hole for its proof. Edits are tried in one check, a second one
+of a function in a function beside it that says and proves the same under another name: what a function promises stays the same under an
+edit of a body, so whether another function is proved does not hang on it.
 Where such a check does not say of the very function that it is not proved, the edit is tried again with fewer beside it, and at last
 alone. An edit of a constant asks for the functions that name it, one of which has to be refused. A line tells of each edit, and the
 last one counts them.
@@ -174,13 +175,15 @@ class Checks:
         home = str(top / "crates" / name)
         self.words = [rtlib.RATTLE, "check", *rtlib.Crate(home, rtlib.root_above(home), {}).words(["--jobs", "1"], keeps=False, as_source=False)]
 
-    def leave_open(self, asked, texts):
-        """Lays out the crate with these texts in place of its own. Each function but these, and but those of the cycles of calls that they are in,
-        keeps its contract, and has a loop without an end for its body and a hole for its proof."""
+    def leave_open(self, asked, texts, doubles=()):
+        """Lays out the crate with these texts in place of its own, and proofs for the doubles of functions. Each function but these, and but those of
+        the cycles of calls that they are in, keeps its contract, and has a loop without an end for its body and a hole for its proof."""
         shutil.rmtree(self.folder)
         for part in PROVED:
             if (self.crate / part).is_dir():
                 shutil.copytree(self.crate / part, self.folder / part)
+        for folder, double in doubles:
+            self.put_proof(folder, double)
         found = {path: functions_in(path, text, self.types) for path, text in texts.items()}
         cycles = {it.cycle for some in found.values() for it in some if it.known_as in asked}
         for path, text in texts.items():
@@ -201,31 +204,60 @@ class Checks:
             (at / own).unlink(missing_ok=True)
         (at / "Proof.antt").write_text(HOLE.format(crate=self.name, place=function.folder.replace("/", "."), name=at.name))
 
-    def check(self, functions, texts):
+    def put_proof(self, folder, double):
+        """Puts the proof of a function, if it has one, in the folder of its double."""
+        at, to = (self.folder / "proofs" / it for it in (folder, double))
+        if at.is_dir():
+            shutil.copytree(at, to)
+            named = re.compile(rf"\bproofs\.{re.escape(folder.replace('/', '.'))}\b")
+            for path in to.rglob("*.antt"):
+                path.write_text(named.sub("proofs." + double.replace("/", "."), path.read_text()))
+
+    def check(self, functions, texts, doubles=()):
         """Checks these functions in the crate with these texts in place of its own, over what its other functions promise. Answers the lines
         that it wrote."""
-        self.leave_open(functions, self.texts | texts)
+        self.leave_open(functions, self.texts | texts, doubles)
         only = [word for it in sorted(functions) for word in ("--only", it.removeprefix("::"))]
         run = subprocess.run([*self.words, "--allow-holes", *only], cwd=self.folder, stdin=subprocess.DEVNULL, stdout=subprocess.PIPE, stderr=subprocess.STDOUT, text=True, errors="replace")
         return run.stdout.splitlines()
 
     def side_by_side(self, edits):
-        """Edits of one function each, of functions that differ, that fit beside one another, by these functions, and the texts with them."""
-        some, texts = {}, self.texts
+        """Edits of one function each that fit beside one another, by the functions that they change, the texts with them, and the folders of the
+        proofs of functions that have doubles, with those of the doubles. The second edit of a function changes a double of it."""
+        some, texts, doubles = {}, self.texts, []
         for edit in edits:
             try:
-                changed, functions = changes(edit, texts, self.types)
+                changed, functions = changes(edit, self.texts, self.types)
+                function = min(functions)
+                if len(functions) == 1 and function not in some:
+                    some[function], texts = edit, texts | changes(edit, texts, self.types)[0]
+                elif len(functions) == 1 and len(changed) == 1:
+                    number = 2 + sum(it.startswith(f"{function}_again") for it in some)
+                    texts, double = self.doubled(function, f"_again{number}", changed, texts)
+                    some[f"{function}_again{number}"] = edit
+                    doubles.append(double)
             except (OSError, ValueError):
                 continue
-            function = min(functions)
-            if len(functions) == 1 and function not in some:
-                some[function], texts = edit, texts | changed
-        return some, texts
+        return some, texts, doubles
+
+    def doubled(self, function, suffix, changed, texts):
+        """The texts with a double of a function behind it, whose name has this suffix and which is as a changed text has it; and the folders of both
+        proofs. A method of a trait, a function that calls itself or is in a cycle of calls, and one with closures have none."""
+        (path, text), = changed.items()
+        new = next(it for it in functions_in(path, text, self.types) if it.known_as == function)
+        old = next(it for it in functions_in(path, texts[path], self.types) if it.known_as == function)
+        around, _, name = new.folder.rpartition("/")
+        proofs = self.crate / "proofs"
+        owner = function.split("::")[-2]
+        if name == "main" or text[new.start] == " " and owner not in self.types or (proofs / new.cycle).exists() or (proofs / around / "fn" / name).exists():
+            raise ValueError("it has no double")
+        double = re.sub(rf"\bfn {name}\b", f"fn {name}{suffix}", text[new.attributes : new.end], count=1)
+        return texts | {path: f"{texts[path][: old.end]}\n\n{double}{texts[path][old.end :]}"}, (new.folder, new.folder + suffix)
 
     def together(self, edits):
-        """Tries edits of functions that differ in one check. Answers how many, and what the check said of each that it surely refused."""
-        some, texts = self.side_by_side(edits)
-        lines = self.check(set(some), texts) if some else []
+        """Tries edits in one check. Answers how many, and what the check said of each that it surely refused."""
+        some, texts, doubles = self.side_by_side(edits)
+        lines = self.check(set(some), texts, doubles) if some else []
         return len(some), {edit: line for function, edit in some.items() if (line := refused_for(function, set(some), lines))}
 
     def alone(self, edit):

@@ -244,8 +244,9 @@ class Checks:
         """The texts with a double of a function behind it, whose name has this suffix and which is as a changed text has it; and the folders of both
         proofs. A method of a trait, a function that calls itself or is in a cycle of calls, and one with closures have none."""
         (path, text), = changed.items()
-        new = next(it for it in functions_in(path, text, self.types) if it.known_as == function)
-        old = next(it for it in functions_in(path, texts[path], self.types) if it.known_as == function)
+        new, old = (next((it for it in functions_in(path, some, self.types) if it.known_as == function), None) for some in (text, texts[path]))
+        if not new or not old:
+            raise ValueError("it changes another file than that of the function")
         around, _, name = new.folder.rpartition("/")
         proofs = self.crate / "proofs"
         owner = function.split("::")[-2]

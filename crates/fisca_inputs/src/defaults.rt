@@ -126,8 +126,9 @@ impl Inputs {
         }
     }
 
-    /// Puts defaults beside each of these keys, each with how many of the first members have a value there: the members of its kind that have no value for its variable and period get the
-    /// variable's default. `TooMany` where there would be more than 100,000 inputs, at the line of the variable's first input.
+    /// Puts defaults beside each of these keys, each with how many of the first members have a value there: the members of its
+    /// kind that have no value for its variable and period get the variable's default. `TooMany` where there would be more than
+    /// 100,000 inputs, at the line of the variable's first input.
     pub(crate) fn put_defaults(
         &mut self,
         variables: &[Variable<'_>],

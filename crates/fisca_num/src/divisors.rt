@@ -76,7 +76,7 @@ fn odd_gcd(a: u64, b: u64) -> u64
     requires b { b % 2 ≡ 1 }
     ensures { IsGcd a b result }
 {
-    // what is left of a number without its twos mostly is 1
+    // a power of two leaves 1, which needs no steps
     if a == 1 || b == 1 {
         return 1;
     }

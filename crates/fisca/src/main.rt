@@ -128,6 +128,3 @@ fn tell(rt: &HostRuntime, line: &str, status: u8) -> u8 {
     let _ = eprintln!(rt; "{line}");
     status
 }
-
-#[cfg(test)]
-mod tests;

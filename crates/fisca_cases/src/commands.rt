@@ -5,10 +5,14 @@ use crate::runs::{is_the_same_anew, push_end};
 use crate::words::{given, limit, number, one, three};
 use crate::written::Written;
 use fisca_commands::{
-    Refusal, Task, axes_words, calc_rules, check_rules, run_rules, run_task, test_rules,
+    Refusal, Task, Unanswered, axes_words, calc_rules, check_rules, run_rules, run_task, test_rules,
 };
-use fisca_lines::{MemorySink, RunEnd};
+use fisca_eval::EvalFault;
+use fisca_grid::AxesFault;
+use fisca_inputs::Key;
+use fisca_lines::{MemorySink, RunEnd, RunFault};
 use fisca_params::SourceFile;
+use fisca_time::Period;
 use std::alloc::{AllocError, Global};
 
 /// The answer to a case of commands: what the call of this name gives for these words.
@@ -33,6 +37,7 @@ pub fn answer(
         ),
         "check" => check(alloc, files),
         "check_task" => run(alloc, &Task::Check { rules: "rules" }, files, ""),
+        "refused" => refused(alloc, one(words)?),
         "run" => grid(alloc, files, words),
         "run_task" => {
             let (from, rows, text) = three(words)?;
@@ -123,6 +128,45 @@ fn grid(alloc: Global, files: &[SourceFile], words: &[String]) -> Result<String,
         // what is refused before a run has none to compare
         Ok(true) | Err(_) => ended(alloc, &sink, answer),
     }
+}
+
+/// A refusal to which no text leads, by what it is for.
+fn refused(alloc: Global, cause: &str) -> Result<String, Fault> {
+    let mut shown = Written::new(alloc);
+    match cause {
+        "memory" => push_refusal(alloc, &mut shown, &Refusal::Memory),
+        "memory_of_axes" => push_refusal(alloc, &mut shown, &Refusal::Axes(AxesFault::Memory)),
+        "memory_of_run" => push_run(alloc, &mut shown, RunFault::Memory { position: 1 }),
+        "write" => push_refusal(alloc, &mut shown, &Refusal::Write),
+        "write_of_run" => push_run(alloc, &mut shown, RunFault::Write { position: 1 }),
+        "value_of_run" => push_run(
+            alloc,
+            &mut shown,
+            RunFault::Eval {
+                position: 7,
+                fault: unanswered(alloc)?,
+            },
+        ),
+        "value" => push_refusal(alloc, &mut shown, &Refusal::Eval(unanswered(alloc)?)),
+        _ => return Err(Fault::Malformed),
+    }
+    Ok(shown.finish()?)
+}
+
+fn push_run(alloc: Global, shown: &mut Written, fault: RunFault<Unanswered>) {
+    push_refusal(alloc, shown, &Refusal::Run(fault));
+}
+
+/// A key that has no value.
+fn unanswered(alloc: Global) -> Result<Unanswered, AllocError> {
+    Ok(Unanswered {
+        fault: EvalFault::ZeroDivisor(Key {
+            variable: 0,
+            member: 0,
+            period: Period::ETERNITY,
+        }),
+        key: String::from_str(alloc, "salary Ann 2017-01")?,
+    })
 }
 
 /// What is written, and the end of the run or the refusal.

@@ -1,4 +1,0 @@
-//! The program's parts: command lines and folders.
-
-mod folder;
-mod task;

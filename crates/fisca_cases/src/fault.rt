@@ -2,7 +2,6 @@
 
 use crate::written::Written;
 use fisca_calc::RunFileFault;
-use fisca_commands::Refusal;
 use fisca_grid::AxesFault;
 use fisca_inputs::SituationFault;
 use fisca_names::BuildFault;
@@ -40,8 +39,6 @@ pub enum Fault {
     RunFile(#[from] RunFileFault),
     #[error("{0}")]
     Axes(#[from] AxesFault),
-    #[error("{0}")]
-    Refused(#[from] Refusal),
 }
 
 impl From<AllocError> for Fault {
@@ -72,7 +69,6 @@ impl Fault {
             Fault::Situation(fault) => push_situation(&mut told, *fault),
             Fault::RunFile(fault) => push_run_file(&mut told, *fault),
             Fault::Axes(fault) => push(&mut told, *fault as u8, fault),
-            Fault::Refused(refusal) => push_refusal(alloc, &mut told, refusal),
         }
         told.finish()
     }
@@ -133,17 +129,4 @@ fn push_place(told: &mut Written, file: usize, line: usize) {
     told.push(", file ");
     told.push_number(file as u64);
     push_line(told, line);
-}
-
-/// Appends a refusal of a command as its number, its status and its line for standard error.
-pub fn push_refusal(alloc: Global, told: &mut Written, refusal: &Refusal) {
-    told.push("refusal ");
-    told.push_number(u64::from(refusal.number()));
-    told.push(", status ");
-    told.push_number(u64::from(refusal.status()));
-    told.push(", ");
-    match refusal.line(alloc, "file.yaml") {
-        Ok(line) => told.push(line.as_str()),
-        Err(_) => told.push("no memory"),
-    }
 }

@@ -8,12 +8,12 @@
 
 mod case;
 mod columns;
-mod commands;
 mod expressions;
 mod fault;
 mod grid;
 mod num;
 mod params;
+mod refusals;
 mod rule_sets;
 mod runs;
 mod situations;
@@ -120,7 +120,7 @@ fn ask(
             "calc" => columns::calc(alloc, operation.as_str(), files, rest),
             "grid" => grid::answer(alloc, operation.as_str(), rest),
             "run" => runs::answer(alloc, operation.as_str(), files, rest),
-            "commands" => commands::answer(alloc, operation.as_str(), files, rest),
+            "refusals" => refusals::answer(alloc, operation.as_str(), rest),
             _ => Err(Fault::Malformed),
         },
     }

@@ -13,11 +13,10 @@ ghost use Rattle.fisca_slots.specs.Slots.{slots_of};
 ghost use Rattle.fisca_slots.specs.Views.{slot_list};
 ghost use Rattle.fisca_yaml.specs.Views.{node};
 
-use crate::fault::{Fault, push_refusal};
+use crate::fault::Fault;
 use crate::rule_sets::rules_of;
 use crate::words::{limit, number, three};
 use crate::written::Written;
-use fisca_commands::run_rules;
 use fisca_eval::EvalFault;
 use fisca_lines::{MemorySink, RunEnd, RunFault};
 use fisca_memo::Evaluator;
@@ -30,65 +29,82 @@ use fisca_slots::Slot;
 use fisca_yaml::{Tree, read};
 use std::alloc::Global;
 
-/// The answer to a case of runs: what the call of this name gives for these files and words.
+/// The answer to a case of runs: what the call of this name gives for these files and the words `FROM ROWS TEXT` of a run file, where `-` stands for
+/// no limit.
 pub fn answer(
     alloc: Global,
     operation: &str,
     files: &[SourceFile],
     words: &[String],
 ) -> Result<String, Fault> {
+    let (from, rows, text) = three(words)?;
+    let (from, rows) = (number(from)?, limit(rows)?);
+    let rules = rules_of(alloc, files)?;
+    let tree = read(alloc, text)?;
+    let run = read_run(alloc, &rules, &tree)?;
     match operation {
-        "counts" => counts(alloc, files, words),
+        "anew" => anew(alloc, &rules, &tree, &run, from, rows),
+        "counts" => counts(alloc, &rules, &tree, &run, from, rows),
         _ => Err(Fault::Malformed),
     }
 }
 
-/// The end of the run over the run file `FROM ROWS TEXT`, where `-` stands for no limit, and behind it how many formulas gave values; or the refusal.
-fn counts(alloc: Global, files: &[SourceFile], words: &[String]) -> Result<String, Fault> {
-    let (from, rows, text) = three(words)?;
+/// Whether the run, with one situation and one evaluator, writes and answers the same as that which begins anew at each position.
+fn anew(
+    alloc: Global,
+    rules: &RuleSet<'_>,
+    tree: &Tree<'_>,
+    run: &RunFile,
+    from: u64,
+    rows: Option<u64>,
+) -> Result<String, Fault>
+    requires { IsAsked rules.now (node tree.now) (run_file_view run.now) }
+{
+    let is_same = are_the_same(alloc, rules, tree, run, from, rows);
+    Ok(String::from_str(alloc, if is_same { "the same" } else { "differs" })?)
+}
+
+/// The end of the run, and behind it how many formulas gave values; or the fault that stopped it.
+fn counts(
+    alloc: Global,
+    rules: &RuleSet<'_>,
+    tree: &Tree<'_>,
+    run: &RunFile,
+    from: u64,
+    rows: Option<u64>,
+) -> Result<String, Fault>
+    requires { IsAsked rules.now (node tree.now) (run_file_view run.now) }
+{
     let mut sink = MemorySink::new(alloc);
-    let answer = run_rules(alloc, files, text, number(from)?, limit(rows)?, &mut sink);
     let mut shown = Written::new(alloc);
-    match answer {
-        Ok((end, counts)) => {
-            push_end(&mut shown, end);
-            push_count(&mut shown, ", free ", counts.free());
-            push_count(&mut shown, ", bound ", counts.bound());
-            push_count(&mut shown, ", lost ", counts.lost());
-        }
-        Err(refusal) => push_refusal(alloc, &mut shown, &refusal),
+    match run_grid(alloc, rules, tree, run, from, rows, &mut sink) {
+        Ok((end, counts)) => push_counts(&mut shown, end, counts),
+        Err(RunFault::BadPosition) => shown.push("BadPosition"),
+        Err(RunFault::Eval { position, fault }) => push_stop(&mut shown, position, fault),
+        Err(RunFault::Write { .. } | RunFault::Memory { .. }) => return Err(Fault::Memory),
     }
     Ok(shown.finish()?)
+}
+
+fn push_stop(shown: &mut Written, position: u64, fault: EvalFault) {
+    push_count(shown, "position ", position);
+    shown.push(": ");
+    shown.push(fault.name());
+}
+
+fn push_counts(shown: &mut Written, end: RunEnd, counts: Counts) {
+    match end {
+        RunEnd::End => shown.push("end"),
+        RunEnd::More(position) => push_count(shown, "more ", position),
+    }
+    push_count(shown, ", free ", counts.free());
+    push_count(shown, ", bound ", counts.bound());
+    push_count(shown, ", lost ", counts.lost());
 }
 
 fn push_count(shown: &mut Written, word: &str, count: u64) {
     shown.push(word);
     shown.push_number(count);
-}
-
-/// Appends the end of a run.
-pub fn push_end(shown: &mut Written, end: RunEnd) {
-    match end {
-        RunEnd::End => shown.push("end"),
-        RunEnd::More(position) => {
-            shown.push("more ");
-            shown.push_number(position);
-        }
-    }
-}
-
-/// Whether the run over a run file, with one situation and one evaluator, writes and answers the same as that which begins anew at each position.
-pub fn is_the_same_anew(
-    alloc: Global,
-    files: &[SourceFile],
-    from: u64,
-    rows: Option<u64>,
-    text: &str,
-) -> Result<bool, Fault> {
-    let rules = rules_of(alloc, files)?;
-    let tree = read(alloc, text)?;
-    let run = read_run(alloc, &rules, &tree)?;
-    Ok(are_the_same(alloc, &rules, &tree, &run, from, rows))
 }
 
 /// The run file that a tree says under a rule set.

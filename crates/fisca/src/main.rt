@@ -1,15 +1,20 @@
 //! The program `fisca`: reads the command line, runs the command, and tells how it ended by its exit status.
 #![tactic(auto)]
 
+mod folder;
+mod help;
+mod task;
+
 use clap::error::ErrorKind;
 use fisca_commands::{Ending, Task, run_task};
 use fisca_folder::{FolderFault, LONGEST, read_rules, text_of_file};
 use fisca_lines::StreamSink;
 use fisca_params::SourceFile;
-use fisca_program::{DiskFolder, read_bytes, read_task};
+use folder::{DiskFolder, read_bytes};
 use std::io::{BufWriter, Write};
 use std::process::ExitCode;
 use std::{env, io};
+use task::read_task;
 
 /// The status of a command line that `clap` refused.
 const USAGE: u8 = 2;

@@ -14,10 +14,10 @@ use Rattle.clap.specs.Matches.{subcommand_name_of}
 use Rattle.clap.specs.declared.parser.matches.ArgMatches.{ArgMatches}
 use Rattle.clap.specs.declared.parser.matches.ArgMatches.TheViews.{out-ArgMatches, out-SubCommand}
 use Rattle.clap.specs.declared.parser.matches.SubCommand.{SubCommand}
-use Rattle.fisca_program.proofs.Parses.{no_fault}
+use Rattle.fisca.proofs.Parses.{no_fault}
 use Rattle.clap.specs.Faults.{fault_of, is_simple_and_free, other_fault, turn_fault, walk_fault, word_fault}
 use Rattle.clap.specs.declared.error.kind.ErrorKind.TheVariants as kind
-use Rattle.fisca_program.specs.CommandLine.{fisca_app}
+use Rattle.fisca.specs.CommandLine.{fisca_app}
 
 first_none : (one other : Kinds) → or_else one other ≡ [] → one ≡ []
 first_none [] other h = refl

@@ -7,7 +7,7 @@ ghost use Rattle.clap.specs.Walk.{one_of, rows_of, rule_of};
 ghost use Rattle.clap.specs.Simple.{app_of, new_app, subcommand_of};
 ghost use Rattle.clap.specs.Faults.{fault_of};
 ghost use Rattle.clap.specs.Kinds.{FailsBy};
-ghost use Rattle.fisca_program.specs.CommandLine.{axis_rule, option_rule, number_rule, required_rule, axes_app, calc_app, check_app, fisca_app, run_app, test_app, text_of, top_app, IsAxesTask, IsCalcTask, IsCheckTask, IsOptionalNumber, IsRunTask, IsStart, IsTaskOf, IsTestTask};
+ghost use Rattle.fisca.specs.CommandLine.{axis_rule, option_rule, number_rule, required_rule, axes_app, calc_app, check_app, fisca_app, run_app, test_app, text_of, top_app, IsAxesTask, IsCalcTask, IsCheckTask, IsOptionalNumber, IsRunTask, IsStart, IsTaskOf, IsTestTask};
 
 use crate::help::{
     ABOUT, AXES_ABOUT, AXES_EXAMPLE, AXES_EXAMPLES, AXES_LONG, AXIS_HELP, AXIS_LONG, CALC_ABOUT,

@@ -4,7 +4,7 @@ use Rattle.clap.specs.Kinds.{Kinds}
 use Rattle.clap.specs.Walk.{Text}
 use Rattle.clap.specs.Simple.{App}
 use Rattle.clap.specs.Faults.{fault_of, is_simple_and_free}
-use Rattle.fisca_program.specs.CommandLine.{fisca_app}
+use Rattle.fisca.specs.CommandLine.{fisca_app}
 
 -- what is known of its fault
 pub fault_known : (P : Kinds → Type 0) (app : App) (words : List Text) → app ≡ fisca_app → (is_simple_and_free app ≡ true → P (fault_of app words)) → P (fault_of fisca_app words)

@@ -1,8 +1,8 @@
 use Rattle.std.proofs.Common.{◌∙◌, ap, unwrap_or, []}
 use Rattle.clap.proofs.WalkLemmas.{first_value-rows}
 use Rattle.clap.specs.Matches.{found_of}
-use Rattle.fisca_program.proofs.Matches.{text_or}
-use Rattle.fisca_program.proofs.task.text_at.Goals as goal
+use Rattle.fisca.proofs.Matches.{text_or}
+use Rattle.fisca.proofs.task.text_at.Goals as goal
 
 pub returns : goal.returns
 returns c =

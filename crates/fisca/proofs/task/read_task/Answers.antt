@@ -1,9 +1,9 @@
 use Rattle.std.proofs.Common.{inl, inr, rules}
 use Rattle.std.proofs.lemmas.Result.{err_from_is_err_and}
 use Rattle.clap.specs.Kinds.{HasKind}
-use Rattle.fisca_program.proofs.Commands.{met, no_other}
-use Rattle.fisca_program.proofs.Parses.{fault_known, no_fault}
-use Rattle.fisca_program.proofs.task.read_task.Goals as goal
+use Rattle.fisca.proofs.Commands.{met, no_other}
+use Rattle.fisca.proofs.Parses.{fault_known, no_fault}
+use Rattle.fisca.proofs.task.read_task.Goals as goal
 
 pub returns-in-Some-axes-default-clause-fault : goal.returns-in-Some-axes-default-clause-fault
 returns-in-Some-axes-default-clause-fault c = no_fault _ _ c.in_ok-command.ensures.app c.in_ok-matches.ensures.kinds

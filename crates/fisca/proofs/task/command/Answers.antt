@@ -1,7 +1,7 @@
 use Rattle.std.proofs.Common.{◌∙◌, ◌||◌, ap, ap₂}
 use Rattle.std.proofs.lemmas.Result.{IfOk-weaker}
 use Rattle.clap.specs.Simple.{App, with_subcommand}
-use Rattle.fisca_program.proofs.task.command.Goals as goal
+use Rattle.fisca.proofs.task.command.Goals as goal
 
 pub returns-clause-app : goal.returns-clause-app
 returns-clause-app c =

@@ -1,8 +1,8 @@
 use Rattle.std.proofs.Common.{◌∙◌, [], ap, map, codes, unwrap_or}
 use Rattle.clap.proofs.WalkLemmas.{first_value-rows, raw_values-rows}
 use Rattle.clap.specs.Matches.{found_of}
-use Rattle.fisca_program.proofs.Matches.{texts_or}
-use Rattle.fisca_program.proofs.task.axes_task.Goals as goal
+use Rattle.fisca.proofs.Matches.{texts_or}
+use Rattle.fisca.proofs.task.axes_task.Goals as goal
 
 pub returns : goal.returns
 returns c =

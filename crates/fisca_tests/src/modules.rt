@@ -1,4 +1,4 @@
-//! Modules: what they declare, and the kinds and lines of their faults.
+//! Modules: what they declare.
 
 use fisca_expressions::Slice;
 use fisca_syntax::{Assignment, Formula, Item, Module, Statement, read_module};

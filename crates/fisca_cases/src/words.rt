@@ -116,15 +116,10 @@ where
     }
 }
 
-/// A word, unless it is `-`.
-pub fn given(word: &str) -> Option<&str> {
-    if word == "-" { None } else { Some(word) }
-}
-
 /// A limit of lines, or none for `-`.
 pub fn limit(word: &str) -> Result<Option<u64>, Fault> {
-    match given(word) {
-        Some(limit) => Ok(Some(number(limit)?)),
-        None => Ok(None),
+    if word == "-" {
+        return Ok(None);
     }
+    Ok(Some(number(word)?))
 }

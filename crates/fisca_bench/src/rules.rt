@@ -1,7 +1,7 @@
 //! Building the rule sets that `bench/texts_rules` writes, beside reading their modules.
 ghost use Rattle.std.specs.Prelude.{IfSome};
 ghost use Rattle.fisca_rules.specs.Views.{rule_set};
-ghost use Rattle.fisca_sources.specs.Sound.{IsSafeRules};
+ghost use Rattle.fisca_eval.specs.Sound.{IsSafeRules};
 
 use crate::params::files_of;
 use crate::{Measured, list, show};

@@ -1,7 +1,7 @@
 -- The definition of the lines of columns, worked out on small ones.
 use Rattle.std.proofs.Common.{◌≡◌, ℕ, ◌*◌, List, [], ◌∷◌, ◌++◌, codes, refl}
 use Rattle.std.specs.Prelude.{true, Some, Result, Ok, Err, if◌then◌else◌, ◌==◌}
-use Rattle.fisca_columns.specs.Shown.{shown}
+use Rattle.fisca_calc.specs.Shown.{shown}
 use Rattle.fisca_lines.specs.Row.{Row, Nothing, Line, Fault}
 use Rattle.fisca_inputs.specs.Entries.{key}
 use Rattle.fisca_inputs.specs.declared.given.Value.{Value}

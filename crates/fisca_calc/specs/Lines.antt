@@ -1,6 +1,6 @@
 -- The lines of columns.
 use Rattle.std.specs.Prelude.{◌≡◌, ⊤, ℕ, List, [], ◌∷◌, ◌++◌, slice_get, Option, Some, None, Result, Ok, Err}
-use Rattle.fisca_columns.specs.Texts.{key_text, value_text}
+use Rattle.fisca_calc.specs.Texts.{key_text, value_text}
 use Rattle.fisca_lines.specs.Row.{Row, Nothing, Line, Fault}
 use Rattle.fisca_lines.specs.declared.fault.RowFault.{RowFault}
 use Rattle.fisca_lines.specs.declared.fault.RowFault.TheVariants as fault

@@ -7,7 +7,7 @@ ghost use Rattle.fisca_situations.specs.Views.{situation as situation_view};
 ghost use Rattle.fisca_yaml.specs.Views.{node, items_view};
 
 use crate::fault::{RunFileFault, RunFileKind};
-use fisca_columns::read_column;
+use crate::read_column;
 use fisca_inputs::Key;
 use fisca_situations::Situation;
 use fisca_tables::Tables;

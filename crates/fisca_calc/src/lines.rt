@@ -8,7 +8,7 @@ ghost use Rattle.fisca_situations.specs.Views.{situation as situation_view};
 ghost use Rattle.fisca_tables.specs.Known.{tables as known};
 
 use crate::answers::Answers;
-use fisca_columns::{write_key, write_value};
+use crate::{write_key, write_value};
 use fisca_inputs::{Key, Value};
 use fisca_lines::{Groups, RowFault, RowSink, Rows, RunEnd, RunFault, Selection, write_lines};
 use fisca_situations::Situation;

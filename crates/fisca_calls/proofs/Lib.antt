@@ -1,4 +1,6 @@
+pub mod Counted
 pub mod Keywords
+pub mod Latest
 pub mod Rows
 pub mod Scales
 pub mod Selected

@@ -1,2 +1,4 @@
 pub mod Arguments
+pub mod Counts
+pub mod Locals
 pub mod Parameters

@@ -3,21 +3,19 @@
 ghost use Rattle.std.specs.Prelude.{◌≡◌, None};
 ghost use Rattle.fisca_meaning.specs.Dialogues as meaning;
 ghost use Rattle.fisca_rules.specs.Views.{rule_set};
-ghost use Rattle.fisca_sources.specs.Sound.{IsSafeRules};
+ghost use Rattle.fisca_eval.specs.Sound.{IsSafeRules};
 
-use crate::fault::Fault;
+use crate::fault::{Fault, malformed, no_memory};
 use crate::rule_sets::rules_of;
 use crate::situations::{key_of, situation};
-use crate::words::number;
-use crate::written::Written;
-use fisca_calc::{Answers, CalcFile, write_columns};
-use fisca_columns::{key_text, read_column, value_text};
+use fisca_calc::{Answers, CalcFile, key_text, read_column, value_text, write_columns};
 use fisca_eval::{EvalFault, Evaluator, calc_inputs_fit};
 use fisca_inputs::{Key, Value};
+use fisca_layer_cases::{Written, number};
 use fisca_lines::{MemorySink, RunFault};
+use fisca_memo::{Counts, IndexRecall, ListRecall, Recall};
 use fisca_num::Fraction;
 use fisca_params::SourceFile;
-use fisca_recall::{Counts, IndexRecall, ListRecall, Recall};
 use fisca_rules::RuleSet;
 use fisca_situations::Situation;
 use fisca_time::Period;
@@ -37,14 +35,14 @@ pub fn answer(
         "read" => column(alloc, &rules, words),
         "key" => key(alloc, &rules, words),
         "value" => value(alloc, &rules, words),
-        _ => Err(Fault::Malformed),
+        _ => Err(malformed()),
     }
 }
 
 /// The place of the variable, the member and the period of the key that a column names.
 fn column(alloc: Global, rules: &RuleSet<'_>, words: &[String]) -> Result<String, Fault> {
     let [text, default, input] = words else {
-        return Err(Fault::Malformed);
+        return Err(malformed());
     };
     let found = situation(alloc, rules, default.as_str(), input.as_str())?;
     let default = match default.as_str() {
@@ -64,7 +62,7 @@ fn column(alloc: Global, rules: &RuleSet<'_>, words: &[String]) -> Result<String
 /// The text of the key `VARIABLE MEMBER PERIOD`.
 fn key(alloc: Global, rules: &RuleSet<'_>, words: &[String]) -> Result<String, Fault> {
     let [variable, member, period, default, input] = words else {
-        return Err(Fault::Malformed);
+        return Err(malformed());
     };
     let found = situation(alloc, rules, default.as_str(), input.as_str())?;
     let key = key_of(rules, variable.as_str(), member.as_str(), period.as_str())?;
@@ -74,10 +72,10 @@ fn key(alloc: Global, rules: &RuleSet<'_>, words: &[String]) -> Result<String, F
 /// The text of a value of a variable: `true`, `false`, `member PLACE` or a number.
 fn value(alloc: Global, rules: &RuleSet<'_>, words: &[String]) -> Result<String, Fault> {
     let [variable, rest @ ..] = words else {
-        return Err(Fault::Malformed);
+        return Err(malformed());
     };
     let Some(variable) = rules.variable(variable.as_str()) else {
-        return Err(Fault::Malformed);
+        return Err(malformed());
     };
     let value = said(rest)?;
     Ok(value_text(alloc, &rules.tables, variable, value)?)
@@ -91,7 +89,7 @@ fn said(words: &[String]) -> Result<Value, Fault> {
             literal => Ok(Value::Number(Fraction::from_decimal(literal)?)),
         },
         [_, place] => Ok(Value::Member(number(place.as_str())?)),
-        _ => Err(Fault::Malformed),
+        _ => Err(malformed()),
     }
 }
 
@@ -107,7 +105,7 @@ pub fn calc(
         [text] if operation == "read" => file(alloc, &rules, text.as_str()),
         [text] if operation == "values" => values(alloc, &rules, text.as_str()),
         [text] if operation == "counts" => counts(alloc, &rules, text.as_str()),
-        _ => Err(Fault::Malformed),
+        _ => Err(malformed()),
     }
 }
 
@@ -232,7 +230,7 @@ fn push_fault(
             Ok(())
         }
         RunFault::BadPosition | RunFault::Write { .. } | RunFault::Memory { .. } => {
-            Err(Fault::Memory)
+            Err(no_memory())
         }
     }
 }

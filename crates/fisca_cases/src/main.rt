@@ -4,27 +4,18 @@
 //! A case is a line `LAYER OPERATION WORD..`. A word has no blank, or stands in double quotes, with the escapes `\n`, `\r`,
 //! `\t`, `\"` and `\\`. Lines below it that begin with two blanks are the text that is its last word. Empty lines and lines
 //! with `#` are copied. `file PATH TEXT` adds a file to the rule set that later cases are about, and `rules` begins a new one.
+//! Layers below rule sets are answered by `fisca_layer_cases`.
 #![tactic(auto)]
 
-mod case;
 mod columns;
-mod expressions;
 mod fault;
-mod grid;
-mod num;
-mod params;
 mod refusals;
 mod rule_sets;
 mod runs;
 mod situations;
-mod time;
-mod tokens;
-mod words;
-mod written;
-mod yaml;
 
-use case::Case;
-use fault::Fault;
+use fault::{Fault, malformed};
+use fisca_layer_cases::{Case, two};
 use fisca_params::SourceFile;
 use std::alloc::{AllocError, Global};
 use std::io;
@@ -73,7 +64,7 @@ fn close(rt: &HostRuntime, files: &mut Vec<SourceFile>, open: Option<Case>) -> i
 /// What the call of a case answers.
 fn answer(alloc: Global, files: &mut Vec<SourceFile>, words: &[String]) -> Result<String, Fault> {
     match words {
-        [] => Err(Fault::Malformed),
+        [] => Err(malformed()),
         [first, rest @ ..] => match first.as_str() {
             "rules" => begin(alloc, files),
             "file" => add(alloc, files, rest),
@@ -90,7 +81,7 @@ fn begin(alloc: Global, files: &mut Vec<SourceFile>) -> Result<String, Fault> {
 
 /// Adds the file `PATH TEXT` to the rule set, and answers its place.
 fn add(alloc: Global, files: &mut Vec<SourceFile>, words: &[String]) -> Result<String, Fault> {
-    let (path, text) = words::two(words)?;
+    let (path, text) = two(words)?;
     let place = files.len();
     let path = String::from_str(alloc, path)?;
     let text = String::from_str(alloc, text)?;
@@ -106,22 +97,24 @@ fn ask(
     words: &[String],
 ) -> Result<String, Fault> {
     match words {
-        [] => Err(Fault::Malformed),
+        [] => Err(malformed()),
         [operation, rest @ ..] => match layer {
-            "num" => num::answer(alloc, operation.as_str(), rest),
-            "time" => time::answer(alloc, operation.as_str(), rest),
-            "yaml" => yaml::answer(alloc, operation.as_str(), rest),
-            "params" => params::answer(alloc, operation.as_str(), files, rest),
-            "tokens" => tokens::answer(alloc, operation.as_str(), rest),
-            "expressions" => expressions::answer(alloc, operation.as_str(), rest),
             "rule_sets" => rule_sets::answer(alloc, operation.as_str(), files),
             "situations" => situations::answer(alloc, operation.as_str(), files, rest),
             "columns" => columns::answer(alloc, operation.as_str(), files, rest),
             "calc" => columns::calc(alloc, operation.as_str(), files, rest),
-            "grid" => grid::answer(alloc, operation.as_str(), rest),
             "run" => runs::answer(alloc, operation.as_str(), files, rest),
             "refusals" => refusals::answer(alloc, operation.as_str(), rest),
-            _ => Err(Fault::Malformed),
+            other => match fisca_layer_cases::answer(
+                alloc,
+                other,
+                operation.as_str(),
+                files,
+                rest,
+            ) {
+                Some(answer) => Ok(answer?),
+                None => Err(malformed()),
+            },
         },
     }
 }

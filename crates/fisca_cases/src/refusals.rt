@@ -1,13 +1,12 @@
 //! Refusals of commands.
 
-use crate::fault::Fault;
-use crate::words::one;
-use crate::written::Written;
+use crate::fault::{Fault, malformed};
 use fisca_eval::EvalFault;
 use fisca_grid::AxesFault;
 use fisca_inputs::Key;
+use fisca_layer_cases::{Written, one};
 use fisca_lines::RunFault;
-use fisca_refusals::{Refusal, Unanswered};
+use fisca_rule_files::{Refusal, Unanswered};
 use fisca_time::Period;
 use std::alloc::{AllocError, Global};
 
@@ -15,7 +14,7 @@ use std::alloc::{AllocError, Global};
 pub fn answer(alloc: Global, operation: &str, words: &[String]) -> Result<String, Fault> {
     match operation {
         "told" => told(alloc, &named(alloc, one(words)?)?),
-        _ => Err(Fault::Malformed),
+        _ => Err(malformed()),
     }
 }
 
@@ -31,7 +30,7 @@ fn named(alloc: Global, name: &str) -> Result<Refusal, Fault> {
             position: 7,
             fault: unanswered(alloc)?,
         })),
-        _ => Err(Fault::Malformed),
+        _ => Err(malformed()),
     }
 }
 

@@ -2,9 +2,9 @@
 
 ghost use Rattle.std.specs.Prelude.{IfOk};
 ghost use Rattle.fisca_rules.specs.Views.{rule_set};
-ghost use Rattle.fisca_sources.specs.Sound.{IsSafeRules};
+ghost use Rattle.fisca_eval.specs.Sound.{IsSafeRules};
 
-use crate::fault::Fault;
+use crate::fault::{Fault, malformed};
 use fisca_eval::rule_sets_are_safe;
 use fisca_params::{ParamTree, SourceFile};
 use fisca_rules::RuleSet;
@@ -15,7 +15,7 @@ use std::alloc::Global;
 pub fn answer(alloc: Global, operation: &str, files: &[SourceFile]) -> Result<String, Fault> {
     match operation {
         "build" => build(alloc, files),
-        _ => Err(Fault::Malformed),
+        _ => Err(malformed()),
     }
 }
 

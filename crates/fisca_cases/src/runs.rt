@@ -2,30 +2,27 @@
 
 ghost use Rattle.std.specs.Prelude.{◌≡◌, IfOk, None, Ok, length};
 ghost use Rattle.fisca_memo.specs.Evaluators.{marks_in, simulation_of};
-ghost use Rattle.fisca_run.specs.Kept.{IsKept, IsRunFile};
-ghost use Rattle.fisca_run.specs.Runs.{IsAsked};
+ghost use Rattle.fisca_commands.specs.Kept.{IsKept, IsRunFile};
+ghost use Rattle.fisca_commands.specs.Runs.{IsAsked};
 ghost use Rattle.fisca_run_file.specs.Positions.{situation_with};
 ghost use Rattle.fisca_run_file.specs.RunFiles.{run_file_of};
 ghost use Rattle.fisca_run_file.specs.Views.{run_file as run_file_view};
 ghost use Rattle.fisca_situations.specs.Views.{situation as situation_view};
-ghost use Rattle.fisca_slots.specs.Marks.{wheels_of};
-ghost use Rattle.fisca_slots.specs.Slots.{slots_of};
-ghost use Rattle.fisca_slots.specs.Views.{slot_list};
+ghost use Rattle.fisca_memo.specs.Marks.{wheels_of};
+ghost use Rattle.fisca_memo.specs.Slots.{slots_of};
+ghost use Rattle.fisca_memo.specs.Views.{slot_list};
 ghost use Rattle.fisca_yaml.specs.Views.{node};
 
-use crate::fault::Fault;
+use crate::fault::{Fault, malformed, no_memory};
 use crate::rule_sets::rules_of;
-use crate::words::{limit, number, three};
-use crate::written::Written;
+use fisca_commands::{RunStart, evaluator_of, run_anew, run_grid, run_with, start};
 use fisca_eval::EvalFault;
+use fisca_layer_cases::{Written, limit, number, three};
 use fisca_lines::{MemorySink, RunEnd, RunFault};
-use fisca_memo::Evaluator;
+use fisca_memo::{Counts, Evaluator, ListRecall, Recall, Slot};
 use fisca_params::SourceFile;
-use fisca_recall::{Counts, ListRecall, Recall};
 use fisca_rules::RuleSet;
-use fisca_run::{RunStart, evaluator_of, run_anew, run_grid, run_with, start};
 use fisca_run_file::RunFile;
-use fisca_slots::Slot;
 use fisca_yaml::{Tree, read};
 use std::alloc::Global;
 
@@ -45,7 +42,7 @@ pub fn answer(
     match operation {
         "anew" => anew(alloc, &rules, &tree, &run, from, rows),
         "counts" => counts(alloc, &rules, &tree, &run, from, rows),
-        _ => Err(Fault::Malformed),
+        _ => Err(malformed()),
     }
 }
 
@@ -81,7 +78,7 @@ fn counts(
         Ok((end, counts)) => push_counts(&mut shown, end, counts),
         Err(RunFault::BadPosition) => shown.push("BadPosition"),
         Err(RunFault::Eval { position, fault }) => push_stop(&mut shown, position, fault),
-        Err(RunFault::Write { .. } | RunFault::Memory { .. }) => return Err(Fault::Memory),
+        Err(RunFault::Write { .. } | RunFault::Memory { .. }) => return Err(no_memory()),
     }
     Ok(shown.finish()?)
 }

@@ -1,10 +1,9 @@
 //! Situations.
 
-use crate::fault::Fault;
+use crate::fault::{Fault, malformed};
 use crate::rule_sets::rules_of;
-use crate::words::{number, two};
-use crate::written::Written;
 use fisca_inputs::{Key, Value};
+use fisca_layer_cases::{Written, number, two};
 use fisca_members::Home;
 use fisca_num::Fraction;
 use fisca_params::SourceFile;
@@ -27,7 +26,7 @@ pub fn answer(
         "members" => members(alloc, &rules, words),
         "input" => input(alloc, &rules, words),
         "neutralized" => neutralized(alloc, &rules, words),
-        _ => Err(Fault::Malformed),
+        _ => Err(malformed()),
     }
 }
 
@@ -95,7 +94,7 @@ fn push_home(shown: &mut Written, person: u32, home: Home) {
 /// The input of `VARIABLE MEMBER PERIOD`, after sharing.
 fn input(alloc: Global, rules: &RuleSet<'_>, words: &[String]) -> Result<String, Fault> {
     let [variable, member, period, default, text] = words else {
-        return Err(Fault::Malformed);
+        return Err(malformed());
     };
     let found = situation(alloc, rules, default.as_str(), text.as_str())?;
     let key = key_of(rules, variable.as_str(), member.as_str(), period.as_str())?;
@@ -105,7 +104,7 @@ fn input(alloc: Global, rules: &RuleSet<'_>, words: &[String]) -> Result<String,
 /// The same where the first variable has been neutralised.
 fn neutralized(alloc: Global, rules: &RuleSet<'_>, words: &[String]) -> Result<String, Fault> {
     let [neutral, variable, member, period, default, text] = words else {
-        return Err(Fault::Malformed);
+        return Err(malformed());
     };
     let mut found = situation(alloc, rules, default.as_str(), text.as_str())?;
     let key = key_of(rules, variable.as_str(), member.as_str(), period.as_str())?;
@@ -125,7 +124,7 @@ pub fn key_of(
     period: &str,
 ) -> Result<Key, Fault> {
     let Some(variable) = rules.variable(variable) else {
-        return Err(Fault::Malformed);
+        return Err(malformed());
     };
     Ok(Key {
         variable,

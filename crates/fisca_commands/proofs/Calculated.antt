@@ -19,14 +19,14 @@ use Rattle.fisca_params.specs.Tree.{TreeNode}
 use Rattle.fisca_rules.specs.Rules.{Rules, rules_of}
 use Rattle.fisca_rules.specs.Views.{rule_set}
 use Rattle.fisca_rules.specs.declared.rule_set.RuleSet.{RuleSet}
-use Rattle.fisca_sources.specs.Simulations.{Simulation}
-use Rattle.fisca_sources.specs.Sound.{InputsFit, IsSafeRules}
+use Rattle.fisca_eval.specs.Simulations.{Simulation}
+use Rattle.fisca_eval.specs.Sound.{InputsFit, IsSafeRules}
 use Rattle.fisca_syntax.specs.Modules.{Statement}
 use Rattle.fisca_tables.specs.Known.{tables as known}
 use Rattle.fisca_yaml.specs.Node.{Node}
 use Rattle.fisca_commands.specs.Calc.{Calculation, IsAsked, IsColumnsRun, IsKeyTold, IsStopped, WritesFirst, lines_of, row_of, simulation_of}
 use Rattle.fisca_rule_files.specs.RuleFiles.{IsAccepted}
-use Rattle.fisca_refusals.specs.declared.refusal.Refusal.{Refusal}
+use Rattle.fisca_rule_files.specs.declared.refusal.Refusal.{Refusal}
 use Rattle.fisca_rule_files.proofs.Built.{built}
 
 -- The rule set

@@ -13,9 +13,9 @@ use Rattle.fisca_grid.specs.declared.condition.Filter.{Filter}
 use Rattle.fisca_commands.specs.AxesRun.{required_filter, optional_filter, filtered_axes, axes_within_limits, named_fault, required_axes, axes_of_words}
 use Rattle.fisca_commands.specs.Ending.{IsAnswered, IsJudged, IsRunEnding, IsTold, Outcome}
 use Rattle.fisca_verdicts.specs.declared.all.Verdict.{Verdict}
-use Rattle.fisca_refusals.specs.Refusal.{is_failed_write, is_write, status_of}
-use Rattle.fisca_refusals.specs.declared.refusal.Refusal.{Refusal}
-use Rattle.fisca_refusals.specs.declared.refusal.Refusal.TheVariants.{Params, Formula, Yaml, RunFile, Tests, Axes, BadWord, BadCondition, Run, Eval, Write, Memory, TooManyFiles}
+use Rattle.fisca_rule_files.specs.Refusal.{is_failed_write, is_write, status_of}
+use Rattle.fisca_rule_files.specs.declared.refusal.Refusal.{Refusal}
+use Rattle.fisca_rule_files.specs.declared.refusal.Refusal.TheVariants.{Params, Formula, Yaml, RunFile, Tests, Axes, BadWord, BadCondition, Run, Eval, Write, Memory, TooManyFiles}
 
 -- no refusal of words, axes or conditions is a failed write
 unwritten_filter : (filter : Option Filter) → is_write (required_filter filter) ≡ false

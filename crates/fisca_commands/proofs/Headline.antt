@@ -9,9 +9,9 @@ use Rattle.fisca_lines.specs.declared.fault.RunEnd.{RunEnd}
 use Rattle.fisca_lines.specs.declared.fault.RunFault.{RunFault}
 use Rattle.fisca_lines.specs.declared.fault.RunFault.TheVariants as run
 use Rattle.fisca_params.specs.Source.{Source}
-use Rattle.fisca_refusals.specs.declared.refusal.Refusal.{Refusal}
-use Rattle.fisca_refusals.specs.declared.refusal.Refusal.TheVariants.{Run, Memory}
-use Rattle.fisca_refusals.specs.declared.refusal.Unanswered.{Unanswered}
+use Rattle.fisca_rule_files.specs.declared.refusal.Refusal.{Refusal}
+use Rattle.fisca_rule_files.specs.declared.refusal.Refusal.TheVariants.{Run, Memory}
+use Rattle.fisca_rule_files.specs.declared.refusal.Unanswered.{Unanswered}
 use Rattle.fisca_commands.proofs.First.{first_stops}
 use Rattle.fisca_commands.specs.Headline.{IsFaulted, IsWhole, row_of, size_of}
 use Rattle.fisca_commands.specs.Unanswered.{key_told}

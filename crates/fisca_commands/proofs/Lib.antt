@@ -1,8 +1,24 @@
-mod Parts
-mod Endings
+pub mod Asking
+mod AtOnce
+mod AxisValues
+mod Begun
 mod Calculated
+mod Came
+mod Counting
+mod Endings
+mod First
+pub mod Fitting
+pub mod Givens
+mod Going
+mod Gone
+mod Headline
 mod Named
+pub mod Numbers
+mod OnTheWay
+mod Parts
+mod Passing
+mod Placing
+mod Still
 mod Telling
 mod Tested
-mod Headline
-mod First
+mod Worked

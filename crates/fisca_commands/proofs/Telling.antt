@@ -1,6 +1,6 @@
 -- What a refusal of the file of `calc`, or of a column, tells.
 use Rattle.std.proofs.Common.{◌≡◌, false, inl, inr, ℕ, List, Option, Some, None, option_map, codes, sym, ap, ◌∙◌}
-use Rattle.fisca_columns.specs.Texts.{key_text}
+use Rattle.fisca_calc.specs.Texts.{key_text}
 use Rattle.fisca_eval.specs.Faults.{told}
 use Rattle.fisca_eval.specs.declared.fault.EvalFault.{EvalFault}
 use Rattle.fisca_answers.specs.Inquiry.{Fault}
@@ -15,8 +15,8 @@ use Rattle.fisca_commands.specs.Test.{RefusesTree}
 use Rattle.fisca_commands.specs.Unanswered.{key_told}
 use Rattle.fisca_commands.specs.Yaml.{IsYamlRefused}
 use Rattle.fisca_yaml.specs.Node.{Node}
-use Rattle.fisca_refusals.specs.Refusal.{is_failed_write}
-use Rattle.fisca_refusals.specs.declared.refusal.Refusal.{Refusal}
+use Rattle.fisca_rule_files.specs.Refusal.{is_failed_write}
+use Rattle.fisca_rule_files.specs.declared.refusal.Refusal.{Refusal}
 
 -- the key of a fault
 pub key_shown : (rules : RuleSet) (members : List EntityMembers) (fault : EvalFault) (key : Key) (text : List ℕ) → Some (key_seen key) ≡ option_map (λ f. f.key) (told fault)

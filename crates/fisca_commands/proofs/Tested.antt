@@ -12,7 +12,7 @@ use Rattle.fisca_rules.specs.Rules.{Rules, rules_of}
 use Rattle.fisca_rules.specs.Views.{rule_set}
 use Rattle.fisca_rules.specs.declared.rule_set.RuleSet.{RuleSet}
 use Rattle.fisca_situations.specs.Situations.{Situation, situation_of}
-use Rattle.fisca_sources.specs.Sound.{InputsFit, IsSafeRules}
+use Rattle.fisca_eval.specs.Sound.{InputsFit, IsSafeRules}
 use Rattle.fisca_syntax.specs.Modules.{Statement}
 use Rattle.fisca_time.specs.Period.{Span}
 use Rattle.fisca_verdicts.specs.Read.{IsRead}
@@ -20,7 +20,7 @@ use Rattle.fisca_yaml.specs.Node.{Node}
 use Rattle.fisca_verdicts.specs.Report.{IsReport, failed_of, passed_of, report_text}
 use Rattle.fisca_verdicts.specs.Tests.{Test, tests_of}
 use Rattle.fisca_verdicts.specs.declared.all.Verdict.{Verdict}
-use Rattle.fisca_refusals.specs.declared.refusal.Refusal.{Refusal}
+use Rattle.fisca_rule_files.specs.declared.refusal.Refusal.{Refusal}
 use Rattle.fisca_commands.specs.Test.{IsTested, IsWritten, Testing, scene_in, simulation_in}
 
 -- what an evaluator needs is known of each test that was read

@@ -13,9 +13,9 @@ use Rattle.fisca_grid.specs.declared.condition.Filter.{Filter}
 use Rattle.fisca_lines.specs.declared.fault.RunEnd.{RunEnd}
 use Rattle.fisca_lines.specs.declared.fault.RunFault.{RunFault}
 use Rattle.std.specs.declared.convert.Infallible.{Infallible}
-use Rattle.fisca_refusals.specs.declared.refusal.Refusal.{Refusal}
-use Rattle.fisca_refusals.specs.declared.refusal.Refusal.TheVariants.{Axes, BadWord, BadCondition, Memory}
-use Rattle.fisca_refusals.specs.Refusal.{of_axes}
+use Rattle.fisca_rule_files.specs.declared.refusal.Refusal.{Refusal}
+use Rattle.fisca_rule_files.specs.declared.refusal.Refusal.TheVariants.{Axes, BadWord, BadCondition, Memory}
+use Rattle.fisca_rule_files.specs.Refusal.{of_axes}
 
 -- the grid of a run, and its condition
 pub record FilteredAxes : Type 0 where

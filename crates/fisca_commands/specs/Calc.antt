@@ -18,16 +18,16 @@ use Rattle.fisca_members.specs.declared.entity_members.EntityMembers.{EntityMemb
 use Rattle.fisca_params.specs.Source.{Source}
 use Rattle.fisca_rules.specs.Views.{rule_set}
 use Rattle.fisca_rules.specs.declared.rule_set.RuleSet.{RuleSet}
-use Rattle.fisca_sources.specs.Simulations.{Simulation}
+use Rattle.fisca_eval.specs.Simulations.{Simulation}
 use Rattle.fisca_tables.specs.Known.{tables as known}
 use Rattle.fisca_yaml.specs.Grouping.{document}
 use Rattle.fisca_yaml.specs.Node.{Node}
 use Rattle.fisca_rule_files.specs.RuleFiles.{IsAccepted, RefusesFiles}
 use Rattle.fisca_commands.specs.Unanswered.{IsUnanswered}
 use Rattle.fisca_commands.specs.Yaml.{IsYamlRefused}
-use Rattle.fisca_refusals.specs.declared.refusal.Refusal.{Refusal}
-use Rattle.fisca_refusals.specs.declared.refusal.Refusal.TheVariants.{RunFile, Eval, Write, Memory}
-use Rattle.fisca_refusals.specs.declared.refusal.Unanswered.{Unanswered}
+use Rattle.fisca_rule_files.specs.declared.refusal.Refusal.{Refusal}
+use Rattle.fisca_rule_files.specs.declared.refusal.Refusal.TheVariants.{RunFile, Eval, Write, Memory}
+use Rattle.fisca_rule_files.specs.declared.refusal.Unanswered.{Unanswered}
 
 -- a rule set, as it stands in memory, and what a file asks for under it
 pub record Calculation : Type 0 where

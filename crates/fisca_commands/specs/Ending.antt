@@ -4,8 +4,8 @@ use Rattle.std.specs.Io.KnownBytes.{Appends, Keeps}
 use Rattle.fisca_lines.specs.Run.{AppendsPart}
 use Rattle.fisca_lines.specs.declared.fault.RunEnd.{RunEnd}
 use Rattle.fisca_params.specs.Source.{Source}
-use Rattle.fisca_refusals.specs.declared.refusal.Refusal.{Refusal}
-use Rattle.fisca_refusals.specs.declared.refusal.Refusal.TheVariants.{Write, Memory}
+use Rattle.fisca_rule_files.specs.declared.refusal.Refusal.{Refusal}
+use Rattle.fisca_rule_files.specs.declared.refusal.Refusal.TheVariants.{Write, Memory}
 use Rattle.fisca_commands.specs.declared.task.Task.{Task}
 use Rattle.fisca_commands.specs.declared.task.Task.TheVariants.{Check, Calc, Test, Run, Axes}
 use Rattle.fisca_commands.specs.AxesRun.{IsAxesAnswer}
@@ -15,7 +15,7 @@ use Rattle.fisca_commands.specs.LastLine.{last_line}
 use Rattle.fisca_commands.specs.Run.{IsRunAnswer}
 use Rattle.fisca_commands.specs.Test.{IsTest}
 use Rattle.fisca_verdicts.specs.declared.all.Verdict.{Verdict}
-use Rattle.fisca_refusals.specs.Refusal.{status_of, line_of}
+use Rattle.fisca_rule_files.specs.Refusal.{status_of, line_of}
 
 -- an exit status, and what is told on standard error
 pub record Outcome : Type 0 where

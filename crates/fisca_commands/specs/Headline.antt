@@ -8,10 +8,10 @@ use Rattle.fisca_lines.specs.Row.{Row, Fault}
 use Rattle.fisca_lines.specs.Run.{texts}
 use Rattle.fisca_lines.specs.declared.fault.RunEnd.{RunEnd}
 use Rattle.fisca_lines.specs.declared.fault.RunEnd.TheVariants.{End, More}
-use Rattle.fisca_run.specs.Runs.{positions, run_row}
+use Rattle.fisca_commands.specs.Runs.{positions, run_row}
 use Rattle.fisca_commands.specs.Run.{Running}
 use Rattle.fisca_commands.specs.Unanswered.{key_told}
-use Rattle.fisca_refusals.specs.declared.refusal.Unanswered.{Unanswered}
+use Rattle.fisca_rule_files.specs.declared.refusal.Unanswered.{Unanswered}
 
 -- what stands at a position: the line with the values that the rules define in the situation there, or nothing where a condition does not hold, or a fault
 abbrev pub row_of : Running → ℕ → Row EvalFault

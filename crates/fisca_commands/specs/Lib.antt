@@ -1,9 +1,17 @@
+pub mod Asked
 pub mod AxesRun
 pub mod Calc
+pub mod Conditions
 pub mod Ending
+pub mod Ends
 pub mod Headline
+pub mod Kept
 pub mod LastLine
+pub mod Lines
+pub mod Outcomes
+pub mod Remembered
 pub mod Run
+pub mod Runs
 pub mod Test
 pub mod Unanswered
 pub mod Yaml

@@ -9,16 +9,16 @@ use Rattle.fisca_lines.specs.declared.fault.RunEnd.{RunEnd}
 use Rattle.fisca_lines.specs.declared.fault.RunFault.{RunFault}
 use Rattle.fisca_lines.specs.declared.fault.RunFault.TheVariants as run
 use Rattle.fisca_params.specs.Source.{Source}
-use Rattle.fisca_recall.specs.declared.counts.Counts.{Counts}
-use Rattle.fisca_refusals.specs.declared.refusal.Refusal.{Refusal}
-use Rattle.fisca_refusals.specs.declared.refusal.Refusal.TheVariants.{RunFile, Run, Memory}
-use Rattle.fisca_refusals.specs.declared.refusal.Unanswered.{Unanswered}
+use Rattle.fisca_memo.specs.declared.counts.Counts.{Counts}
+use Rattle.fisca_rule_files.specs.declared.refusal.Refusal.{Refusal}
+use Rattle.fisca_rule_files.specs.declared.refusal.Refusal.TheVariants.{RunFile, Run, Memory}
+use Rattle.fisca_rule_files.specs.declared.refusal.Unanswered.{Unanswered}
 use Rattle.fisca_rule_files.specs.RuleFiles.{IsAccepted, RefusesFiles}
 use Rattle.fisca_rules.specs.Views.{rule_set}
 use Rattle.fisca_rules.specs.declared.rule_set.RuleSet.{RuleSet}
-use Rattle.fisca_run.specs.Ends.{stop_of}
-use Rattle.fisca_run.specs.Remembered.{AreCounts}
-use Rattle.fisca_run.specs.Runs.{positions, run_row}
+use Rattle.fisca_commands.specs.Ends.{stop_of}
+use Rattle.fisca_commands.specs.Remembered.{AreCounts}
+use Rattle.fisca_commands.specs.Runs.{positions, run_row}
 use Rattle.fisca_run_file.specs.RunFiles as files
 use Rattle.fisca_run_file.specs.RunFiles.{run_file_of}
 use Rattle.fisca_yaml.specs.Grouping.{document}

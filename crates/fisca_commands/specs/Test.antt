@@ -6,13 +6,13 @@ use Rattle.fisca_eval.specs.Told.{told_in}
 use Rattle.fisca_eval.specs.declared.fault.EvalFault.{EvalFault}
 use Rattle.fisca_lines.specs.Run.{AppendsPart}
 use Rattle.fisca_params.specs.Source.{Source}
-use Rattle.fisca_refusals.specs.declared.refusal.Refusal.{Refusal}
-use Rattle.fisca_refusals.specs.declared.refusal.Refusal.TheVariants.{Tests, Write, Memory}
+use Rattle.fisca_rule_files.specs.declared.refusal.Refusal.{Refusal}
+use Rattle.fisca_rule_files.specs.declared.refusal.Refusal.TheVariants.{Tests, Write, Memory}
 use Rattle.fisca_rule_files.specs.RuleFiles.{IsAccepted, RefusesFiles}
 use Rattle.fisca_rules.specs.Views.{rule_set}
 use Rattle.fisca_rules.specs.declared.rule_set.RuleSet.{RuleSet}
 use Rattle.fisca_situations.specs.Situations.{Situation}
-use Rattle.fisca_sources.specs.Simulations.{Simulation}
+use Rattle.fisca_eval.specs.Simulations.{Simulation}
 use Rattle.fisca_tables.specs.Known.{tables as known}
 use Rattle.fisca_verdicts.specs.KeyFaults.{key_told}
 use Rattle.fisca_verdicts.specs.Report.{Scene, failed_of, passed_of, report_text, scene_of}

@@ -1,8 +1,8 @@
 -- What a text is refused for that is no YAML.
 use Rattle.std.specs.Prelude.{◌≡◌, ◌≢◌, ◌⊎◌, ◌↔◌, ℕ, ◌<◌, ◌≤◌, ◌^◌, List, length, None}
 use Rattle.std.specs.Str.Lines.{lines}
-use Rattle.fisca_refusals.specs.declared.refusal.Refusal.{Refusal}
-use Rattle.fisca_refusals.specs.declared.refusal.Refusal.TheVariants.{Yaml, Memory}
+use Rattle.fisca_rule_files.specs.declared.refusal.Refusal.{Refusal}
+use Rattle.fisca_rule_files.specs.declared.refusal.Refusal.TheVariants.{Yaml, Memory}
 use Rattle.fisca_yaml.specs.Grouping.{document}
 use Rattle.fisca_yaml.specs.declared.fault.Kind.TheVariants as yaml
 use Rattle.fisca_yaml.specs.declared.fault.YamlFault.{YamlFault}

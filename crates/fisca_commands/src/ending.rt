@@ -4,7 +4,7 @@ ghost use Rattle.std.specs.Prelude.{◌≡◌, option_map};
 ghost use Rattle.fisca_commands.specs.Ending.{done, judged, told_of, IsTold};
 
 use fisca_lines::RunFault;
-use fisca_refusals::Refusal;
+use fisca_rule_files::Refusal;
 use fisca_verdicts::Verdict;
 use std::alloc::Global;
 use std::borrow::CowStr;

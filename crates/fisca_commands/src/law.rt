@@ -6,8 +6,8 @@ ghost use Rattle.fisca_commands.specs.Run.{IsRunAnswer, IsRunning, Running};
 ghost use Rattle.fisca_lines.specs.declared.fault.RunEnd.{RunEnd};
 ghost use Rattle.fisca_lines.specs.declared.fault.RunFault.TheVariants.{Eval};
 ghost use Rattle.fisca_params.specs.Source.{Source};
-ghost use Rattle.fisca_refusals.specs.declared.refusal.Refusal.TheVariants.{Run};
-ghost use Rattle.fisca_refusals.specs.declared.refusal.Unanswered.{Unanswered};
+ghost use Rattle.fisca_rule_files.specs.declared.refusal.Refusal.TheVariants.{Run};
+ghost use Rattle.fisca_rule_files.specs.declared.refusal.Unanswered.{Unanswered};
 
 use fisca_eval::EvalFault;
 use fisca_lines::runs_continue;

@@ -1,23 +1,40 @@
-//! The commands of the program, over texts and any sink.
+//! The commands of the program, over texts and any sink, and the run over the grid of a run file.
 #![tactic(auto)]
 
 mod axes;
+mod beginning;
 mod calc;
+mod conditions;
 mod ending;
+mod grid_run;
+mod kept;
+mod kept_rows;
 mod last_line;
 mod law;
+mod lines;
+mod row;
+mod rows;
 mod run;
+mod run_laws;
+mod run_start;
 mod task;
 mod test;
+mod turning;
 mod unanswered;
 
 pub use axes::axes_words;
+pub use beginning::evaluator_of;
 pub use calc::calc_rules;
+pub use conditions::{all_met, meets};
 pub use ending::Ending;
-pub use fisca_refusals::{Refusal, Unanswered};
-pub use fisca_rule_files::check_rules;
+pub use fisca_rule_files::{Refusal, Unanswered, check_rules};
+pub use grid_run::{run_anew, run_grid};
+pub use kept::run_with;
 pub use last_line::write_end;
 pub use law::runs_are_whole;
+pub use row::{Asked, write_row};
 pub use run::run_rules;
+pub use run_laws::positions_have_situations;
+pub use run_start::{RunStart, start};
 pub use task::{Task, run_task};
 pub use test::test_rules;

@@ -3,7 +3,7 @@
 ghost use Rattle.std.specs.Prelude.{◌≡◌, ◌==◌, ◌&&◌, is_ok, map, option_map, string_bytes};
 ghost use Rattle.fisca_lines.specs.Sink.{CountsFailure};
 ghost use Rattle.fisca_commands.specs.Ending.{IsAnswered, IsAxesEnding, IsCalcEnding, IsCheckEnding, IsGridEnding, IsJudged, IsRunEnding, IsTaskEnding, IsTestEnding};
-ghost use Rattle.fisca_run.specs.Ends.{end_of};
+ghost use Rattle.fisca_commands.specs.Ends.{end_of};
 
 use super::axes::axes_words;
 use super::calc::calc_rules;
@@ -12,10 +12,9 @@ use super::last_line::write_end;
 use super::run::run_rules;
 use super::test::test_rules;
 use fisca_lines::{RowSink, RunEnd};
+use fisca_memo::Counts;
 use fisca_params::SourceFile;
-use fisca_recall::Counts;
-use fisca_refusals::Refusal;
-use fisca_rule_files::check_rules;
+use fisca_rule_files::{Refusal, check_rules};
 use fisca_verdicts::Verdict;
 use std::alloc::Global;
 

@@ -4,9 +4,9 @@ ghost use Rattle.std.specs.Prelude.{◌≡◌, IfOk};
 ghost use Rattle.fisca_commands.specs.Unanswered.{IsUnanswered};
 ghost use Rattle.fisca_situations.specs.Views.{situation as situation_view};
 
-use fisca_columns::key_text;
+use fisca_calc::key_text;
 use fisca_eval::EvalFault;
-use fisca_refusals::Unanswered;
+use fisca_rule_files::Unanswered;
 use fisca_rules::RuleSet;
 use fisca_situations::Situation;
 use std::alloc::{AllocError, Global};

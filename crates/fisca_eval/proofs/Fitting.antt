@@ -22,8 +22,8 @@ use Rattle.fisca_rules.specs.Views.{rule_set}
 use Rattle.fisca_rules.specs.declared.rule_set.RuleSet.{RuleSet}
 use Rattle.fisca_situations.specs.Situations.{Situation, situation_of}
 use Rattle.fisca_situations.proofs.Typed.{situation_typed}
-use Rattle.fisca_sources.specs.Sound.{InputsFit, IsSafeRules}
-use Rattle.fisca_sources.proofs.Sources.{default_at, default_typed, type_at}
+use Rattle.fisca_eval.specs.Sound.{InputsFit, IsSafeRules}
+use Rattle.fisca_eval.proofs.SourceLookups.{default_at, default_typed, type_at}
 use Rattle.fisca_tables.specs.Known.{tables}
 use Rattle.fisca_tables.specs.declared.variable.Variable.{Variable}
 use Rattle.fisca_time.specs.Period.{Span}

@@ -1,4 +1,10 @@
+pub mod Casts
 pub mod Fitting
+pub mod Latest
+pub mod Lookups
+pub mod Origins
+pub mod SourceLookups
 pub mod Steps
 pub mod Told
+pub mod ValueTypes
 pub mod Worlds

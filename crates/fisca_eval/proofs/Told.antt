@@ -11,7 +11,7 @@ use Rattle.fisca_inputs.specs.declared.given.Value.TheVariants as v
 use Rattle.fisca_inputs.specs.declared.key.Key.{Key}
 use Rattle.fisca_lines.specs.declared.fault.RowFault.{RowFault}
 use Rattle.fisca_meaning.specs.Dialogues as meaning
-use Rattle.fisca_sources.specs.Simulations.{Simulation, normal_key, sources}
+use Rattle.fisca_eval.specs.Simulations.{Simulation, normal_key, sources}
 use Rattle.fisca_eval.specs.Faults.{IsAnswer, told}
 use Rattle.fisca_eval.proofs.Steps.{is_told}
 use Rattle.fisca_eval.specs.Told.{IsReady, as_told, fault_of, row_fault, told_in, value_of}

@@ -7,7 +7,7 @@ use Rattle.fisca_inputs.specs.declared.key.Key.{Key}
 use Rattle.fisca_meaning.specs.Dialogues.{Value}
 use Rattle.fisca_rules.specs.Views.{rule_set}
 use Rattle.fisca_situations.specs.Views.{situation}
-use Rattle.fisca_sources.specs.Simulations.{Simulation, normal_key, sources}
+use Rattle.fisca_eval.specs.Simulations.{Simulation, normal_key, sources}
 use Rattle.fisca_eval.specs.declared.evaluator.Evaluator.{Evaluator}
 
 abbrev pub simulation_of : Evaluator → Simulation

@@ -1,4 +1,8 @@
 pub mod Evaluators
 pub mod Faults
+pub mod InForce
 pub mod Scenes
+pub mod Simulations
+pub mod Sound
 pub mod Told
+pub mod Views

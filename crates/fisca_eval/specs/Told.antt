@@ -10,8 +10,8 @@ use Rattle.fisca_inputs.specs.declared.key.Key.{Key}
 use Rattle.fisca_lines.specs.declared.fault.RowFault.{RowFault}
 use Rattle.fisca_lines.specs.declared.fault.RowFault.TheVariants as row
 use Rattle.fisca_meaning.specs.Dialogues as meaning
-use Rattle.fisca_sources.specs.Simulations.{Simulation, normal_key, sources}
-use Rattle.fisca_sources.specs.Sound.{InputsFit, IsSafeRules}
+use Rattle.fisca_eval.specs.Simulations.{Simulation, normal_key, sources}
+use Rattle.fisca_eval.specs.Sound.{InputsFit, IsSafeRules}
 use Rattle.fisca_eval.specs.declared.fault.EvalFault.{EvalFault}
 use Rattle.fisca_eval.specs.declared.fault.EvalFault.TheVariants as fault
 

@@ -13,17 +13,17 @@ ghost use Rattle.fisca_rules.specs.Rules.{Rules, rules_of};
 ghost use Rattle.fisca_rules.specs.Views.{rule_set};
 ghost use Rattle.fisca_rules.specs.declared.rule_set.RuleSet.{RuleSet};
 ghost use Rattle.fisca_situations.specs.Situations.{Situation, situation_of};
-ghost use Rattle.fisca_sources.specs.Simulations.{Simulation, normal_key, sources};
-ghost use Rattle.fisca_sources.specs.Sound.{InputsFit, IsSafeRules};
+ghost use Rattle.fisca_eval.specs.Simulations.{Simulation, normal_key, sources};
+ghost use Rattle.fisca_eval.specs.Sound.{InputsFit, IsSafeRules};
 ghost use Rattle.fisca_syntax.specs.Modules.{Statement};
 ghost use Rattle.fisca_time.specs.Period.{Span};
 ghost use Rattle.fisca_yaml.specs.Node.{Node};
 
 use crate::fault::EvalFault;
+use crate::no_operand_is_of_a_wrong_type;
 use fisca_rules::{
     days_and_texts_have_no_formulas, defaults_are_of_their_types, rule_sets_are_never_stuck,
 };
-use fisca_sources::no_operand_is_of_a_wrong_type;
 
 /// Law: an accepted rule set is safe: none of its formulas is ever stuck, each default is of its variable's type, and days and texts have no
 /// formulas.

@@ -1,12 +1,15 @@
-//! The values of keys in a situation under a rule set.
+//! The values of keys in a situation under a rule set: what each comes from, and what it is.
 #![tactic(auto)]
 
 mod answers;
 mod chains;
 mod evaluator;
 mod fault;
+mod formulas;
 mod law;
 mod scene;
+mod simulation;
+mod source_laws;
 mod values;
 mod work;
 
@@ -14,4 +17,8 @@ pub use evaluator::Evaluator;
 pub use fault::EvalFault;
 pub use law::{
     answers_are_told, calc_inputs_fit, inputs_fit, inputs_fit_when_neutralised, rule_sets_are_safe,
+};
+pub use simulation::{Simulation, default_of, own_key};
+pub use source_laws::{
+    no_operand_is_of_a_wrong_type, the_formula_in_force_starts_last, values_are_of_their_types,
 };

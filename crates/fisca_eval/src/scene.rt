@@ -4,12 +4,12 @@ ghost use Rattle.std.specs.Prelude.{◌≡◌};
 ghost use Rattle.fisca_eval.specs.Scenes as spec;
 ghost use Rattle.fisca_rules.specs.Views.{rule_set};
 ghost use Rattle.fisca_situations.specs.Views.{situation as situation_view};
-ghost use Rattle.fisca_sources.specs.Sound.{InputsFit, IsSafeRules};
+ghost use Rattle.fisca_eval.specs.Sound.{InputsFit, IsSafeRules};
 
+use crate::Simulation;
 use fisca_machine::World;
 use fisca_rules::RuleSet;
 use fisca_situations::Situation;
-use fisca_sources::Simulation;
 
 /// A situation under a rule set, and what of both formulas are worked out over.
 #[derive(Clone, Copy)]

@@ -5,17 +5,17 @@ ghost use Rattle.fisca_eval.specs.Evaluators as spec;
 ghost use Rattle.fisca_eval.specs.Faults.{IsAnswer};
 ghost use Rattle.fisca_rules.specs.Views.{rule_set};
 ghost use Rattle.fisca_situations.specs.Views.{situation as situation_view};
-ghost use Rattle.fisca_sources.specs.Sound.{InputsFit, IsSafeRules};
+ghost use Rattle.fisca_eval.specs.Sound.{InputsFit, IsSafeRules};
 
 use crate::evaluator::Evaluator;
 use crate::fault::EvalFault;
+use crate::own_key;
 use crate::scene::scene_of;
 use crate::work::value_below;
 use fisca_inputs::{Key, Value};
 use fisca_machine::Machine;
 use fisca_rules::RuleSet;
 use fisca_situations::Situation;
-use fisca_sources::own_key;
 use std::alloc::Global;
 
 impl<'r, 't> Evaluator<'r, 't> {

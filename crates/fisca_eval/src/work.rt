@@ -8,12 +8,12 @@ ghost use Rattle.fisca_inputs.specs.Seen.{key_seen, value_seen};
 ghost use Rattle.fisca_machine.specs.Running.{rest, waiting};
 
 use crate::chains::too_long;
+use crate::default_of;
 use crate::fault::{EvalFault, told_of};
 use crate::scene::Scene;
 use fisca_formula::Formula;
 use fisca_inputs::{Key, Value};
 use fisca_machine::{Frame, Machine, Step};
-use fisca_sources::default_of;
 use fisca_tables::Variable;
 
 /// How many keys are asked for below one another at most.

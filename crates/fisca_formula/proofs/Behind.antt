@@ -1,8 +1,8 @@
 -- One local more.
 use Rattle.std.proofs.Common.{ℕ, suc, ◌+◌, add-one, ◌≡◌, ◌∙◌, sym, ap, List, [], ◌∷◌, ◌++◌, map, reverse, Bool, true, false, if◌then◌else◌, Some, None, Result, Ok, Err, refl}
 use Rattle.std.proofs.lemmas.List.{reverse-append}
-use Rattle.fisca_locals.specs.Locals.{local, locals, sized, sizes}
-use Rattle.fisca_locals.specs.declared.local.Local.{Local}
+use Rattle.fisca_calls.specs.Locals.{local, locals, sized, sizes}
+use Rattle.fisca_calls.specs.declared.local.Local.{Local}
 use Rattle.fisca_tokens.specs.declared.fault.Kind.{Kind}
 use Rattle.fisca_tokens.specs.declared.fault.Kind.TheVariants as kind
 use Rattle.fisca_expressions.specs.Tree.{Tree}

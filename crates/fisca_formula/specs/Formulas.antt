@@ -1,7 +1,7 @@
 -- The formulas of the theory that those in memory stand for.
 use Rattle.std.specs.Prelude.{◌≡◌, ◌≢◌, map, Result, Ok, Err}
 use Rattle.fisca_expressions.specs.Views.{tree}
-use Rattle.fisca_locals.specs.Locals.{sizes}
+use Rattle.fisca_calls.specs.Locals.{sizes}
 use Rattle.fisca_nodes.specs.Views.{node}
 use Rattle.fisca_nodes.specs.declared.node.Node.{Node as Held}
 use Rattle.fisca_params.specs.Results.{and_then}

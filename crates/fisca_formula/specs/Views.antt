@@ -1,7 +1,7 @@
 -- What the names in a formula stand for, as the theory has it.
 use Rattle.std.specs.Prelude.{ℕ, List, Option, option_map}
 use Rattle.fisca_formula.specs.declared.scope.Names.{Names}
-use Rattle.fisca_locals.specs.Locals.{locals}
+use Rattle.fisca_calls.specs.Locals.{locals}
 use Rattle.fisca_tables.specs.Known.{tables}
 use Rattle.fisca_typing.specs.Names as typing
 use Rattle.fisca_typing.specs.Tables.{otherwise}

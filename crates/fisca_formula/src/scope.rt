@@ -1,5 +1,5 @@
 //! What formulas may name.
-use fisca_locals::Locals;
+use fisca_calls::Locals;
 use fisca_tables::Tables;
 
 /// What is known where an expression of a formula stands.

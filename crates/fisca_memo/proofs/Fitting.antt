@@ -13,13 +13,13 @@ use Rattle.fisca_meaning.specs.Questions.{variable_type}
 use Rattle.fisca_num.specs.Number.{Number}
 use Rattle.fisca_num.specs.declared.faults.NumFault.{NumFault}
 use Rattle.fisca_rules.specs.Rules.{known_by}
-use Rattle.fisca_slots.proofs.Anew.{looked_set}
-use Rattle.fisca_slots.proofs.Parts.{in_parts}
-use Rattle.fisca_slots.proofs.Turned.{stand, stand_even}
-use Rattle.fisca_slots.proofs.Turns.{turned_is}
-use Rattle.fisca_slots.specs.Slots.{Slot, keys_of, share_in, turned}
-use Rattle.fisca_sources.specs.Simulations.{Simulation}
-use Rattle.fisca_sources.specs.Sound.{InputsFit}
+use Rattle.fisca_memo.proofs.Anew.{looked_set}
+use Rattle.fisca_memo.proofs.Parts.{in_parts}
+use Rattle.fisca_memo.proofs.Turned.{stand, stand_even}
+use Rattle.fisca_memo.proofs.TurnedSlots.{turned_is}
+use Rattle.fisca_memo.specs.Slots.{Slot, keys_of, share_in, turned}
+use Rattle.fisca_eval.specs.Simulations.{Simulation}
+use Rattle.fisca_eval.specs.Sound.{InputsFit}
 use Rattle.fisca_typing.specs.Tables.{Tables}
 use Rattle.fisca_typing.specs.declared.kinds.ValueType.{ValueType}
 use Rattle.fisca_typing.specs.declared.kinds.ValueType.TheVariants as vt

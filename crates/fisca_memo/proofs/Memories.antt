@@ -11,7 +11,7 @@ use Rattle.fisca_heights.proofs.Frees.{free_none, free_more, free_same, free_mov
 use Rattle.fisca_heights.proofs.Growing.{empty_true, kept_true}
 use Rattle.fisca_heights.proofs.Reading.{kept_reads}
 use Rattle.fisca_heights.proofs.Turned.{turned_true, turned_reads}
-use Rattle.fisca_recall.specs.Counted.{one_more}
+use Rattle.fisca_memo.specs.Counted.{one_more}
 use Rattle.fisca_memo.specs.Counting.{CountsFree}
 use Rattle.fisca_memo.specs.Recalled.{IsMemory}
 

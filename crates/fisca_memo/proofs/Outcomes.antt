@@ -2,7 +2,7 @@
 use Rattle.std.proofs.Common.{◌≡◌, ℕ, Result, Ok, Err, refl}
 use Rattle.std.specs.Prelude.{◌≢◌, OnOk, IfErr}
 use Rattle.fisca_inputs.specs.declared.given.Value.{Value}
-use Rattle.fisca_recall.specs.declared.known.Known.{Known}
+use Rattle.fisca_memo.specs.declared.known.Known.{Known}
 use Rattle.fisca_eval.specs.Faults.{told}
 use Rattle.fisca_eval.specs.declared.fault.EvalFault.{EvalFault}
 use Rattle.fisca_eval.specs.declared.fault.EvalFault.TheVariants as fault

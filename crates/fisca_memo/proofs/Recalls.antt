@@ -17,8 +17,8 @@ use Rattle.fisca_inputs.specs.Seen.{key_seen, value_seen}
 use Rattle.fisca_inputs.specs.declared.given.Value.{Value as Given}
 use Rattle.fisca_inputs.specs.declared.key.Key.{Key}
 use Rattle.fisca_meaning.specs.Dialogues.{Key as Asked}
-use Rattle.fisca_recall.specs.Found.{entry_seen}
-use Rattle.fisca_recall.specs.declared.known.Known.{Known}
+use Rattle.fisca_memo.specs.Found.{entry_seen}
+use Rattle.fisca_memo.specs.declared.known.Known.{Known}
 use Rattle.fisca_memo.specs.Recalled.{IfTold, IsDoneBelow, IsStack, IsKnownBelow, IsKnownOf}
 use Rattle.fisca_memo.specs.Scenes.{HasRead, marks_in, sources_in, wanted}
 use Rattle.fisca_memo.specs.declared.scene.Scene.{Scene}

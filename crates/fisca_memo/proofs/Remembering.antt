@@ -18,9 +18,9 @@ use Rattle.fisca_heights.proofs.Settled.{at_height, working}
 use Rattle.fisca_inputs.specs.Seen.{key_seen, value_seen}
 use Rattle.fisca_inputs.specs.declared.key.Key.{Key}
 use Rattle.fisca_meaning.specs.Dialogues as meaning
-use Rattle.fisca_recall.specs.Counted.{with_kept, with_lost}
-use Rattle.fisca_recall.specs.declared.counts.Counts.{Counts}
-use Rattle.fisca_recall.specs.declared.known.Known.{Known}
+use Rattle.fisca_memo.specs.Counted.{with_kept, with_lost}
+use Rattle.fisca_memo.specs.declared.counts.Counts.{Counts}
+use Rattle.fisca_memo.specs.declared.known.Known.{Known}
 use Rattle.fisca_tables.specs.declared.variable.Variable.{Variable}
 use Rattle.fisca_eval.specs.Faults.{IsTold}
 use Rattle.fisca_eval.proofs.Steps.{one_behind}

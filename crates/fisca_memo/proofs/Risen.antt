@@ -5,8 +5,8 @@ use Rattle.fisca_answers.specs.Inquiry.{Fault}
 use Rattle.fisca_heights.specs.Added.{AreAdded}
 use Rattle.fisca_heights.specs.Entries.{Entry, Entries, Remembered, with_entry}
 use Rattle.fisca_heights.proofs.Adding.{added_none, added_entry, added_on}
-use Rattle.fisca_recall.specs.Counted.{one_more, with_kept}
-use Rattle.fisca_recall.specs.declared.counts.Counts.{Counts}
+use Rattle.fisca_memo.specs.Counted.{one_more, with_kept}
+use Rattle.fisca_memo.specs.declared.counts.Counts.{Counts}
 use Rattle.fisca_memo.specs.Counting.{raised, IsCounted, IsLost}
 
 pub raised_on : (count m n : ℕ) → raised (raised count m) n ≡ raised count (m + n)

@@ -1,6 +1,6 @@
 -- Worked equations: how counts rise, and what is lost.
 use Rattle.std.proofs.Common.{◌≡◌, refl}
-use Rattle.fisca_recall.specs.Counted.{no_counts, with_kept, with_lost}
+use Rattle.fisca_memo.specs.Counted.{no_counts, with_kept, with_lost}
 use Rattle.fisca_memo.specs.Counting.{raised}
 
 nothing_more : raised 7 0 ≡ 7

@@ -24,12 +24,12 @@ use Rattle.fisca_meaning.specs.Dialogues as meaning
 use Rattle.fisca_meaning.specs.Dialogues.{Value, Dialogue}
 use Rattle.fisca_meaning.specs.Meaning.{formula_means}
 use Rattle.fisca_meaning.specs.Questions.{variable_type}
-use Rattle.fisca_recall.specs.declared.known.Known.{Known}
-use Rattle.fisca_sources.specs.Simulations.{start_point}
-use Rattle.fisca_sources.specs.Sound.{GivesOnly, AreSound}
-use Rattle.fisca_sources.proofs.Casts.{typed_is_of}
-use Rattle.fisca_sources.proofs.Sources.{sources_sound}
-use Rattle.fisca_sources.proofs.Values.{values_fit}
+use Rattle.fisca_memo.specs.declared.known.Known.{Known}
+use Rattle.fisca_eval.specs.Simulations.{start_point}
+use Rattle.fisca_eval.specs.Sound.{GivesOnly, AreSound}
+use Rattle.fisca_eval.proofs.Casts.{typed_is_of}
+use Rattle.fisca_eval.proofs.SourceLookups.{sources_sound}
+use Rattle.fisca_eval.proofs.ValueTypes.{values_fit}
 use Rattle.fisca_tables.specs.declared.variable.Variable.{Variable}
 use Rattle.fisca_values.specs.Casts.{cast}
 use Rattle.fisca_variables.specs.VariableForms.{written}

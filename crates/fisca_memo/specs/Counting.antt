@@ -5,8 +5,8 @@ use Rattle.fisca_eval.specs.Faults.{told}
 use Rattle.fisca_eval.specs.declared.fault.EvalFault.{EvalFault}
 use Rattle.fisca_heights.specs.Added.{AreAdded, IsFree}
 use Rattle.fisca_heights.specs.Entries.{Entries}
-use Rattle.fisca_recall.specs.Counted.{one_more}
-use Rattle.fisca_recall.specs.declared.counts.Counts.{Counts}
+use Rattle.fisca_memo.specs.Counted.{one_more}
+use Rattle.fisca_memo.specs.declared.counts.Counts.{Counts}
 
 -- a count, so many counted more
 abbrev pub raised : ℕ → ℕ → ℕ

@@ -1,5 +1,14 @@
 pub mod Asked
+pub mod Counted
 pub mod Counting
 pub mod Evaluators
+pub mod Found
+pub mod Groups
+pub mod Marks
+pub mod Readings
 pub mod Recalled
 pub mod Scenes
+pub mod Sets
+pub mod Slots
+pub mod Stamps
+pub mod Views

@@ -12,7 +12,7 @@ use Rattle.fisca_heights.specs.Work.{IsWork, PassedPath}
 use Rattle.fisca_inputs.specs.Seen.{key_seen, value_seen}
 use Rattle.fisca_inputs.specs.declared.key.Key.{Key}
 use Rattle.fisca_meaning.specs.Dialogues as meaning
-use Rattle.fisca_recall.specs.declared.known.Known.{Known}
+use Rattle.fisca_memo.specs.declared.known.Known.{Known}
 use Rattle.fisca_memo.specs.Counting.{CountsFree}
 
 -- the wheels of each key's variable, by its place, as the bits of numbers; past the last number there is none

@@ -14,11 +14,11 @@ use Rattle.fisca_machine.specs.World.{groups, tables}
 use Rattle.fisca_meaning.specs.Dialogues as meaning
 use Rattle.fisca_meaning.specs.Dialogues.{Dialogue, Value}
 use Rattle.fisca_members.specs.Grouped.{grouped}
-use Rattle.fisca_recall.specs.declared.known.Known.{Known}
+use Rattle.fisca_memo.specs.declared.known.Known.{Known}
 use Rattle.fisca_rules.specs.Rules.{known_by}
-use Rattle.fisca_sources.specs.Simulations as simulations
-use Rattle.fisca_sources.specs.Sound.{GivesOnly, InputsFit, IsSafeRules}
-use Rattle.fisca_sources.specs.Views.{simulation}
+use Rattle.fisca_eval.specs.Simulations as simulations
+use Rattle.fisca_eval.specs.Sound.{GivesOnly, InputsFit, IsSafeRules}
+use Rattle.fisca_eval.specs.Views.{simulation}
 use Rattle.fisca_tables.specs.declared.variable.Variable.{Variable}
 use Rattle.fisca_typing.specs.Tables.{Tables}
 use Rattle.fisca_variables.specs.VariableForms.{written}

@@ -3,12 +3,12 @@
 ghost use Rattle.std.specs.Prelude.{◌≡◌};
 ghost use Rattle.fisca_eval.specs.Told as spec;
 
+use crate::Recall;
 use crate::evaluator::Evaluator;
 use fisca_calc::Answers;
 use fisca_eval::EvalFault;
 use fisca_inputs::{Key, Value};
 use fisca_lines::RowFault;
-use fisca_recall::Recall;
 use fisca_situations::Situation;
 
 impl<'r, 't, R: Recall> Answers for Evaluator<'r, 't, R> {

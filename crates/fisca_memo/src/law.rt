@@ -9,10 +9,10 @@ ghost use Rattle.fisca_meaning.specs.Dialogues.{Key};
 ghost use Rattle.fisca_memo.specs.Counting.{IsCounted};
 ghost use Rattle.fisca_memo.specs.Evaluators.{IsStill, IsTurned, turned_by};
 ghost use Rattle.fisca_num.specs.Number.{Number};
-ghost use Rattle.fisca_recall.specs.declared.counts.Counts.{Counts};
-ghost use Rattle.fisca_slots.specs.Slots.{Slot};
-ghost use Rattle.fisca_sources.specs.Simulations.{Simulation};
-ghost use Rattle.fisca_sources.specs.Sound.{InputsFit};
+ghost use Rattle.fisca_memo.specs.declared.counts.Counts.{Counts};
+ghost use Rattle.fisca_memo.specs.Slots.{Slot};
+ghost use Rattle.fisca_eval.specs.Simulations.{Simulation};
+ghost use Rattle.fisca_eval.specs.Sound.{InputsFit};
 
 /// Law: the values that were remembered, whatever they read, rise by the entries that are added, as long as no count stands at its greatest.
 pub fn counts_rise_by_what_is_added()

@@ -18,12 +18,11 @@ use crate::chains::{first_of, stands_in};
 use crate::fault::told_of;
 use crate::scene::Scene;
 use crate::store::{Store, remember};
-use fisca_eval::EvalFault;
+use crate::{Known, Recall};
+use fisca_eval::{EvalFault, default_of};
 use fisca_formula::Formula;
 use fisca_inputs::{Key, Value};
 use fisca_machine::{Frame, Machine, Step};
-use fisca_recall::{Known, Recall};
-use fisca_sources::default_of;
 use fisca_tables::Variable;
 
 /// How many keys are asked for below one another at most.

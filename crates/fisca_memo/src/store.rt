@@ -6,13 +6,13 @@ ghost use Rattle.fisca_heights.specs.Memory.{HasFormula};
 ghost use Rattle.fisca_inputs.specs.Seen.{key_seen};
 ghost use Rattle.fisca_memo.specs.Recalled as spec;
 ghost use Rattle.fisca_memo.specs.Scenes as scenes;
-ghost use Rattle.fisca_recall.specs.Counted.{with_kept, with_lost};
-ghost use Rattle.fisca_recall.specs.Found.{entry_seen};
+ghost use Rattle.fisca_memo.specs.Counted.{with_kept, with_lost};
+ghost use Rattle.fisca_memo.specs.Found.{entry_seen};
 
 use crate::scene::Scene;
+use crate::{Counts, Known, Recall};
 use fisca_eval::EvalFault;
 use fisca_inputs::Key;
-use fisca_recall::{Counts, Known, Recall};
 
 /// What is remembered, and how many formulas gave values.
 #[derive(Drop)]

@@ -10,23 +10,22 @@ ghost use Rattle.fisca_meaning.specs.Dialogues as meaning;
 ghost use Rattle.fisca_memo.specs.Counting.{AreLost, IsCounted};
 ghost use Rattle.fisca_memo.specs.Evaluators as spec;
 ghost use Rattle.fisca_memo.specs.Recalled.{marks_of};
-ghost use Rattle.fisca_recall.specs.Counted.{no_counts};
+ghost use Rattle.fisca_memo.specs.Counted.{no_counts};
 ghost use Rattle.fisca_rules.specs.Views.{rule_set};
 ghost use Rattle.fisca_situations.specs.Views.{situation as situation_view};
-ghost use Rattle.fisca_sources.specs.Simulations.{Simulation};
-ghost use Rattle.fisca_sources.specs.Sound.{InputsFit, IsSafeRules};
+ghost use Rattle.fisca_eval.specs.Simulations.{Simulation};
+ghost use Rattle.fisca_eval.specs.Sound.{InputsFit, IsSafeRules};
 
 use crate::evaluator::Evaluator;
 use crate::recalled::value_below;
 use crate::scene::scene_of;
 use crate::store::Store;
-use fisca_eval::EvalFault;
+use crate::{Counts, Recall};
+use fisca_eval::{EvalFault, own_key};
 use fisca_inputs::{Key, Value};
 use fisca_machine::Machine;
-use fisca_recall::{Counts, Recall};
 use fisca_rules::RuleSet;
 use fisca_situations::Situation;
-use fisca_sources::own_key;
 use std::alloc::Global;
 
 impl<'r, 't, R: Recall> Evaluator<'r, 't, R> {

@@ -1,7 +1,7 @@
 -- The expected values of a test, as they are written: from top to bottom, up to the first fault.
 use Rattle.std.specs.Prelude.{ℕ, suc, List, [], ◌∷◌, ◌++◌, ◌==◌, is_some, slice_get, if◌then◌else◌, Option, Some, None, option_map, Result, Ok}
 use Rattle.std.specs.Str.{bytes_eq}
-use Rattle.fisca_columns.specs.Columns.{period_at}
+use Rattle.fisca_calc.specs.Columns.{period_at}
 use Rattle.fisca_inputs.specs.declared.given.Value.{Value}
 use Rattle.fisca_members.specs.Groups.{role_named}
 use Rattle.fisca_members.specs.Lookup.{count_at}

@@ -1,7 +1,7 @@
 //! The periods at which variables are asked for.
 
 ghost use Rattle.std.specs.Prelude.{◌≡◌, option_map, is_some};
-ghost use Rattle.fisca_columns.specs.Columns as spec;
+ghost use Rattle.fisca_calc.specs.Columns as spec;
 ghost use Rattle.fisca_tables.specs.KnownVariables.{value_type as known_type};
 
 use fisca_inputs::{fits, key_period};

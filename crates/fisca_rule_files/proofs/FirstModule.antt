@@ -2,8 +2,8 @@
 use Rattle.std.proofs.Common.{◌≡◌, inl, sym, subst, refl}
 use Rattle.std.specs.Prelude.{Result, Ok, Err}
 use Rattle.fisca_rule_files.specs.Modules.{FileFault, IsRefusalOf}
-use Rattle.fisca_refusals.specs.declared.refusal.Refusal.{Refusal}
-use Rattle.fisca_refusals.specs.declared.refusal.Refusal.TheVariants.{Memory}
+use Rattle.fisca_rule_files.specs.declared.refusal.Refusal.{Refusal}
+use Rattle.fisca_rule_files.specs.declared.refusal.Refusal.TheVariants.{Memory}
 
 -- want of memory may be told of any
 pub memory_told : {X : Type 0} (o : Result X FileFault) → IsRefusalOf o Memory

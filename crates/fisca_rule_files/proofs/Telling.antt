@@ -11,7 +11,7 @@ use Rattle.fisca_syntax.specs.Reading.{module_of}
 use Rattle.fisca_tokens.specs.declared.fault.FormulaFault.{FormulaFault}
 use Rattle.fisca_rule_files.specs.Modules.{IsFaultOf, IsRefusalOf, declared_by, declared_in, path_or, rules_in, told_by, told_with}
 use Rattle.fisca_rule_files.specs.RuleFiles.{IsToldAt, IsToldOf, StandsAt, path_of, place_of}
-use Rattle.fisca_refusals.specs.declared.refusal.Refusal.{Refusal}
+use Rattle.fisca_rule_files.specs.declared.refusal.Refusal.{Refusal}
 
 -- a module that has this fault
 pub file_told : (f : Source) (fault : FormulaFault) (r : Refusal) → module_of f.text ≡ Err fault → IsFaultOf (f.path, fault) r → IsRefusalOf (declared_in f) r

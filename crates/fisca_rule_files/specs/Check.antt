@@ -7,8 +7,8 @@ use Rattle.fisca_params.specs.Lookup.{is_counted}
 use Rattle.fisca_params.specs.Source.{Source}
 use Rattle.fisca_rules.specs.Rules.{Rules}
 use Rattle.fisca_rule_files.specs.RuleFiles.{IsAccepted, RefusesFiles}
-use Rattle.fisca_refusals.specs.declared.refusal.Refusal.{Refusal}
-use Rattle.fisca_refusals.specs.declared.refusal.Refusal.TheVariants.{Write, Memory}
+use Rattle.fisca_rule_files.specs.declared.refusal.Refusal.{Refusal}
+use Rattle.fisca_rule_files.specs.declared.refusal.Refusal.TheVariants.{Write, Memory}
 
 -- the line of so many entities, variables, and dated parameters with scales
 abbrev pub text_of_counts : ℕ → ℕ → ℕ → List ℕ

@@ -1,3 +1,4 @@
-pub mod Modules
-pub mod RuleFiles
 pub mod Check
+pub mod Modules
+pub mod Refusal
+pub mod RuleFiles

@@ -11,8 +11,8 @@ use Rattle.fisca_rules.specs.Rules.{Rules, all_of, rules_of}
 use Rattle.fisca_syntax.specs.Modules.{Statement}
 use Rattle.fisca_syntax.specs.Reading.{module_of}
 use Rattle.fisca_tokens.specs.declared.fault.FormulaFault.{FormulaFault}
-use Rattle.fisca_refusals.specs.declared.refusal.Refusal.{Refusal}
-use Rattle.fisca_refusals.specs.declared.refusal.Refusal.TheVariants.{Formula, Memory}
+use Rattle.fisca_rule_files.specs.declared.refusal.Refusal.{Refusal}
+use Rattle.fisca_rule_files.specs.declared.refusal.Refusal.TheVariants.{Formula, Memory}
 
 -- a fault of a file, which is told with its path
 abbrev pub FileFault : Type 0

@@ -10,8 +10,8 @@ use Rattle.fisca_params.specs.declared.fault.ParamFault.{ParamFault}
 use Rattle.fisca_params.specs.declared.fault.ParamFault.TheVariants as params
 use Rattle.fisca_rules.specs.Rules.{Rules}
 use Rattle.fisca_rule_files.specs.Modules.{rules_by, IsRefusalOf}
-use Rattle.fisca_refusals.specs.declared.refusal.Refusal.{Refusal}
-use Rattle.fisca_refusals.specs.declared.refusal.Refusal.TheVariants.{Params, Memory, TooManyFiles}
+use Rattle.fisca_rule_files.specs.declared.refusal.Refusal.{Refusal}
+use Rattle.fisca_rule_files.specs.declared.refusal.Refusal.TheVariants.{Params, Memory, TooManyFiles}
 
 -- how many files are not ignored
 abbrev pub count_of_files : List Source → ℕ

@@ -4,12 +4,12 @@ ghost use Rattle.std.specs.Prelude.{◌≡◌, IfOk, string_bytes};
 ghost use Rattle.fisca_lines.specs.Sink.{CountsFailure};
 ghost use Rattle.fisca_rules.specs.Views.{rule_set};
 ghost use Rattle.fisca_rule_files.specs.Check.{text_of, text_of_counts, IsCheck, IsWritten};
-ghost use Rattle.fisca_refusals.specs.Refusal.{is_write};
+ghost use Rattle.fisca_rule_files.specs.Refusal.{is_write};
 
 use super::rule_files::rules_of;
+use crate::Refusal;
 use fisca_lines::{RowSink, hand_over};
 use fisca_params::SourceFile;
-use fisca_refusals::Refusal;
 use fisca_rules::RuleSet;
 use std::alloc::{AllocError, Global};
 

@@ -7,10 +7,10 @@ ghost use Rattle.fisca_params.specs.Files.{in_path_order};
 ghost use Rattle.fisca_rules.specs.Views.{rule_set};
 ghost use Rattle.fisca_syntax.specs.Views.{statements};
 
+use crate::Refusal;
 use fisca_folder::is_module;
 use fisca_names::BuildFault;
 use fisca_params::{ParamTree, SourceFile, in_path_order};
-use fisca_refusals::Refusal;
 use fisca_rules::RuleSet;
 use fisca_syntax::{Module, read_module};
 use fisca_tokens::{FormulaFault, Kind};

@@ -7,9 +7,9 @@ ghost use Rattle.fisca_rules.specs.Views.{rule_set};
 ghost use Rattle.fisca_rule_files.specs.RuleFiles.{count_of_files, IsAccepted, IsToldAt, IsToldOf, RefusesFiles};
 
 use super::modules::build_rules;
+use crate::Refusal;
 use fisca_folder::is_rule_path;
 use fisca_params::{ParamFault, ParamTree, SourceFile};
-use fisca_refusals::Refusal;
 use fisca_rules::RuleSet;
 use std::alloc::Global;
 

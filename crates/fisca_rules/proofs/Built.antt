@@ -1,7 +1,7 @@
 -- A rule set, pass after pass.
 use Rattle.std.proofs.Common.{◌≡◌, ◌∙◌, sym, ap, List, [], ◌∷◌, map, refl}
 use Rattle.std.specs.Prelude.{Ok, Err}
-use Rattle.fisca_classes.specs.Build.{Whole, second_pass, tables_of}
+use Rattle.fisca_rules.specs.Build.{Whole, second_pass, tables_of}
 use Rattle.fisca_names.specs.Names.{names_from, placed_from}
 use Rattle.fisca_names.specs.declared.fault.BuildFault.{BuildFault}
 use Rattle.fisca_params.specs.Results.{and_then}

@@ -9,7 +9,7 @@ use Rattle.fisca_attributes.specs.Values.{needed, or_bad, number_value, truth_va
 use Rattle.fisca_attributes.specs.declared.attributes.TypeName.{TypeName}
 use Rattle.fisca_attributes.specs.declared.attributes.TypeName.TheVariants as named
 use Rattle.fisca_attributes.specs.declared.dotted.Dotted.{Dotted}
-use Rattle.fisca_classes.specs.Build.{Found, Whole, enums_in, declared_in, found_from, statement_found, second_pass, variable_in, items_fit, with_person, none_yet, tables_of}
+use Rattle.fisca_rules.specs.Build.{Found, Whole, enums_in, declared_in, found_from, statement_found, second_pass, variable_in, items_fit, with_person, none_yet, tables_of}
 use Rattle.fisca_expressions.specs.Tree.{Tree}
 use Rattle.fisca_expressions.specs.Words.{is}
 use Rattle.fisca_names.specs.Names.{Placed, placed_from, names_from, told_at}

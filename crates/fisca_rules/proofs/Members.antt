@@ -6,7 +6,7 @@ use Rattle.fisca_attributes.specs.AttributeForms.{value_at, type_value, period_v
 use Rattle.fisca_attributes.specs.Values.{bad_attribute, name_value, needed}
 use Rattle.fisca_attributes.specs.declared.attributes.TypeName.{TypeName}
 use Rattle.fisca_attributes.specs.declared.attributes.TypeName.TheVariants as named
-use Rattle.fisca_classes.specs.Build.{Found, Whole, members_of, members_fit, enums_in, declared_in, found_from, statement_found, second_pass, variable_in, items_fit, with_entity, with_person, none_yet, tables_of}
+use Rattle.fisca_rules.specs.Build.{Found, Whole, members_of, members_fit, enums_in, declared_in, found_from, statement_found, second_pass, variable_in, items_fit, with_entity, with_person, none_yet, tables_of}
 use Rattle.fisca_variables.specs.VariableForms.{Written, place_of_enum, or_unknown, enum_value, declared_type, default_or_none, entity_value, basics_of, told_of, formulas_of, variable_of}
 use Rattle.fisca_variables.specs.declared.basics.Basics.{Basics}
 use Rattle.fisca_variables.specs.declared.told.Told.{Told}

@@ -8,7 +8,7 @@ use Rattle.fisca_expressions.specs.Words.{is_keyword}
 use Rattle.fisca_expressions.specs.declared.tree.Suffix.TheVariants as suffix
 use Rattle.fisca_names.specs.declared.fault.BuildFault.{BuildFault}
 use Rattle.fisca_rules.specs.Rules.{Rules, dated_of, formulas_of, rules_of}
-use Rattle.fisca_classes.specs.Build.{tables_of}
+use Rattle.fisca_rules.specs.Build.{tables_of}
 use Rattle.fisca_syntax.specs.Modules.{Assigned, Item, attribute, formula, Statement, entity, variable}
 use Rattle.fisca_tokens.specs.declared.fault.Kind.{Kind}
 use Rattle.fisca_tokens.specs.declared.fault.Kind.TheVariants as kind

@@ -15,7 +15,7 @@ use Rattle.fisca_typing.specs.Names.{Names}
 use Rattle.fisca_typing.specs.Tables.{Tables, Variable}
 use Rattle.fisca_names.specs.declared.fault.BuildFault.{BuildFault}
 use Rattle.fisca_names.specs.Names.{fault_at}
-use Rattle.fisca_classes.specs.Build.{Whole, tables_of}
+use Rattle.fisca_rules.specs.Build.{Whole, tables_of}
 use Rattle.fisca_variables.specs.VariableForms.{Written}
 
 -- What formulas may name

@@ -1,9 +1,18 @@
-//! Rule sets: what modules declare beside parameters, with typed formulas, or the first fault.
+//! Rule sets: what modules declare beside parameters, with typed formulas, or the first fault: of names, then of attributes and entities, then of formulas.
 #![tactic(auto)]
 
+mod constants;
 mod dated;
+mod entities;
+mod enums;
+mod faults;
+mod found;
 mod law;
+mod lines;
+mod persons;
 mod rule_set;
+mod statements;
+mod tables;
 mod typed;
 
 pub use dated::Dated;
@@ -11,3 +20,4 @@ pub use law::{
     days_and_texts_have_no_formulas, defaults_are_of_their_types, rule_sets_are_never_stuck,
 };
 pub use rule_set::RuleSet;
+pub use tables::tables_found;

@@ -8,8 +8,8 @@ ghost use Rattle.fisca_syntax.specs.Views.{statements};
 ghost use Rattle.fisca_variables.specs.VariableForms.{written};
 
 use crate::dated::Dated;
+use crate::tables_found;
 use crate::typed::formulas_of_tables;
-use fisca_classes::tables_found;
 use fisca_names::{BuildFault, names_differ};
 use fisca_params::ParamTree;
 use fisca_syntax::Module;

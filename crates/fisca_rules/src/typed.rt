@@ -12,8 +12,8 @@ ghost use Rattle.fisca_tables.specs.KnownVariables.{value_type as known_type};
 ghost use Rattle.fisca_typing.specs.Formulas as typing;
 
 use crate::dated::Dated;
+use fisca_calls::Locals;
 use fisca_formula::{Formula as Typed, Names, Refusal, formula_of};
-use fisca_locals::Locals;
 use fisca_names::BuildFault;
 use fisca_syntax::Formula;
 use fisca_tables::{DeclaredType, Tables, Variable};

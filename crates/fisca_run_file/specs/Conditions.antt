@@ -6,7 +6,7 @@ use Rattle.fisca_calc.specs.Calc.{default_in}
 use Rattle.fisca_calc.specs.Faults.{fault_at}
 use Rattle.fisca_calc.specs.declared.fault.RunFileFault.{RunFileFault}
 use Rattle.fisca_calc.specs.declared.fault.RunFileKind.TheVariants.{BadCondition}
-use Rattle.fisca_columns.specs.Columns.{column_of}
+use Rattle.fisca_calc.specs.Columns.{column_of}
 use Rattle.fisca_grid.specs.Condition.{past_spaces, signs}
 use Rattle.fisca_grid.specs.Words.{around_first, literal_of}
 use Rattle.fisca_grid.specs.declared.condition.Comparison.{Comparison}

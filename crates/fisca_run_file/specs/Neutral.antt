@@ -4,7 +4,7 @@ use Rattle.std.specs.Option.{unwrap_or}
 use Rattle.fisca_calc.specs.Faults.{fault_at}
 use Rattle.fisca_calc.specs.declared.fault.RunFileFault.{RunFileFault}
 use Rattle.fisca_calc.specs.declared.fault.RunFileKind.TheVariants.{BadNeutral}
-use Rattle.fisca_columns.specs.Columns.{if_usable}
+use Rattle.fisca_calc.specs.Columns.{if_usable}
 use Rattle.fisca_params.specs.Results.{and_then}
 use Rattle.fisca_tables.specs.Known.{tables as known}
 use Rattle.fisca_tables.specs.declared.tables.Tables.{Tables}

@@ -9,7 +9,7 @@ ghost use Rattle.fisca_situations.specs.Views.{situation as situation_view};
 ghost use Rattle.fisca_tables.specs.Known.{tables as known};
 ghost use Rattle.fisca_tables.specs.KnownVariables.{value_type as known_type};
 
-use fisca_columns::read_column;
+use fisca_calc::read_column;
 use fisca_grid::{Comparison, around_first, past_spaces};
 use fisca_inputs::{Key, Value};
 use fisca_num::Fraction;

@@ -6,7 +6,7 @@ use Rattle.std.proofs.lemmas.Nat.Gcd.{IsGcd-from_mod, IsGcd-from_zero}
 use Rattle.std.specs.Int.{IsGcd}
 use Rattle.fisca_num.specs.Lowest.{IsCoprime}
 use Rattle.std.specs.Fmt.{decimal}
-use Rattle.fisca_columns.specs.Shown.{shown}
+use Rattle.fisca_calc.specs.Shown.{shown}
 use Rattle.fisca_inputs.specs.Entries.{key}
 use Rattle.fisca_inputs.specs.declared.given.Value.{Value}
 use Rattle.fisca_inputs.specs.declared.given.Value.TheVariants as v

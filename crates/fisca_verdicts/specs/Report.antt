@@ -2,7 +2,7 @@
 use Rattle.std.specs.Prelude.{◌≡◌, ℕ, ◌+◌, List, [], ◌∷◌, ◌++◌, count_by, Bool, true, false, not, if◌then◌else◌, Option, Some, None, Result, Ok, codes}
 use Rattle.std.specs.Fmt.{decimal}
 use Rattle.std.specs.List.{flat_map, list_all}
-use Rattle.fisca_columns.specs.Texts.{key_text, value_text}
+use Rattle.fisca_calc.specs.Texts.{key_text, value_text}
 use Rattle.fisca_inputs.specs.declared.given.Value.{Value}
 use Rattle.fisca_inputs.specs.declared.key.Key.{Key}
 use Rattle.fisca_members.specs.declared.entity_members.EntityMembers.{EntityMembers}

@@ -7,7 +7,7 @@ ghost use Rattle.fisca_tables.specs.Known.{tables as known};
 
 use crate::key_fault::KeyFault;
 use crate::outcome::Outcome;
-use fisca_columns::{write_key, write_value};
+use fisca_calc::{write_key, write_value};
 use fisca_inputs::{Key, Value};
 use fisca_situations::Situation;
 use fisca_tables::Tables;

@@ -4,7 +4,7 @@ use Rattle.std.specs.Io.KnownBytes.{Keeps}
 use Rattle.fisca_calc.specs.Views.{calc}
 use Rattle.fisca_lines.specs.Sink.{one_more}
 use Rattle.fisca_commands.specs.Calc.{Calculation}
-use Rattle.fisca_refusals.specs.Refusal.{is_write}
+use Rattle.fisca_rule_files.specs.Refusal.{is_write}
 use Rattle.fisca_commands.proofs.Calculated.{ready}
 use Rattle.fisca_commands.proofs.Telling.{text_unwritten}
 use Rattle.fisca_commands.proofs.calc.calc_rules.Goals as goal

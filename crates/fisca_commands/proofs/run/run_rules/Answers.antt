@@ -4,12 +4,12 @@ use Rattle.std.specs.Io.KnownBytes.{Keeps}
 use Rattle.fisca_lines.specs.Sink.{one_more}
 use Rattle.fisca_lines.specs.declared.fault.RunEnd.{RunEnd}
 use Rattle.fisca_params.specs.Source.{Source}
-use Rattle.fisca_recall.specs.declared.counts.Counts.{Counts}
-use Rattle.fisca_refusals.specs.Refusal.{is_write}
-use Rattle.fisca_refusals.specs.declared.refusal.Refusal.{Refusal}
+use Rattle.fisca_memo.specs.declared.counts.Counts.{Counts}
+use Rattle.fisca_rule_files.specs.Refusal.{is_write}
+use Rattle.fisca_rule_files.specs.declared.refusal.Refusal.{Refusal}
 use Rattle.fisca_rules.specs.Views.{rule_set}
-use Rattle.fisca_run.specs.Ends.{end_of, stop_of}
-use Rattle.fisca_run.specs.Remembered.{AreCounts}
+use Rattle.fisca_commands.specs.Ends.{end_of, stop_of}
+use Rattle.fisca_commands.specs.Remembered.{AreCounts}
 use Rattle.fisca_run_file.specs.Views.{run_file}
 use Rattle.fisca_yaml.specs.Views.{node}
 use Rattle.fisca_commands.specs.Run.{IsCounted, IsRunTold, IsRunning, Running}

@@ -3,8 +3,8 @@ use Rattle.fisca_answers.proofs.Below.{below_refused}
 use Rattle.fisca_inputs.specs.Seen.{key_seen}
 use Rattle.fisca_formula.specs.Formulas.{formula_view}
 use Rattle.fisca_machine.specs.Running.{rest, resume}
-use Rattle.fisca_sources.proofs.Origins.{of_none, of_input, of_formula, of_default, of_nothing}
-use Rattle.fisca_sources.proofs.Sources.{works_soundly}
+use Rattle.fisca_eval.proofs.Origins.{of_none, of_input, of_formula, of_default, of_nothing}
+use Rattle.fisca_eval.proofs.SourceLookups.{works_soundly}
 use Rattle.fisca_variables.specs.VariableForms.{written}
 use Rattle.fisca_eval.proofs.Steps.{by_formula_full, by_formula_room, goes_on, goes_soundly}
 use Rattle.fisca_eval.specs.Faults.{IsAnswer}

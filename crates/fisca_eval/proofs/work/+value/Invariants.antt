@@ -6,7 +6,7 @@ use Rattle.fisca_answers.specs.Stacks.{left_below}
 use Rattle.fisca_inputs.specs.Seen.{key_seen}
 use Rattle.fisca_inputs.specs.Typed.{IsValueOf}
 use Rattle.fisca_machine.specs.Running.{rest, resume, waiting}
-use Rattle.fisca_sources.specs.Sound.{GivesOnly}
+use Rattle.fisca_eval.specs.Sound.{GivesOnly}
 use Rattle.fisca_eval.specs.Scenes.{known_in, sources_in, work}
 use Rattle.fisca_eval.proofs.work.+value.Given as goal
 

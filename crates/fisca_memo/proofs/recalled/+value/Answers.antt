@@ -15,9 +15,9 @@ use Rattle.fisca_heights.proofs.WorkDone.{covered_known, passed_path_more, work_
 use Rattle.fisca_inputs.specs.Seen.{key_seen, value_seen}
 use Rattle.fisca_inputs.specs.Typed.{IsValueOf}
 use Rattle.fisca_machine.specs.Running.{rest, resume}
-use Rattle.fisca_sources.specs.Sound.{GivesOnly}
-use Rattle.fisca_sources.proofs.Origins.{of_none, of_input, of_formula, of_default, of_nothing}
-use Rattle.fisca_sources.proofs.Sources.{works_soundly}
+use Rattle.fisca_eval.specs.Sound.{GivesOnly}
+use Rattle.fisca_eval.proofs.Origins.{of_none, of_input, of_formula, of_default, of_nothing}
+use Rattle.fisca_eval.proofs.SourceLookups.{works_soundly}
 use Rattle.fisca_variables.specs.VariableForms.{written}
 use Rattle.fisca_eval.specs.Faults.{told}
 use Rattle.fisca_memo.proofs.Memories.{none_there}

@@ -10,7 +10,7 @@ use Rattle.fisca_heights.proofs.Reading.{AreRead, ReadsWithin}
 use Rattle.fisca_inputs.specs.Seen.{key_seen}
 use Rattle.fisca_inputs.specs.Typed.{IsValueOf}
 use Rattle.fisca_machine.specs.Running.{rest, resume, waiting}
-use Rattle.fisca_sources.specs.Sound.{GivesOnly}
+use Rattle.fisca_eval.specs.Sound.{GivesOnly}
 use Rattle.fisca_memo.specs.Counting.{IsCounted}
 use Rattle.fisca_memo.specs.Recalled.{work_at}
 use Rattle.fisca_memo.specs.Scenes.{IsMemoryIn, known_in, marks_in, sources_in, work}

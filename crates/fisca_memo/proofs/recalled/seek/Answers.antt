@@ -6,7 +6,7 @@ use Rattle.fisca_heights.proofs.Settled.{cycle_answer}
 use Rattle.fisca_heights.proofs.WorkDone.{stack_work}
 use Rattle.fisca_inputs.specs.Seen.{key_seen}
 use Rattle.fisca_memo.proofs.Recalls.{hit_below, hit_read, hit_tall, not_remembered, not_standing}
-use Rattle.fisca_sources.proofs.Origins.{no_formula}
+use Rattle.fisca_eval.proofs.Origins.{no_formula}
 use Rattle.fisca_memo.specs.Scenes.{seen, sources_in}
 use Rattle.fisca_memo.proofs.recalled.seek.Goals as goal
 

@@ -2,7 +2,7 @@ use Rattle.std.proofs.Common.{sym, ap, subst}
 use Rattle.fisca_heights.specs.Entries.{with_entry}
 use Rattle.fisca_heights.proofs.Growing.{same_entries}
 use Rattle.fisca_inputs.specs.Seen.{key_seen}
-use Rattle.fisca_recall.specs.Found.{entry_seen}
+use Rattle.fisca_memo.specs.Found.{entry_seen}
 use Rattle.fisca_memo.proofs.Memories.{kept_memory}
 use Rattle.fisca_memo.specs.Scenes.{IsMemoryIn, marks_in, sources_in}
 use Rattle.fisca_memo.proofs.store.remember.Goals as goal

@@ -1,7 +1,7 @@
 use Rattle.std.proofs.Common.{sym, subst}
 use Rattle.fisca_answers.proofs.Below.{answer_alone}
 use Rattle.fisca_inputs.specs.Seen.{key_seen}
-use Rattle.fisca_sources.specs.Simulations.{normal_key, sources}
+use Rattle.fisca_eval.specs.Simulations.{normal_key, sources}
 use Rattle.fisca_eval.specs.Evaluators.{simulation_of}
 use Rattle.fisca_eval.specs.Faults.{IsAnswer}
 use Rattle.fisca_eval.proofs.evaluator.Evaluator.value.Goals as goal

@@ -1,7 +1,7 @@
 use Rattle.std.proofs.Common.{sym, subst}
 use Rattle.fisca_situations.specs.Views.{situation}
 use Rattle.fisca_rules.specs.Views.{rule_set}
-use Rattle.fisca_sources.specs.Simulations.{sources}
+use Rattle.fisca_eval.specs.Simulations.{sources}
 use Rattle.fisca_memo.proofs.Memories.{empty_memory}
 use Rattle.fisca_memo.specs.Recalled.{IsMemory, marks_of}
 use Rattle.fisca_memo.proofs.evaluator.Evaluator.new.Goals as goal

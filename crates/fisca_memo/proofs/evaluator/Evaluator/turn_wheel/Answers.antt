@@ -1,4 +1,4 @@
-use Rattle.fisca_sources.specs.Simulations.{sources}
+use Rattle.fisca_eval.specs.Simulations.{sources}
 use Rattle.fisca_memo.proofs.Memories.{turned_memory}
 use Rattle.fisca_memo.specs.Evaluators.{marks_in, simulation_of}
 use Rattle.fisca_memo.proofs.evaluator.Evaluator.turn_wheel.Goals as goal

@@ -3,7 +3,7 @@ use Rattle.std.proofs.lemmas.Result.{err_from_is_err_and}
 use Rattle.fisca_answers.proofs.Below.{answer_alone}
 use Rattle.fisca_heights.proofs.Settled.{known_answer}
 use Rattle.fisca_inputs.specs.Seen.{key_seen, value_seen}
-use Rattle.fisca_sources.specs.Simulations.{normal_key, sources}
+use Rattle.fisca_eval.specs.Simulations.{normal_key, sources}
 use Rattle.fisca_eval.specs.Faults.{IsTold, told}
 use Rattle.fisca_memo.specs.Evaluators.{simulation_of}
 use Rattle.fisca_memo.proofs.evaluator.Evaluator.value.Goals as goal

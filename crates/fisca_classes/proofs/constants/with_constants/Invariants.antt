@@ -1,7 +1,0 @@
-use Rattle.std.proofs.Common.{◌≡◌, ◌++◌, drop, map}
-use Rattle.fisca_syntax.specs.Views.{statement}
-use Rattle.fisca_classes.specs.Scans.{constants_of}
-use Rattle.fisca_classes.proofs.constants.with_constants.Given as goal
-
-abbrev pub invariant-loop-statement : goal.invariant-loop-statement
-invariant-loop-statement l = l.found ++ constants_of (map statement (drop l.statement-index l.statements)) ≡ l.fn.constants ++ constants_of (map statement l.statements)

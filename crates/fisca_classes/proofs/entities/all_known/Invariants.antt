@@ -1,7 +1,0 @@
-use Rattle.std.proofs.Common.{◌≡◌, map, drop}
-use Rattle.fisca_expressions.specs.Views.{argument_view}
-use Rattle.fisca_classes.specs.Build.{all_known}
-use Rattle.fisca_classes.proofs.entities.all_known.Given as goal
-
-abbrev pub invariant-loop-argument : goal.invariant-loop-argument
-invariant-loop-argument l = all_known l.declared (map argument_view (drop l.argument-index l.items)) ≡ all_known l.declared (map argument_view l.items)

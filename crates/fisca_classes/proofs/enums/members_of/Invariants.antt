@@ -1,6 +1,0 @@
-use Rattle.std.proofs.Common.{◌≡◌, ◌++◌, drop}
-use Rattle.fisca_classes.specs.Build.{members_of}
-use Rattle.fisca_classes.proofs.enums.members_of.Given as goal
-
-abbrev pub invariant-loop-member : goal.invariant-loop-member
-invariant-loop-member l = l.found.items ++ members_of (drop l.member-index l.members) ≡ members_of l.members

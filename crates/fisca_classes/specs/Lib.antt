@@ -1,4 +1,0 @@
-pub mod Build
-pub mod Passes
-pub mod Scans
-pub mod Views

@@ -1,7 +1,0 @@
-pub mod Backwards
-pub mod Cuts
-pub mod Names
-pub mod Numerals
-pub mod ReadBack
-pub mod Readings
-pub mod Worked

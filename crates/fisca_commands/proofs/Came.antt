@@ -1,0 +1,149 @@
+-- What is left behind by a run in one situation.
+use Rattle.std.proofs.Common.{◌≡◌, ◌⊎◌, ◌<◌, ◌≤◌, ◌+◌, ◌-◌, ℕ, zero, suc, List, Option, Some, None, Result, Ok, Err, refl, sym, ap, subst, ◌∙◌, arith, inl, inr, ⊎_elim}
+use Rattle.std.proofs.lemmas.Bool.{cases_lt}
+use Rattle.fisca_eval.specs.declared.fault.EvalFault.{EvalFault}
+use Rattle.fisca_heights.specs.Entries.{Entries}
+use Rattle.fisca_inputs.specs.declared.given.Given.{Given}
+use Rattle.fisca_lines.specs.Came.{HasCome, HasPassed, Passes}
+use Rattle.fisca_lines.specs.declared.fault.RunEnd.{RunEnd}
+use Rattle.fisca_lines.specs.declared.fault.RunEnd.TheVariants as end
+use Rattle.fisca_lines.specs.declared.fault.RunFault.{RunFault}
+use Rattle.fisca_lines.specs.declared.fault.RunFault.TheVariants as fault
+use Rattle.fisca_meaning.specs.Dialogues.{Key}
+use Rattle.fisca_memo.specs.Evaluators.{marks_in}
+use Rattle.fisca_memo.specs.declared.evaluator.Evaluator.{Evaluator}
+use Rattle.fisca_memo.specs.Counted.{one_more}
+use Rattle.fisca_rules.specs.declared.rule_set.RuleSet.{RuleSet}
+use Rattle.fisca_commands.proofs.Passing.{just_for, just_none, just_on, raised_both, raised_none}
+use Rattle.fisca_commands.specs.Ends.{stop_of}
+use Rattle.fisca_commands.specs.Kept.{AreMoved, IsKept}
+use Rattle.fisca_commands.specs.Remembered.{HasEnded, HasRun, IsPassed, IsRefused, IsStillWork, IsStillWorkIn}
+use Rattle.fisca_commands.specs.Runs.{positions}
+use Rattle.fisca_commands.specs.declared.kept_rows.KeptRows.{KeptRows}
+use Rattle.fisca_run_file.specs.RunFiles.{RunFile}
+use Rattle.fisca_run_file.specs.Views.{run_file}
+use Rattle.fisca_memo.specs.declared.slot.Slot.{Slot}
+use Rattle.fisca_eval.specs.Simulations.{Simulation}
+use Rattle.fisca_tables.specs.declared.tables.Tables.{Tables}
+
+module _ {R : Type 0} (find : R → Entries) (rules : RuleSet) (f : RunFile) where
+  run_none : (from stop : ℕ) (e : Evaluator R) → from ≡ stop → HasRun find rules f from stop e e
+  run_none from stop e same = record {
+    within = omega (arith, same);
+    marks = refl;
+    just = just_none (find e.store.recall) (IsStillWorkIn rules f (marks_in e) from stop) (λ k w. absurd (omega (arith, w.begun, w.ended, same)));
+    raised = raised_none e.store.counts;
+    lost = refl;
+  }
+
+  -- one row more
+  run_more : (from stop : ℕ) (old between new : Evaluator R) → HasRun find rules f from stop old between → IsPassed find rules f between stop new → HasRun find rules f from (suc stop) old new
+  run_more from stop old between new ran step = record {
+    within = omega (arith, ran.within);
+    marks = step.marks ∙ ran.marks;
+    just = just_for (find old.store.recall) (find new.store.recall) (λ k. IsStillWorkIn rules f (marks_in old) from stop k ⊎ IsStillWork rules f (marks_in between) stop k)
+        (IsStillWorkIn rules f (marks_in old) from (suc stop)) there back
+        (just_on (find old.store.recall) (find between.store.recall) (find new.store.recall) (IsStillWorkIn rules f (marks_in old) from stop)
+        (IsStillWork rules f (marks_in between) stop) ran.just step.just);
+    raised = raised_both old.store.counts between.store.counts new.store.counts ran.raised step.raised;
+    lost = step.lost ∙ ran.lost;
+  }
+    where
+      there : (k : Key) → IsStillWorkIn rules f (marks_in old) from stop k ⊎ IsStillWork rules f (marks_in between) stop k → IsStillWorkIn rules f (marks_in old) from (suc stop) k
+      there k (inl w) = record { position = w.position; begun = w.begun; ended = omega (arith, w.ended); work = w.work }
+      there k (inr w) = record { position = stop; begun = ran.within; ended = omega arith; work = subst (λ marks. IsStillWork rules f marks stop k) ran.marks w }
+
+      back : (k : Key) → IsStillWorkIn rules f (marks_in old) from (suc stop) k → IsStillWorkIn rules f (marks_in old) from stop k ⊎ IsStillWork rules f (marks_in between) stop k
+      back k w = ⊎_elim
+          (λ (low : w.position < stop). inl (record { position = w.position; begun = w.begun; ended = low; work = w.work }))
+          (λ (high : stop ≤ w.position).
+          let last : w.position ≡ stop = omega (arith, high, w.ended) in
+          inr (subst (λ p. IsStillWork rules f (marks_in between) p k) last (subst (λ marks. IsStillWork rules f marks w.position k) (sym ran.marks) w.work)))
+          (cases_lt w.position stop)
+
+  run_to : (from a b : ℕ) (old new : Evaluator R) → a ≡ b → HasRun find rules f from a old new → HasRun find rules f from b old new
+  run_to from a b old new same ran = subst (λ stop. HasRun find rules f from stop old new) same ran
+
+  run_refused : (from stop : ℕ) (old between new : Evaluator R) → HasRun find rules f from stop old between → IsRefused find between new → IsRefused find old new
+  run_refused from stop old between new ran refused = record {
+    marks = refused.marks ∙ ran.marks;
+    kept = λ k free. refused.kept k (ran.just.kept k free);
+    raised = raised_both old.store.counts between.store.counts new.store.counts ran.raised refused.raised;
+    lost = ⊎_elim (λ e. inl (e ∙ ran.lost)) (λ e. inr (e ∙ ap one_more ran.lost)) refused.lost;
+  }
+
+  -- the rows up to the one that ended it were worked out
+  pub ended_well : (from : ℕ) (old new : Evaluator R) (ending : RunEnd) → HasEnded find rules f from old new (Ok ending) → HasRun find rules f from (stop_of f ending) old new
+  ended_well from old new end.End ran = ran
+  ended_well from old new (end.More position) ran = ran
+
+-- the same rule set, file and slots, and the evaluator at the same place
+abbrev pub IsSame : {R : Type 0} → KeptRows R → KeptRows R → Type 0
+IsSame r s = (s.rules.now ≡ r.rules.now) × (s.run.now ≡ r.run.now) × (s.slots.now ≡ r.slots.now) × (s.evaluator.ghost_name ≡ r.evaluator.ghost_name)
+
+same_on : {R : Type 0} (a b c : KeptRows R) → IsSame a b → IsSame b c → IsSame a c
+same_on a b c first second = (second.0 ∙ first.0, second.1 ∙ first.1, second.2 ∙ first.2, second.3 ∙ first.3)
+
+module _ {R : Type 0} (find : R → Entries) where
+  abbrev Worked : KeptRows R → ℕ → KeptRows R → Type 0
+  Worked r position s = (s.rules.now ≡ r.rules.now) × (s.run.now ≡ r.run.now) × (s.slots.now ≡ r.slots.now) × (s.evaluator.ghost_name ≡ r.evaluator.ghost_name) × IsPassed find r.rules.now (run_file r.run.now) r.evaluator.now position s.evaluator.now
+
+  abbrev Refused : KeptRows R → ℕ → KeptRows R → Type 0
+  Refused r position s = (s.rules.now ≡ r.rules.now) × (s.run.now ≡ r.run.now) × (s.slots.now ≡ r.slots.now) × (s.evaluator.ghost_name ≡ r.evaluator.ghost_name) × IsRefused find r.evaluator.now s.evaluator.now
+
+  passed : (old : KeptRows R) (from count : ℕ) (new : KeptRows R) → Passes Worked old from count new
+      → IsSame old new × HasRun find old.rules.now (run_file old.run.now) from (from + count) old.evaluator.now new.evaluator.now
+  passed old from zero new none =
+      subst (λ s. IsSame old s × HasRun find old.rules.now (run_file old.run.now) from (from + zero) old.evaluator.now s.evaluator.now) (sym none)
+      ((refl, refl, refl, refl), run_none find old.rules.now (run_file old.run.now) from (from + zero) old.evaluator.now (omega arith))
+  passed old from (suc count) new (between, passes, step) =
+      let before = passed old from count between passes in
+      let at = subst (λ r. IsPassed find r (run_file old.run.now) between.evaluator.now (from + count) new.evaluator.now) before.0.0
+      (subst (λ f. IsPassed find between.rules.now (run_file f) between.evaluator.now (from + count) new.evaluator.now) before.0.1 step.4) in (
+        same_on old between new before.0 (step.0, step.1, step.2, step.3),
+        run_to find old.rules.now (run_file old.run.now) from (suc (from + count)) (from + suc count) old.evaluator.now new.evaluator.now (omega arith)
+            (run_more find old.rules.now (run_file old.run.now) from (from + count) old.evaluator.now between.evaluator.now new.evaluator.now before.1 at),
+      )
+
+  past : (old : KeptRows R) (from stop : ℕ) (new : KeptRows R) → HasPassed Worked from stop old new
+      → IsSame old new × HasRun find old.rules.now (run_file old.run.now) from stop old.evaluator.now new.evaluator.now
+  past old from stop new (within, passes) =
+      let all = passed old from (stop - from) new passes in
+      (all.0, run_to find old.rules.now (run_file old.run.now) from (from + (stop - from)) stop old.evaluator.now new.evaluator.now (omega (arith, within)) all.1)
+
+  pub came_same : (old new : KeptRows R) (from : ℕ) (result : Result RunEnd (RunFault EvalFault))
+      → HasCome Worked Refused (positions (run_file old.run.now)) from old new result
+      → IsSame old new × HasEnded find old.rules.now (run_file old.run.now) from old.evaluator.now new.evaluator.now result
+  came_same old new from (Ok end.End) came = past old from (positions (run_file old.run.now)) new came
+  came_same old new from (Ok (end.More position)) came = past old from position new came
+  came_same old new from (Err fault.BadPosition) came =
+      (subst (λ s. IsSame old s) (sym came) (refl, refl, refl, refl), ap (λ (s : KeptRows R). s.evaluator.now) came)
+  came_same old new from (Err (fault.Eval position x)) came = past old from (position + 1) new came
+  came_same old new from (Err (fault.Write position)) came = past old from (position + 1) new came
+  came_same old new from (Err (fault.Memory position)) (between, passes, refused) =
+      let ran = past old from position between passes in (
+        same_on old between new ran.0 (refused.0, refused.1, refused.2, refused.3),
+        run_refused find old.rules.now (run_file old.run.now) from position old.evaluator.now between.evaluator.now new.evaluator.now ran.1 refused.4,
+      )
+
+-- wherever a run stood, it can be gone on with from anywhere
+
+moved_anywhere : (c : Tables) (f : RunFile) (here : Option ℕ) (moved : List Given) → AreMoved c f here moved → AreMoved c f None moved
+moved_anywhere c f None moved are = are
+moved_anywhere c f (Some position) moved are = inr (position, are.0, are.1)
+
+pub kept_anywhere : (rules : RuleSet) (f : RunFile) (slots : List Slot) (here : Option ℕ) (marks : Key → ℕ) (m : Simulation) (entries : Entries) (free : ℕ)
+    → IsKept rules f slots here marks m entries free → IsKept rules f slots None marks m entries free
+kept_anywhere rules f slots here marks m entries free kept = record {
+  accepted = kept.accepted;
+  slots_are = kept.slots_are;
+  marked = kept.marked;
+  situated = record {
+    moved = kept.situated.moved;
+    situation = kept.situated.situation;
+    moves = moved_anywhere rules.tables f here kept.situated.moved kept.situated.moves;
+    is = kept.situated.is;
+    same = kept.situated.same;
+  };
+  memory = kept.memory;
+}

@@ -1,0 +1,50 @@
+-- The rows of a run file over the positions of its grid, under a rule set.
+use Rattle.std.specs.Prelude.{◌≡◌, ℕ, List, Option, Some, None, Result, Ok, Err}
+use Rattle.fisca_eval.specs.Told.{told_in}
+use Rattle.fisca_eval.specs.declared.fault.EvalFault.{EvalFault}
+use Rattle.fisca_grid.specs.Grid.{size_of}
+use Rattle.fisca_inputs.specs.declared.fault.SituationFault.{SituationFault}
+use Rattle.fisca_inputs.specs.declared.given.Given.{Given}
+use Rattle.fisca_lines.specs.Row.{Row, Nothing}
+use Rattle.fisca_members.specs.declared.entity_members.EntityMembers.{EntityMembers}
+use Rattle.fisca_rules.specs.Views.{rule_set}
+use Rattle.fisca_rules.specs.declared.rule_set.RuleSet.{RuleSet}
+use Rattle.fisca_commands.specs.Lines.{asked_row}
+use Rattle.fisca_run_file.specs.Positions.{moved_at, situation_with}
+use Rattle.fisca_run_file.specs.RunFiles.{RunFile, run_file_of}
+use Rattle.fisca_situations.specs.Situations.{Situation}
+use Rattle.fisca_eval.specs.Simulations.{Simulation}
+use Rattle.fisca_eval.specs.Sound.{IsSafeRules}
+use Rattle.fisca_tables.specs.Known.{tables as known}
+use Rattle.fisca_yaml.specs.Node.{Node}
+
+-- a situation under the rule set, with what the file neutralises
+abbrev pub simulation_in : RuleSet → RunFile → Situation → Simulation
+simulation_in rules f s = record { rules = rule_set rules; situation = s; neutral = f.neutral }
+
+-- Where there is no situation there is no row. An accepted file has a situation at each position, as the law `positions_have_situations` says.
+abbrev pub row_in : RuleSet → RunFile → ℕ → List Given → Result Situation SituationFault → Row EvalFault
+row_in rules f position moved (Ok s) = asked_row (known rules.tables) (told_in (simulation_in rules f s)) f.conditions f.columns position moved
+row_in rules f position moved (Err e) = Nothing
+
+-- the axes of an accepted file have values at each position, as the same law says
+abbrev pub row_with : RuleSet → RunFile → ℕ → Option (List Given) → Row EvalFault
+row_with rules f position None = Nothing
+row_with rules f position (Some moved) = row_in rules f position moved (situation_with rules.tables f moved)
+
+-- what stands at a position: a row by the answers of keys in the situation there
+abbrev pub run_row : RuleSet → RunFile → ℕ → Row EvalFault
+run_row rules f position = row_with rules f position (moved_at rules.tables f position)
+
+abbrev pub positions : RunFile → ℕ
+positions f = size_of f.groups
+
+-- the rule set is safe, and the tree says this run file under it
+pub record IsAsked (rules : RuleSet) (n : Node) (f : RunFile) : Type 0 where
+  pub safe : IsSafeRules (rule_set rules)
+  pub read : run_file_of rules.tables n ≡ Ok f
+
+-- members that an evaluator has given back are those of the file
+abbrev pub AreMembers : RunFile → Option (List EntityMembers) → Type 0
+AreMembers f None = Unit {0}
+AreMembers f (Some members) = members ≡ f.situation.members

@@ -1,0 +1,146 @@
+//! The run over the grid of a run file.
+
+ghost use Rattle.std.specs.Prelude.{◌≡◌, ◌≢◌, ◌<◌, ◌≤◌, ◌↔◌, IfOk, IfSome, IfNone, IsErrOf, Some, length, map};
+ghost use Rattle.fisca_lines.specs.Run.{IsRun, is_write};
+ghost use Rattle.fisca_lines.specs.Sink.{CountsFailure};
+ghost use Rattle.fisca_commands.specs.Ends.{IsAtOnce, end_of, stop_of};
+ghost use Rattle.fisca_commands.specs.Kept.{IsRunFile};
+ghost use Rattle.fisca_commands.specs.Remembered.{AreCounts};
+ghost use Rattle.fisca_commands.specs.Runs.{IsAsked, positions, run_row};
+ghost use Rattle.fisca_run_file.specs.Positions.{situation_with};
+ghost use Rattle.fisca_run_file.specs.Views.{run_file as run_file_view};
+ghost use Rattle.fisca_situations.specs.Views.{situation as situation_view};
+ghost use Rattle.fisca_memo.specs.Marks.{wheels_of};
+ghost use Rattle.fisca_memo.specs.Slots.{slots_of};
+ghost use Rattle.fisca_memo.specs.Views.{slot_list};
+ghost use Rattle.fisca_yaml.specs.Views.{node};
+
+use crate::beginning::evaluator_of;
+use crate::kept::run_with;
+use crate::rows::RunRows;
+use crate::run_start::{RunStart, start};
+use fisca_eval::EvalFault;
+use fisca_lines::{RowSink, RunEnd, RunFault, write_lines};
+use fisca_memo::{Counts, IndexRecall};
+use fisca_rules::RuleSet;
+use fisca_run_file::RunFile;
+use fisca_yaml::Tree;
+use std::alloc::Global;
+
+/// How a run ends for which no row is worked out, if it is one: there is no position from its start on, or its limit is 0.
+fn ended_at_once(size: u64, from: u64, limit: Option<u64>) -> Option<RunEnd>
+    requires { from ≤ size }
+    ensures some { IfSome result (λ end. IsAtOnce size from limit end) }
+    ensures none { IfNone result ((from < size) × (limit ≢ Some 0)) }
+{
+    if from == size {
+        return Some(RunEnd::End);
+    }
+    match limit {
+        Some(0) => Some(RunEnd::More(from)),
+        Some(_) | None => None,
+    }
+}
+
+/// Writes the lines of a run from what it begins with.
+fn run_from<S: RowSink>(
+    alloc: Global,
+    rules: &RuleSet<'_>,
+    run: &RunFile,
+    begun: RunStart,
+    from: u64,
+    limit: Option<u64>,
+    sink: &mut S,
+) -> Result<(RunEnd, Counts), RunFault<EvalFault>>
+    requires accepted { IsRunFile rules.now (run_file_view run.now) }
+    requires situation { situation_with rules.now.tables (run_file_view run.now) (run_file_view run.now).moved ≡ Ok (situation_view begun.situation) }
+    requires slots { slot_list begun.slots.items ≡ slots_of rules.now.tables (run_file_view run.now) }
+    requires wheels { begun.wheels.items ≡ wheels_of (length rules.now.tables.variables) (slots_of rules.now.tables (run_file_view run.now)) }
+    ensures run { IsRun (run_row rules.now (run_file_view run.now)) (positions (run_file_view run.now)) from limit (S.taken sink.old) (S.taken sink.new) (end_of result) }
+    ensures bad_position { IsErrOf result RunFault.BadPosition ↔ (positions (run_file_view run.now) < from) }
+    ensures failures { CountsFailure (is_write result) (S.failures sink.old) (S.failures sink.new) }
+    ensures counts { IfOk result (λ ended. AreCounts rules.now (run_file_view run.now) from (stop_of (run_file_view run.now) ended.0) ended.1) }
+{
+    let RunStart {
+        situation,
+        slots,
+        wheels,
+    } = begun;
+    let recall = IndexRecall::new(alloc);
+    let (slots, wheels) = (slots.as_slice(), wheels.as_slice());
+    let mut evaluator = evaluator_of(alloc, rules, run, slots, wheels, situation, recall);
+    let end = run_with(alloc, rules, &mut evaluator, slots, run, from, limit, sink)?;
+    Ok((end, evaluator.counts()))
+}
+
+/// Writes the lines of a run file under a rule set into a sink: those of the positions of its grid from `from` on at which all conditions hold, in
+/// order, up to a limit of lines. A line has the number of its position, the values of the axes and those of the columns, with tabs between
+/// them, and a line feed. The tree is the one that says the file. One situation goes from position to position, and one evaluator remembers what
+/// formulas gave: a value is forgotten where an axis moves that its work reads, and else worked out once in the run. Each line is worked out
+/// whole before any of it is handed over.
+///
+/// It answers how the run ends, at the last position or where it can be continued, and counts: `free` is the number of different keys of the work
+/// at the positions of the run that read no variable of an axis, `lost` is 0, and `bound` counts the values that read one, as often as they were
+/// worked out; of `bound` the contract says nothing. Else:
+///
+/// - `BadPosition` exactly where `from` is above the number of positions.
+/// - `Eval` exactly where a condition or a column that is worked out has no value before the limit is reached: the first such position and
+///   its fault. The sink has the lines before it.
+/// - `Write` only where the sink failed in this call: it has the lines before the position, and a proper beginning of the line there.
+/// - `Memory` only where memory was refused, at the position: the sink has the lines before it.
+///
+/// This project's own rule.
+pub fn run_grid<S: RowSink>(
+    alloc: Global,
+    rules: &RuleSet<'_>,
+    tree: &Tree<'_>,
+    run: &RunFile,
+    from: u64,
+    limit: Option<u64>,
+    sink: &mut S,
+) -> Result<(RunEnd, Counts), RunFault<EvalFault>>
+    requires { IsAsked rules.now (node tree.now) (run_file_view run.now) }
+    ensures run { IsRun (run_row rules.now (run_file_view run.now)) (positions (run_file_view run.now)) from limit (S.taken sink.old) (S.taken sink.new) (end_of result) }
+    ensures bad_position { IsErrOf result RunFault.BadPosition ↔ (positions (run_file_view run.now) < from) }
+    ensures failures { CountsFailure (is_write result) (S.failures sink.old) (S.failures sink.new) }
+    ensures counts { IfOk result (λ ended. AreCounts rules.now (run_file_view run.now) from (stop_of (run_file_view run.now) ended.0) ended.1) }
+{
+    let size = run.axes.size();
+    if from > size {
+        return Err(RunFault::BadPosition);
+    }
+    if let Some(end) = ended_at_once(size, from, limit) {
+        return Ok((end, Counts::new()));
+    }
+    match start(alloc, rules, tree, run) {
+        Ok(begun) => run_from(alloc, rules, run, begun, from, limit, sink),
+        Err(_) => Err(RunFault::Memory { position: from }),
+    }
+}
+
+/// The same lines as those of [`run_grid`], and the same answers but for want of memory, where each position has a situation and an evaluator of its
+/// own, which begins with nothing: the run as it is defined, for tests. This project's own rule.
+pub fn run_anew<S: RowSink>(
+    alloc: Global,
+    rules: &RuleSet<'_>,
+    tree: &Tree<'_>,
+    run: &RunFile,
+    from: u64,
+    limit: Option<u64>,
+    sink: &mut S,
+) -> Result<RunEnd, RunFault<EvalFault>>
+    requires { IsAsked rules.now (node tree.now) (run_file_view run.now) }
+    ensures run { IsRun (run_row rules.now (run_file_view run.now)) (positions (run_file_view run.now)) from limit (S.taken sink.old) (S.taken sink.new) result }
+    ensures bad_position { IsErrOf result RunFault.BadPosition ↔ (positions (run_file_view run.now) < from) }
+    ensures failures { CountsFailure (is_write result) (S.failures sink.old) (S.failures sink.new) }
+{
+    let mut rows = RunRows {
+        alloc,
+        rules,
+        tree,
+        run,
+        members: None,
+        here: None,
+    };
+    write_lines(alloc, &mut rows, from, limit, sink)
+}

@@ -1,0 +1,136 @@
+//! The rows of a run file in one situation, whose values are kept from position to position.
+
+ghost use Rattle.std.specs.Prelude.{◌≡◌, ◌<◌, [], Some, string_bytes};
+ghost use Rattle.fisca_calc.specs.Asked.{HaveAsked};
+ghost use Rattle.fisca_eval.specs.Told.{told_in};
+ghost use Rattle.fisca_lines.specs.Row.{IsWorkedOut};
+ghost use Rattle.fisca_memo.specs.Asked.{HasRefused, HasWorked};
+ghost use Rattle.fisca_memo.specs.Evaluators.{IsMemoryOf, marks_in, simulation_of};
+ghost use Rattle.fisca_commands.specs.Asked.{keys_asked};
+ghost use Rattle.fisca_commands.specs.Kept.{IsRunFile, IsSituated};
+ghost use Rattle.fisca_commands.specs.Runs.{positions, run_row};
+ghost use Rattle.fisca_run_file.specs.Views.{run_file as run_file_view};
+
+use crate::row::{Asked, write_row};
+use crate::turning::turn_slots;
+use fisca_eval::EvalFault;
+use fisca_inputs::Given;
+use fisca_lines::{Groups, RowFault, Rows, Selection};
+use fisca_memo::{Evaluator, Recall, Slot};
+use fisca_num::Fraction;
+use fisca_rules::RuleSet;
+use fisca_run_file::RunFile;
+use std::alloc::Global;
+
+/// A run file under a rule set, and an evaluator whose situation is that of the position that was worked out last or, before there is one, that with
+/// which the run begins.
+#[derive(Drop)]
+pub(crate) struct KeptRows<'a, 'b, 'r, 't, R> {
+    /// What grows.
+    pub(crate) alloc: Global,
+    /// The rule set.
+    pub(crate) rules: &'a RuleSet<'t>,
+    /// The file.
+    pub(crate) run: &'a RunFile,
+    /// What its axes move.
+    pub(crate) slots: &'a [Slot],
+    /// What answers the values of keys.
+    pub(crate) evaluator: &'a mut Evaluator<'r, 't, R>,
+    /// The position that was worked out last.
+    pub(crate) here: Option<u64>,
+    /// What is filled at each position.
+    pub(crate) room: &'b mut Room,
+}
+
+/// Room that is taken again at each position.
+#[derive(Drop)]
+pub(crate) struct Room {
+    /// For the values of the axes.
+    steps: Vec<Fraction>,
+    /// For the inputs that the axes move.
+    moved: Vec<Given>,
+}
+
+impl Room {
+    /// None as yet.
+    pub(crate) fn new(alloc: Global) -> Room {
+        Room {
+            steps: Vec::new(alloc),
+            moved: Vec::new(alloc),
+        }
+    }
+}
+
+impl<'a, 'b, 'r, 't, R: Recall> Rows for KeptRows<'a, 'b, 'r, 't, R> {
+    ghost use Rattle.std.specs.Prelude.{◌≡◌};
+    ghost use Rattle.fisca_grid.specs.Grid.{counts_of};
+    ghost use Rattle.fisca_memo.specs.Evaluators.{marks_in, simulation_of};
+    ghost use Rattle.fisca_commands.specs.Kept.{IsKept};
+    ghost use Rattle.fisca_commands.specs.Remembered.{IsPassed, IsRefused};
+    ghost use Rattle.fisca_commands.specs.Runs.{run_row};
+    ghost use Rattle.fisca_run_file.specs.Views.{run_file as run_file_view};
+
+    type Fault = EvalFault;
+
+    ghost row_at = { λ r. run_row r.rules.now (run_file_view r.run.now) };
+
+    ghost counts = { λ r. counts_of (run_file_view r.run.now).groups };
+
+    ghost here = { λ r. r.here };
+
+    ghost worked = { λ r position s. (s.rules.now ≡ r.rules.now) × (s.run.now ≡ r.run.now) × (s.slots.now ≡ r.slots.now) × (s.evaluator.ghost_name ≡ r.evaluator.ghost_name) × IsPassed R.find r.rules.now (run_file_view r.run.now) r.evaluator.now position s.evaluator.now };
+
+    ghost refused = { λ r _ s. (s.rules.now ≡ r.rules.now) × (s.run.now ≡ r.run.now) × (s.slots.now ≡ r.slots.now) × (s.evaluator.ghost_name ≡ r.evaluator.ghost_name) × IsRefused R.find r.evaluator.now s.evaluator.now };
+
+    ghost ready = { λ r. IsKept r.rules.now (run_file_view r.run.now) r.slots.now r.here (marks_in r.evaluator.now) (simulation_of r.evaluator.now) (R.find r.evaluator.now.store.recall) r.evaluator.now.store.counts.free };
+
+    fn groups(&self) -> Groups {
+        self.run.axes.groups()
+    }
+
+    fn work_out(
+        &mut self,
+        position: u64,
+        turned: u32,
+        line: &mut String,
+    ) -> Result<Selection, RowFault<EvalFault>> {
+        self.here = Some(position);
+        let (alloc, rules, run, slots) = (self.alloc, self.rules, self.run, self.slots);
+        turn_slots(self.evaluator, &run.axes, slots, position, turned);
+        write_row_at(alloc, rules, run, self.evaluator, position, self.room, line)
+    }
+}
+
+/// Works out the row at a position, in the situation there. Nothing is worked out but the keys for which the row asks, in order, each once.
+fn write_row_at<R: Recall>(
+    alloc: Global,
+    rules: &RuleSet<'_>,
+    run: &RunFile,
+    evaluator: &mut Evaluator<'_, '_, R>,
+    position: u64,
+    room: &mut Room,
+    line: &mut String,
+) -> Result<Selection, RowFault<EvalFault>>
+    requires accepted { IsRunFile rules.now (run_file_view run.now) }
+    requires position { position < positions (run_file_view run.now) }
+    requires situated { IsSituated rules.now (run_file_view run.now) (Some position) (simulation_of evaluator.old) }
+    requires memory { IsMemoryOf (marks_in evaluator.old) (simulation_of evaluator.old) (R.find evaluator.old.store.recall) evaluator.old.store.counts.free }
+    requires line { string_bytes line.old ≡ [] }
+    ensures row { IsWorkedOut (run_row rules.now (run_file_view run.now) position) result (string_bytes line.new) }
+    ensures asked { HaveAsked (HasWorked R.find) (HasRefused R.find) (keys_asked (told_in (simulation_of evaluator.old)) (run_file_view run.now).conditions (run_file_view run.now).columns) evaluator.old evaluator.new result }
+    ensures memory { IsMemoryOf (marks_in evaluator.new) (simulation_of evaluator.new) (R.find evaluator.new.store.recall) evaluator.new.store.counts.free }
+{
+    let (steps, moved) = (&mut room.steps, &mut room.moved);
+    match run.moved_into(&rules.tables, position, steps, moved) {
+        Ok(()) => {
+            let asked = Asked {
+                position,
+                moved: room.moved.as_slice(),
+                conditions: run.conditions.as_slice(),
+                columns: run.columns.as_slice(),
+            };
+            write_row(alloc, &rules.tables, &asked, evaluator, line)
+        }
+        Err(_) => Err(RowFault::Memory),
+    }
+}

@@ -1,0 +1,15 @@
+//! What was found so far.
+
+ghost use Rattle.std.specs.Prelude.{◌≡◌};
+ghost use Rattle.fisca_rules.specs.Build.{has_person as persons_in};
+
+use fisca_tables::{Entity, Variable};
+
+/// The entities and variables so far.
+#[derive(Drop)]
+pub(crate) struct Found<'a> {
+    pub(crate) entities: Vec<Entity<'a>>,
+    pub(crate) has_person: bool,
+    pub(crate) variables: Vec<Variable<'a>>,
+    ghost persons: { has_person ≡ persons_in entities.items },
+}

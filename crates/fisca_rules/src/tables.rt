@@ -1,0 +1,36 @@
+//! The tables of a rule set.
+
+ghost use Rattle.std.specs.Prelude.{◌≡◌, map};
+ghost use Rattle.fisca_names.specs.Names.{placed_from};
+ghost use Rattle.fisca_syntax.specs.Views.{statements};
+ghost use Rattle.fisca_rules.specs.Build.{second_pass};
+ghost use Rattle.fisca_rules.specs.FoundViews.{whole};
+ghost use Rattle.fisca_names.specs.Outcomes.{Tells};
+
+use crate::constants::declared_in;
+use crate::found::Found;
+use crate::statements::whole_found;
+use fisca_names::BuildFault;
+use fisca_syntax::Module;
+use fisca_tables::{Entities, Enums, Variables};
+use std::alloc::Global;
+
+/// What modules declare: entities, Enums and variables in order, formulas as they are written. Or the first fault of the
+/// second pass, which has the modules in order, each from top to bottom: `BadAttribute` for an attribute or argument that is
+/// missing, repeated or wrong, and where the persons are missing; `UnknownName` for a name of no entity or Enum; and
+/// `Memory` where memory ran out.
+pub fn tables_found<'a>(
+    alloc: Global,
+    modules: Vec<Module<'a>>,
+) -> Result<(Entities<'a>, Enums<'a>, Variables<'a>), BuildFault>
+    ensures { Tells whole (second_pass (placed_from 0 (map statements modules.entry.items))) result }
+{
+    let declared = declared_in(alloc, modules.as_slice())?;
+    let Found {
+        entities,
+        has_person: _,
+        variables,
+    } = whole_found(alloc, &declared, modules)?;
+    let found = Entities::new(alloc, entities)?;
+    Ok((found, declared.enums, Variables::new(alloc, variables)?))
+}

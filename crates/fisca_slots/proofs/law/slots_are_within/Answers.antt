@@ -1,5 +1,0 @@
-use Rattle.fisca_slots.proofs.Within.{all_within}
-use Rattle.fisca_slots.proofs.law.slots_are_within.Goals as goal
-
-pub returns : goal.returns
-returns c tables n f read = all_within tables n f read

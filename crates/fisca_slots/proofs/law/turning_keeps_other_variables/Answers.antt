@@ -1,5 +1,0 @@
-use Rattle.fisca_slots.proofs.Turns.{turned_other}
-use Rattle.fisca_slots.proofs.law.turning_keeps_other_variables.Goals as goal
-
-pub returns : goal.returns
-returns c = turned_other

@@ -1,8 +1,0 @@
-use Rattle.fisca_rules.specs.Rules.{known_by}
-use Rattle.fisca_sources.specs.Simulations.{sources}
-use Rattle.fisca_sources.proofs.Sources.{sources_sound}
-use Rattle.fisca_sources.proofs.Values.{answers_fit}
-use Rattle.fisca_sources.proofs.law.values_are_of_their_types.Goals as goal
-
-pub returns : goal.returns
-returns c m safe given = answers_fit (known_by m.rules) (sources m) (sources_sound m safe given)

@@ -1,4 +1,0 @@
-pub mod InForce
-pub mod Simulations
-pub mod Sound
-pub mod Views

@@ -6,7 +6,6 @@ ghost use Rattle.fisca_rules.specs.Views.{rule_set};
 ghost use Rattle.fisca_eval.specs.Sound.{IsSafeRules};
 
 use crate::fault::{Fault, malformed, no_memory};
-use crate::rule_sets::rules_of;
 use crate::situations::{key_of, situation};
 use fisca_calc::{Answers, CalcFile, key_text, read_column, value_text, write_columns};
 use fisca_eval::{EvalFault, Evaluator, calc_inputs_fit};
@@ -15,26 +14,24 @@ use fisca_layer_cases::{Written, number};
 use fisca_lines::{MemorySink, RunFault};
 use fisca_memo::{Counts, IndexRecall, ListRecall, Recall};
 use fisca_num::Fraction;
-use fisca_params::SourceFile;
 use fisca_rules::RuleSet;
 use fisca_situations::Situation;
 use fisca_time::Period;
 use fisca_yaml::read;
 use std::alloc::Global;
 
-/// The answer to a case of columns: what the call of this name gives for these files and words. Those of a situation are the last two: the
+/// The answer to a case of columns: what the call of this name gives under this rule set for these words. Those of a situation are the last two: the
 /// default period, or `-` for none, and the input.
 pub fn answer(
     alloc: Global,
     operation: &str,
-    files: &[SourceFile],
+    rules: &RuleSet<'_>,
     words: &[String],
 ) -> Result<String, Fault> {
-    let rules = rules_of(alloc, files)?;
     match operation {
-        "read" => column(alloc, &rules, words),
-        "key" => key(alloc, &rules, words),
-        "value" => value(alloc, &rules, words),
+        "read" => column(alloc, rules, words),
+        "key" => key(alloc, rules, words),
+        "value" => value(alloc, rules, words),
         _ => Err(malformed()),
     }
 }
@@ -97,14 +94,15 @@ fn said(words: &[String]) -> Result<Value, Fault> {
 pub fn calc(
     alloc: Global,
     operation: &str,
-    files: &[SourceFile],
+    rules: &RuleSet<'_>,
     words: &[String],
-) -> Result<String, Fault> {
-    let rules = rules_of(alloc, files)?;
+) -> Result<String, Fault>
+    requires { IsSafeRules (rule_set rules.now) }
+{
     match words {
-        [text] if operation == "read" => file(alloc, &rules, text.as_str()),
-        [text] if operation == "values" => values(alloc, &rules, text.as_str()),
-        [text] if operation == "counts" => counts(alloc, &rules, text.as_str()),
+        [text] if operation == "read" => file(alloc, rules, text.as_str()),
+        [text] if operation == "values" => values(alloc, rules, text.as_str()),
+        [text] if operation == "counts" => counts(alloc, rules, text.as_str()),
         _ => Err(malformed()),
     }
 }

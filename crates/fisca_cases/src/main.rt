@@ -7,6 +7,9 @@
 //! Layers below rule sets are answered by `fisca_layer_cases`.
 #![tactic(auto)]
 
+ghost use Rattle.fisca_eval.specs.Sound.{IsSafeRules};
+ghost use Rattle.fisca_rules.specs.Views.{rule_set};
+
 mod columns;
 mod fault;
 mod refusals;
@@ -17,6 +20,8 @@ mod situations;
 use fault::{Fault, malformed};
 use fisca_layer_cases::{Case, two};
 use fisca_params::SourceFile;
+use fisca_rules::RuleSet;
+use rule_sets::rules_of;
 use std::alloc::{AllocError, Global};
 use std::io;
 
@@ -99,11 +104,10 @@ fn ask(
     match words {
         [] => Err(malformed()),
         [operation, rest @ ..] => match layer {
-            "rule_sets" => rule_sets::answer(alloc, operation.as_str(), files),
-            "situations" => situations::answer(alloc, operation.as_str(), files, rest),
-            "columns" => columns::answer(alloc, operation.as_str(), files, rest),
-            "calc" => columns::calc(alloc, operation.as_str(), files, rest),
-            "run" => runs::answer(alloc, operation.as_str(), files, rest),
+            "rule_sets" | "situations" | "columns" | "calc" | "run" => {
+                let rules = rules_of(alloc, files)?;
+                ask_rules(alloc, layer, operation.as_str(), &rules, rest)
+            }
             "refusals" => refusals::answer(alloc, operation.as_str(), rest),
             other => match fisca_layer_cases::answer(
                 alloc,
@@ -116,5 +120,25 @@ fn ask(
                 None => Err(malformed()),
             },
         },
+    }
+}
+
+/// What an operation of a layer answers under a rule set, which is made once for all of them: to hold one costs the prover a minute in each function.
+fn ask_rules(
+    alloc: Global,
+    layer: &str,
+    operation: &str,
+    rules: &RuleSet<'_>,
+    words: &[String],
+) -> Result<String, Fault>
+    requires { IsSafeRules (rule_set rules.now) }
+{
+    match layer {
+        "rule_sets" => rule_sets::answer(alloc, operation, rules),
+        "situations" => situations::answer(alloc, operation, rules, words),
+        "columns" => columns::answer(alloc, operation, rules, words),
+        "calc" => columns::calc(alloc, operation, rules, words),
+        "run" => runs::answer(alloc, operation, rules, words),
+        _ => Err(malformed()),
     }
 }

@@ -11,10 +11,10 @@ use fisca_rules::RuleSet;
 use fisca_syntax::{Module, read_module};
 use std::alloc::Global;
 
-/// The answer to a case of rule sets: what the call of this name gives for these files.
-pub fn answer(alloc: Global, operation: &str, files: &[SourceFile]) -> Result<String, Fault> {
+/// The answer to a case of rule sets: what the call of this name gives of this one.
+pub fn answer(alloc: Global, operation: &str, rules: &RuleSet<'_>) -> Result<String, Fault> {
     match operation {
-        "build" => build(alloc, files),
+        "build" => build(alloc, rules),
         _ => Err(malformed()),
     }
 }
@@ -44,8 +44,7 @@ pub fn rules_of<'a>(alloc: Global, files: &'a [SourceFile]) -> Result<RuleSet<'a
 }
 
 /// How many entities, variables and parameters the rule set of the files has.
-fn build(alloc: Global, files: &[SourceFile]) -> Result<String, Fault> {
-    let rules = rules_of(alloc, files)?;
+fn build(alloc: Global, rules: &RuleSet<'_>) -> Result<String, Fault> {
     let entities = rules.tables.entities.as_slice().len();
     let variables = rules.tables.variables.as_slice().len();
     let parameters = rules.tables.parameters.count();

@@ -1,9 +1,11 @@
 //! Runs: how many formulas gave values in one, and whether what is remembered changes any.
 
 ghost use Rattle.std.specs.Prelude.{◌≡◌, IfOk, None, Ok, length};
+ghost use Rattle.fisca_eval.specs.Sound.{IsSafeRules};
 ghost use Rattle.fisca_memo.specs.Evaluators.{marks_in, simulation_of};
 ghost use Rattle.fisca_commands.specs.Kept.{IsKept, IsRunFile};
 ghost use Rattle.fisca_commands.specs.Runs.{IsAsked};
+ghost use Rattle.fisca_rules.specs.Views.{rule_set};
 ghost use Rattle.fisca_run_file.specs.Positions.{situation_with};
 ghost use Rattle.fisca_run_file.specs.RunFiles.{run_file_of};
 ghost use Rattle.fisca_run_file.specs.Views.{run_file as run_file_view};
@@ -14,34 +16,33 @@ ghost use Rattle.fisca_memo.specs.Views.{slot_list};
 ghost use Rattle.fisca_yaml.specs.Views.{node};
 
 use crate::fault::{Fault, malformed, no_memory};
-use crate::rule_sets::rules_of;
 use fisca_commands::{RunStart, evaluator_of, run_anew, run_grid, run_with, start};
 use fisca_eval::EvalFault;
 use fisca_layer_cases::{Written, limit, number, three};
 use fisca_lines::{MemorySink, RunEnd, RunFault};
 use fisca_memo::{Counts, Evaluator, ListRecall, Recall, Slot};
-use fisca_params::SourceFile;
 use fisca_rules::RuleSet;
 use fisca_run_file::RunFile;
 use fisca_yaml::{Tree, read};
 use std::alloc::Global;
 
-/// The answer to a case of runs: what the call of this name gives for these files and the words `FROM ROWS TEXT` of a run file, where `-` stands for
+/// The answer to a case of runs: what the call of this name gives under this rule set and the words `FROM ROWS TEXT` of a run file, where `-` stands for
 /// no limit.
 pub fn answer(
     alloc: Global,
     operation: &str,
-    files: &[SourceFile],
+    rules: &RuleSet<'_>,
     words: &[String],
-) -> Result<String, Fault> {
+) -> Result<String, Fault>
+    requires { IsSafeRules (rule_set rules.now) }
+{
     let (from, rows, text) = three(words)?;
     let (from, rows) = (number(from)?, limit(rows)?);
-    let rules = rules_of(alloc, files)?;
     let tree = read(alloc, text)?;
-    let run = read_run(alloc, &rules, &tree)?;
+    let run = read_run(alloc, rules, &tree)?;
     match operation {
-        "anew" => anew(alloc, &rules, &tree, &run, from, rows),
-        "counts" => counts(alloc, &rules, &tree, &run, from, rows),
+        "anew" => anew(alloc, rules, &tree, &run, from, rows),
+        "counts" => counts(alloc, rules, &tree, &run, from, rows),
         _ => Err(malformed()),
     }
 }

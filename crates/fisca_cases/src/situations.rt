@@ -1,31 +1,28 @@
 //! Situations.
 
 use crate::fault::{Fault, malformed};
-use crate::rule_sets::rules_of;
 use fisca_inputs::{Key, Value};
 use fisca_layer_cases::{Written, number, two};
 use fisca_members::Home;
 use fisca_num::Fraction;
-use fisca_params::SourceFile;
 use fisca_rules::RuleSet;
 use fisca_situations::Situation;
 use fisca_time::Period;
 use fisca_yaml::read;
 use std::alloc::Global;
 
-/// The answer to a case of situations: what the call of this name gives for these files and words, of which the last two are the default
+/// The answer to a case of situations: what the call of this name gives under this rule set for these words, of which the last two are the default
 /// period, or `-` for none, and the input.
 pub fn answer(
     alloc: Global,
     operation: &str,
-    files: &[SourceFile],
+    rules: &RuleSet<'_>,
     words: &[String],
 ) -> Result<String, Fault> {
-    let rules = rules_of(alloc, files)?;
     match operation {
-        "members" => members(alloc, &rules, words),
-        "input" => input(alloc, &rules, words),
-        "neutralized" => neutralized(alloc, &rules, words),
+        "members" => members(alloc, rules, words),
+        "input" => input(alloc, rules, words),
+        "neutralized" => neutralized(alloc, rules, words),
         _ => Err(malformed()),
     }
 }

@@ -6,8 +6,8 @@ use Rattle.std.specs.Result.{result_ok}
 use Rattle.fisca_inputs.specs.Entries.{key}
 use Rattle.fisca_inputs.specs.declared.key.Key.{Key}
 use Rattle.fisca_meaning.specs.Questions.{fits, key_period}
-use Rattle.fisca_members.specs.Lookup.{count_at}
-use Rattle.fisca_members.specs.declared.entity_members.EntityMembers.{EntityMembers}
+use Rattle.fisca_rosters.specs.Lookup.{count_at}
+use Rattle.fisca_rosters.specs.declared.entity_members.EntityMembers.{EntityMembers}
 use Rattle.fisca_time.specs.Period.{Span, is_period}
 use Rattle.fisca_time.specs.PeriodText.{period_of_text, text_of as period_text}
 use Rattle.fisca_time.specs.declared.unit.Unit.{Unit}

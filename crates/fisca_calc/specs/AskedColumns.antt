@@ -3,8 +3,8 @@ use Rattle.std.specs.Prelude.{◌≡◌, ℕ, ◌<◌, ◌^◌, IsTrue, List, tr
 use Rattle.std.specs.Fmt.{decimal}
 use Rattle.fisca_inputs.specs.declared.key.Key.{Key}
 use Rattle.fisca_meaning.specs.Questions.{fits, key_period}
-use Rattle.fisca_members.specs.Lookup.{count_at}
-use Rattle.fisca_members.specs.declared.entity_members.EntityMembers.{EntityMembers}
+use Rattle.fisca_rosters.specs.Lookup.{count_at}
+use Rattle.fisca_rosters.specs.declared.entity_members.EntityMembers.{EntityMembers}
 use Rattle.fisca_time.specs.Period.{is_period}
 use Rattle.fisca_time.specs.PeriodText.{text_of as period_text}
 use Rattle.fisca_typing.specs.Tables.{Tables, Variable, variable_named}

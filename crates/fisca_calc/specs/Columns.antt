@@ -4,8 +4,8 @@ use Rattle.std.specs.Result.{result_ok}
 use Rattle.fisca_inputs.specs.Entries.{key}
 use Rattle.fisca_inputs.specs.declared.key.Key.{Key}
 use Rattle.fisca_meaning.specs.Questions.{fits, is_eternity, key_period}
-use Rattle.fisca_members.specs.Lookup.{count_at}
-use Rattle.fisca_members.specs.declared.entity_members.EntityMembers.{EntityMembers}
+use Rattle.fisca_rosters.specs.Lookup.{count_at}
+use Rattle.fisca_rosters.specs.declared.entity_members.EntityMembers.{EntityMembers}
 use Rattle.fisca_time.specs.Period.{Span, eternity}
 use Rattle.fisca_time.specs.PeriodText.{period_of_text}
 use Rattle.fisca_time.specs.declared.unit.Unit.{Unit}

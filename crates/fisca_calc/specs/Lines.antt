@@ -6,7 +6,7 @@ use Rattle.fisca_lines.specs.declared.fault.RowFault.{RowFault}
 use Rattle.fisca_lines.specs.declared.fault.RowFault.TheVariants as fault
 use Rattle.fisca_inputs.specs.declared.given.Value.{Value}
 use Rattle.fisca_inputs.specs.declared.key.Key.{Key}
-use Rattle.fisca_members.specs.declared.entity_members.EntityMembers.{EntityMembers}
+use Rattle.fisca_rosters.specs.declared.entity_members.EntityMembers.{EntityMembers}
 use Rattle.fisca_typing.specs.Tables.{Tables}
 
 -- a value, or why there is none; want of memory says nothing of it

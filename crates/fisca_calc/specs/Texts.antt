@@ -4,8 +4,8 @@ use Rattle.std.specs.Option.{unwrap_or}
 use Rattle.fisca_inputs.specs.declared.given.Value.{Value}
 use Rattle.fisca_inputs.specs.declared.given.Value.TheVariants as v
 use Rattle.fisca_inputs.specs.declared.key.Key.{Key}
-use Rattle.fisca_members.specs.Lookup.{name_at}
-use Rattle.fisca_members.specs.declared.entity_members.EntityMembers.{EntityMembers}
+use Rattle.fisca_rosters.specs.Lookup.{name_at}
+use Rattle.fisca_rosters.specs.declared.entity_members.EntityMembers.{EntityMembers}
 use Rattle.fisca_num.specs.Text.{text_of as number_text}
 use Rattle.fisca_time.specs.PeriodText.{text_of as period_text}
 use Rattle.fisca_typing.specs.Tables.{Tables, Variable, members_at}

@@ -13,7 +13,7 @@ pub trait Answers {
     ghost use Rattle.fisca_calc.specs.Lines.{IsAnswer};
     ghost use Rattle.fisca_inputs.specs.declared.given.Value.{Value};
     ghost use Rattle.fisca_inputs.specs.declared.key.Key.{Key};
-    ghost use Rattle.fisca_members.specs.declared.entity_members.EntityMembers.{EntityMembers};
+    ghost use Rattle.fisca_rosters.specs.declared.entity_members.EntityMembers.{EntityMembers};
     ghost use Rattle.fisca_situations.specs.Views.{situation as situation_view};
 
     /// The type of the faults of keys.

@@ -5,7 +5,7 @@ ghost use Rattle.fisca_calc.specs.AskedColumns.{IsAsked, column_text};
 ghost use Rattle.fisca_calc.specs.Columns.{column_of};
 ghost use Rattle.fisca_calc.specs.Written.{IsWritten, Parts, parts_of};
 ghost use Rattle.fisca_inputs.specs.declared.key.Key.{Key};
-ghost use Rattle.fisca_members.specs.declared.entity_members.EntityMembers.{EntityMembers};
+ghost use Rattle.fisca_rosters.specs.declared.entity_members.EntityMembers.{EntityMembers};
 ghost use Rattle.fisca_time.specs.Period.{Span};
 ghost use Rattle.fisca_typing.specs.Tables.{Tables, Variable};
 

@@ -19,7 +19,7 @@ use std::marker::{Brand, PhantomData};
 /// The members that stay the same while columns are worked out.
 trait Names {
     ghost use Rattle.std.specs.Prelude.{List};
-    ghost use Rattle.fisca_members.specs.declared.entity_members.EntityMembers.{EntityMembers};
+    ghost use Rattle.fisca_rosters.specs.declared.entity_members.EntityMembers.{EntityMembers};
 
     ghost members: { List EntityMembers };
 }

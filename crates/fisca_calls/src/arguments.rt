@@ -85,17 +85,16 @@ pub fn positions_of<'a, 't>(mut arguments: Vec<Settled<'a, 't>>) -> Positions<'a
 }
 
 /// One argument, and nothing else; or `BadType`.
-pub fn single<'a, 't>(arguments: Vec<Settled<'a, 't>>) -> Result<Settled<'a, 't>, Kind>
+pub fn single<'a, 't>(mut arguments: Vec<Settled<'a, 't>>) -> Result<Settled<'a, 't>, Kind>
     ensures { Gives settled_of (single_of (all_settled arguments.entry.items)) result }
 {
-    let mut items = arguments.into_iter();
-    let Some(first) = items.next() else {
-        return Err(Kind::BadType);
-    };
-    if items.next().is_some() {
+    if arguments.len() != 1 {
         return Err(Kind::BadType);
     }
-    Ok(first)
+    match arguments.pop() {
+        Some(only) => Ok(only),
+        None => unreachable!(),
+    }
 }
 
 /// One argument by position, and nothing else; or `BadType`.
@@ -111,41 +110,39 @@ pub fn alone<'a, 't>(positions: Positions<'a, 't>) -> Result<Settled<'a, 't>, Ki
 
 /// Two arguments, and nothing else; or `BadType`.
 pub fn pair<'a, 't>(
-    arguments: Vec<Settled<'a, 't>>,
+    mut arguments: Vec<Settled<'a, 't>>,
 ) -> Result<(Settled<'a, 't>, Settled<'a, 't>), Kind>
     ensures { Gives (λ p. (settled_of p.0, settled_of p.1)) (pair_of (all_settled arguments.entry.items)) result }
 {
-    let mut items = arguments.into_iter();
-    let Some(first) = items.next() else {
-        return Err(Kind::BadType);
-    };
-    let Some(second) = items.next() else {
-        return Err(Kind::BadType);
-    };
-    if items.next().is_some() {
+    if arguments.len() != 2 {
         return Err(Kind::BadType);
     }
+    let Some(second) = arguments.pop() else {
+        unreachable!();
+    };
+    let Some(first) = arguments.pop() else {
+        unreachable!();
+    };
     Ok((first, second))
 }
 
 /// Three arguments, and nothing else; or `BadType`.
 pub fn triple<'a, 't>(
-    arguments: Vec<Settled<'a, 't>>,
+    mut arguments: Vec<Settled<'a, 't>>,
 ) -> Result<(Settled<'a, 't>, Settled<'a, 't>, Settled<'a, 't>), Kind>
     ensures { Gives (λ p. (settled_of p.0, settled_of p.1, settled_of p.2)) (triple_of (all_settled arguments.entry.items)) result }
 {
-    let mut items = arguments.into_iter();
-    let Some(first) = items.next() else {
-        return Err(Kind::BadType);
-    };
-    let Some(second) = items.next() else {
-        return Err(Kind::BadType);
-    };
-    let Some(third) = items.next() else {
-        return Err(Kind::BadType);
-    };
-    if items.next().is_some() {
+    if arguments.len() != 3 {
         return Err(Kind::BadType);
     }
+    let Some(third) = arguments.pop() else {
+        unreachable!();
+    };
+    let Some(second) = arguments.pop() else {
+        unreachable!();
+    };
+    let Some(first) = arguments.pop() else {
+        unreachable!();
+    };
     Ok((first, second, third))
 }

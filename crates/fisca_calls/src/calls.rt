@@ -248,18 +248,12 @@ pub fn offset_of(moves: Vec<Move>, positions: Positions) -> Result<Thing, Kind>
     let Positions::ByPosition(arguments) = positions else {
         return Err(Kind::BadType);
     };
-    let mut items = arguments.into_iter();
-    let Some(count) = items.next() else {
-        return Err(Kind::BadType);
-    };
-    let Some(unit) = items.next() else {
-        return offset_by(moves, count.tree);
-    };
-    if items.next().is_some() {
-        return Err(Kind::BadType);
+    match arguments.as_slice() {
+        [] => Err(Kind::BadType),
+        [count] => offset_by(moves, count.tree),
+        [count, unit] => offset_by_unit(moves, count.tree, text_of(&unit.thing)?),
+        [_, _, _, ..] => Err(Kind::BadType),
     }
-    let name = text_of(&unit.thing)?;
-    offset_by_unit(moves, count.tree, name)
 }
 
 /// `parameters(period)` or `parameters(period.start)`, or `BadType`.

@@ -15,7 +15,7 @@ use Rattle.fisca_inputs.specs.Seen.{value_seen}
 use Rattle.fisca_inputs.specs.Typed.{DefaultsTyped, GivensTyped, IsValueOf, is_typed}
 use Rattle.fisca_inputs.specs.declared.given.Given.{Given}
 use Rattle.fisca_inputs.specs.declared.given.Value.{Value}
-use Rattle.fisca_members.specs.Lookup.{counts_of}
+use Rattle.fisca_rosters.specs.Lookup.{counts_of}
 use Rattle.fisca_num.specs.Number.{Number}
 use Rattle.fisca_rules.specs.Rules.{known_by}
 use Rattle.fisca_rules.specs.Safety.{DefaultsFit}

@@ -12,8 +12,8 @@ use Rattle.fisca_inputs.specs.Typed.{GivensTyped, IsValueOf, is_typed}
 use Rattle.fisca_inputs.specs.declared.given.Given.{Given}
 use Rattle.fisca_meaning.specs.Dialogues as meaning
 use Rattle.fisca_meaning.specs.Questions.{variable_type}
-use Rattle.fisca_members.specs.Lookup.{count_at}
-use Rattle.fisca_members.specs.declared.entity_members.EntityMembers.{EntityMembers}
+use Rattle.fisca_rosters.specs.Lookup.{count_at}
+use Rattle.fisca_rosters.specs.declared.entity_members.EntityMembers.{EntityMembers}
 use Rattle.fisca_num.specs.Number.{Number}
 use Rattle.fisca_commands.proofs.Givens.{known_type}
 use Rattle.fisca_run_file.specs.Moved.{has_numbers, if_numbers, moved_at, moved_by, moved_of, moved_or_fault, period_moved, put_all_in, put_in, variable_moved, with_moved}

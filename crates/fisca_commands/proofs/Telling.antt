@@ -6,7 +6,7 @@ use Rattle.fisca_eval.specs.declared.fault.EvalFault.{EvalFault}
 use Rattle.fisca_answers.specs.Inquiry.{Fault}
 use Rattle.fisca_inputs.specs.Seen.{key_of, key_seen}
 use Rattle.fisca_inputs.specs.declared.key.Key.{Key}
-use Rattle.fisca_members.specs.declared.entity_members.EntityMembers.{EntityMembers}
+use Rattle.fisca_rosters.specs.declared.entity_members.EntityMembers.{EntityMembers}
 use Rattle.fisca_rules.specs.declared.rule_set.RuleSet.{RuleSet}
 use Rattle.fisca_tables.specs.Known.{tables as known}
 use Rattle.fisca_commands.specs.Calc.{RefusesText}

@@ -14,7 +14,7 @@ use Rattle.fisca_lines.specs.declared.fault.RunEnd.{RunEnd}
 use Rattle.fisca_lines.specs.declared.fault.RunEnd.TheVariants.{End}
 use Rattle.fisca_lines.specs.declared.fault.RunFault.{RunFault}
 use Rattle.fisca_lines.specs.declared.fault.RunFault.TheVariants as run
-use Rattle.fisca_members.specs.declared.entity_members.EntityMembers.{EntityMembers}
+use Rattle.fisca_rosters.specs.declared.entity_members.EntityMembers.{EntityMembers}
 use Rattle.fisca_params.specs.Source.{Source}
 use Rattle.fisca_rules.specs.Views.{rule_set}
 use Rattle.fisca_rules.specs.declared.rule_set.RuleSet.{RuleSet}

@@ -4,7 +4,7 @@ use Rattle.fisca_calc.specs.Texts.{key_text}
 use Rattle.fisca_eval.specs.Faults.{told}
 use Rattle.fisca_eval.specs.declared.fault.EvalFault.{EvalFault}
 use Rattle.fisca_inputs.specs.Seen.{key_of}
-use Rattle.fisca_members.specs.declared.entity_members.EntityMembers.{EntityMembers}
+use Rattle.fisca_rosters.specs.declared.entity_members.EntityMembers.{EntityMembers}
 use Rattle.fisca_rule_files.specs.declared.refusal.Unanswered.{Unanswered}
 use Rattle.fisca_rules.specs.declared.rule_set.RuleSet.{RuleSet}
 use Rattle.fisca_tables.specs.Known.{tables as known}

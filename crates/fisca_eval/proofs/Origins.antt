@@ -7,7 +7,7 @@ use Rattle.fisca_inputs.specs.Rules.{default_of}
 use Rattle.fisca_inputs.specs.Seen.{key_of, value_seen}
 use Rattle.fisca_inputs.specs.declared.given.Value.{Value as Input}
 use Rattle.fisca_meaning.specs.Dialogues.{Key}
-use Rattle.fisca_members.specs.Grouped.{grouped}
+use Rattle.fisca_rosters.specs.Grouped.{grouped}
 use Rattle.fisca_typing.specs.Formulas.{Formula}
 use Rattle.fisca_variables.specs.VariableForms.{Written}
 use Rattle.fisca_inputs.specs.Inputs.{is_marked}

@@ -14,7 +14,7 @@ use Rattle.fisca_meaning.specs.Meaning.{formula_means}
 use Rattle.fisca_meaning.specs.Questions.{Groups, Point, fits, type_in, variable_type}
 use Rattle.fisca_meaning.specs.Safe.{IsSafe}
 use Rattle.fisca_meaning.specs.Wellformed.{before_cast}
-use Rattle.fisca_members.specs.Grouped.{grouped}
+use Rattle.fisca_rosters.specs.Grouped.{grouped}
 use Rattle.fisca_rules.specs.Rules.{Dated, known_by, known_variable}
 use Rattle.fisca_rules.specs.Safety.{IsNeverStuck, AllNeverStuck, EachNeverStuck, AreUncomputed, AllDefaultsFit, is_default}
 use Rattle.fisca_tables.specs.KnownVariables.{value_type}

@@ -10,7 +10,7 @@ use Rattle.fisca_inputs.specs.declared.given.Value.{Value as Input}
 use Rattle.fisca_meaning.specs.Dialogues.{Key, Dialogue, ◌>>=◌}
 use Rattle.fisca_meaning.specs.Meaning.{formula_means}
 use Rattle.fisca_meaning.specs.Questions.{Groups, Point, fits, key_period}
-use Rattle.fisca_members.specs.Grouped.{grouped}
+use Rattle.fisca_rosters.specs.Grouped.{grouped}
 use Rattle.fisca_rules.specs.Rules.{Dated, Rules, known_by}
 use Rattle.fisca_situations.specs.Situations.{Situation}
 use Rattle.fisca_time.specs.Instant.{CivilDate}

@@ -46,20 +46,16 @@ fn list_of(alloc: Global, arguments: Vec<Given>) -> Result<Thing, Kind>
 }
 
 /// What stands alone in brackets, or `BadType`.
-fn only(arguments: Vec<Given>) -> Result<Thing, Kind>
+fn only(mut arguments: Vec<Given>) -> Result<Thing, Kind>
     ensures { Gives thing_of (spec.only (all_given arguments.entry.items)) result }
 {
-    let mut items = arguments.into_iter();
-    let Some(first) = items.next() else {
+    let [Given { keyword: None, .. }] = arguments.as_slice() else {
         return Err(Kind::BadType);
     };
-    if items.next().is_some() {
-        return Err(Kind::BadType);
+    match arguments.pop() {
+        Some(given) => given.thing,
+        None => unreachable!(),
     }
-    if first.keyword.is_some() {
-        return Err(Kind::BadType);
-    }
-    first.thing
 }
 
 /// What an expression in brackets stands for: parentheses group, square brackets make a list; no formula has maps.

@@ -59,7 +59,10 @@ fn method_by(
                 settled_positions(alloc, arguments)?,
             )
         }
-        Method::Count => count_by(alloc, names.entity, settled_positions(alloc, arguments)?),
+        Method::Count => {
+            let positions = settled_positions(alloc, arguments)?;
+            count_by(alloc, names.entity, &positions)
+        }
     }
 }
 

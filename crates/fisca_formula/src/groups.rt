@@ -52,20 +52,17 @@ fn counted(alloc: Global, role: Option<RolePlace>) -> Result<Thing, Kind>
 }
 
 /// `nb_persons()` or `nb_persons(role)`, or `BadType`.
-pub fn count_by(alloc: Global, entity: usize, positions: Positions) -> Result<Thing, Kind>
-    ensures { Gives thing_of (spec.count_by entity (positions_view positions.entry)) result }
+pub fn count_by(alloc: Global, entity: usize, positions: &Positions) -> Result<Thing, Kind>
+    ensures { Gives thing_of (spec.count_by entity (positions_view positions.now)) result }
 {
     let Positions::ByPosition(arguments) = positions else {
         return Err(Kind::BadType);
     };
-    let mut items = arguments.into_iter();
-    let Some(only) = items.next() else {
-        return counted(alloc, None);
-    };
-    if items.next().is_some() {
-        return Err(Kind::BadType);
+    match arguments.as_slice() {
+        [] => counted(alloc, None),
+        [only] => counted(alloc, role_in(entity, &only.thing)?),
+        [_, _, ..] => Err(Kind::BadType),
     }
-    counted(alloc, role_in(entity, &only.thing)?)
 }
 
 /// Whether a total is taken of values of a type.
@@ -92,16 +89,14 @@ fn gives(total: Total) -> ValueType
 type GivenRole<'t> = Option<(&'t [u8], Thing)>;
 
 /// The role behind `role`, if one is given; or `BadType`.
-fn role_given(entity: usize, role: GivenRole) -> Result<Option<RolePlace>, Kind>
-    ensures { Gives (λ r. r) (role_view entity role.entry) result }
+fn role_given(entity: usize, role: &GivenRole) -> Result<Option<RolePlace>, Kind>
+    ensures { Gives (λ r. r) (role_view entity role.now) result }
 {
-    let Some((keyword, thing)) = role else {
-        return Ok(None);
-    };
-    if keyword != b"role".as_slice() {
-        return Err(Kind::BadType);
+    match role {
+        None => Ok(None),
+        Some((keyword, thing)) if *keyword == b"role".as_slice() => role_in(entity, thing),
+        Some(_) => Err(Kind::BadType),
     }
-    role_in(entity, &thing)
 }
 
 /// A total of values of the persons, or of those with a role: `BadType` for the values, else the role's fault, else
@@ -111,9 +106,9 @@ fn total_of(
     entity: usize,
     total: Total,
     thing: Thing,
-    role: GivenRole,
+    role: &GivenRole,
 ) -> Result<Thing, Kind>
-    ensures { Gives thing_of (spec.total_of total (thing_of thing) (role_view entity role.entry)) result }
+    ensures { Gives thing_of (spec.total_of total (thing_of thing) (role_view entity role.now)) result }
 {
     let value = value_of(thing)?;
     if !takes(total, value.value_type) {
@@ -143,11 +138,11 @@ pub fn total_by(
     match positions {
         Positions::ByPosition(arguments) => {
             let values = single(arguments)?;
-            total_of(alloc, entity, total, values.thing, None)
+            total_of(alloc, entity, total, values.thing, &None)
         }
         Positions::AndKeyword(arguments, keyword, thing) => {
             let values = single(arguments)?;
-            total_of(alloc, entity, total, values.thing, Some((keyword, thing)))
+            total_of(alloc, entity, total, values.thing, &Some((keyword, thing)))
         }
         Positions::MoreKeywords => Err(Kind::BadType),
     }

@@ -1,5 +1,6 @@
 pub mod Anew
 pub mod Beside
+pub mod Days
 pub mod First
 pub mod Givens
 pub mod Looked

@@ -6,6 +6,7 @@ pub mod Inputs
 pub mod KeyHashes
 pub mod Order
 pub mod Outcomes
+pub mod Overlaps
 pub mod Ranks
 pub mod Rules
 pub mod Seen

@@ -2,6 +2,7 @@
 //! defaults were given beside other members' inputs.
 #![tactic(auto)]
 
+mod across;
 mod defaults;
 mod fault;
 mod given;
@@ -14,6 +15,7 @@ mod periods;
 mod share;
 mod sharing;
 
+pub use across::{meets, overlaps};
 pub use fault::{SituationFault, SituationKind};
 pub use given::{Given, GivenInputs, Value};
 pub use hasher::KeyHasher;

@@ -1,5 +1,5 @@
 -- What formulas are worked out over: the tables of a rule set, and how a situation groups its persons.
-use Rattle.fisca_members.specs.Grouped.{grouped}
+use Rattle.fisca_rosters.specs.Grouped.{grouped}
 use Rattle.fisca_meaning.specs.Questions.{Groups}
 use Rattle.fisca_tables.specs.Known as known
 use Rattle.fisca_typing.specs.Tables.{Tables}

@@ -3,7 +3,7 @@
 ghost use Rattle.std.specs.Prelude.{◌≡◌, ◌∷◌, ◌<◌, ◌+◌, IfOk, IfErr, OnOk, option_map, length};
 ghost use Rattle.fisca_meaning.specs.Meaning.{chosen};
 ghost use Rattle.fisca_meaning.specs.Questions.{counted as counts};
-ghost use Rattle.fisca_members.specs.Grouped.{grouped};
+ghost use Rattle.fisca_rosters.specs.Grouped.{grouped};
 ghost use Rattle.fisca_values.specs.Persons.{persons_from};
 ghost use Rattle.fisca_values.specs.Ended.{IsMoving, ended};
 ghost use Rattle.fisca_machine.specs.Running.{before, rest, waiting, resume, Told, saying, says_below, point, applied, top};

@@ -10,8 +10,8 @@ use Rattle.fisca_members.specs.declared.fault.Kind.{Kind as FaultKind}
 use Rattle.fisca_members.specs.declared.fault.Kind.TheVariants as kind
 use Rattle.fisca_members.specs.declared.fault.MembersFault.{MembersFault}
 use Rattle.fisca_members.specs.Faults.{fault_at}
-use Rattle.fisca_members.specs.declared.entity_members.EntityMembers.{EntityMembers}
-use Rattle.fisca_members.specs.declared.home.Home.{Home}
+use Rattle.fisca_rosters.specs.declared.entity_members.EntityMembers.{EntityMembers}
+use Rattle.fisca_rosters.specs.declared.home.Home.{Home}
 use Rattle.fisca_members.specs.declared.person.Person.{Person}
 use Rattle.fisca_members.specs.Groups.{with_group, with_own}
 use Rattle.fisca_members.specs.Members.{members_in, members_of}

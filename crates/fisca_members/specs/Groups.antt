@@ -6,10 +6,11 @@ use Rattle.fisca_params.specs.Results.{and_then}
 use Rattle.fisca_typing.specs.declared.asking.RolePlace.{RolePlace}
 use Rattle.fisca_typing.specs.Tables.{Role, most, place_in, subrole_of, whole_role}
 use Rattle.fisca_yaml.specs.Node.{Node, null, scalar, list, map, Items, no_items, item, Entries, no_entries, entry}
+use Rattle.fisca_rosters.specs.Homes.{held_by, is_held}
 use Rattle.fisca_members.specs.declared.fault.Kind.TheVariants as kind
-use Rattle.fisca_members.specs.declared.entity_members.EntityMembers.{EntityMembers}
+use Rattle.fisca_rosters.specs.declared.entity_members.EntityMembers.{EntityMembers}
 use Rattle.fisca_members.specs.declared.fault.MembersFault.{MembersFault}
-use Rattle.fisca_members.specs.declared.home.Home.{Home}
+use Rattle.fisca_rosters.specs.declared.home.Home.{Home}
 use Rattle.fisca_members.specs.declared.person.Person.{Person}
 use Rattle.fisca_members.specs.Faults.{bad_value, entries_at, fault_at}
 use Rattle.fisca_members.specs.Persons.{person_named, room}
@@ -43,17 +44,6 @@ is_full None count = false
 is_full (Some n) count = nat_le n count
 
 -- Persons of a role
-
-abbrev pub is_home : Option (Option Home) → Bool
-is_home None = false
-is_home (Some home) = is_some home
-
--- a group of the kind holds this person
-abbrev pub is_held : List (Option Home) → ℕ → Bool
-is_held hs p = is_home (slice_get hs p)
-
-abbrev pub held_by : List (Option Home) → ℕ → Home → List (Option Home)
-held_by hs p home = set hs p (Some home)
 
 abbrev pub home_of : Post → ℕ → Home
 home_of post count = record { group = post.group; role = taken post.place post.role count }

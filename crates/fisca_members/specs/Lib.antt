@@ -1,10 +1,7 @@
 pub mod Faults
-pub mod Grouped
 pub mod Groups
-pub mod Lookup
 pub mod Members
 pub mod Outcomes
 pub mod Persons
-pub mod Rosters
 pub mod Sections
 pub mod Views

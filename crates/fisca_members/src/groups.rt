@@ -7,15 +7,14 @@ ghost use Rattle.fisca_members.specs.Groups as spec;
 ghost use Rattle.fisca_members.specs.Outcomes.{Leaves};
 ghost use Rattle.fisca_members.specs.Views.{section as section_view};
 
-use crate::entity_members::EntityMembers;
 use crate::fault::MembersFault;
 use crate::holders::{Post, role_given};
-use crate::home::Homes;
 use crate::person::Persons;
 use crate::persons::room;
 use crate::role_table::RoleTable;
 use crate::section::Section;
 use crate::shapes::entries_at;
+use fisca_rosters::{EntityMembers, Homes};
 use fisca_tables::Role;
 use fisca_yaml::{Entry, Tree};
 use std::alloc::Global;

@@ -7,10 +7,10 @@ ghost use Rattle.fisca_members.specs.Outcomes.{Leaves};
 ghost use Rattle.fisca_members.specs.Views.{post as post_view};
 
 use crate::fault::{Kind, MembersFault};
-use crate::home::{Home, Homes};
 use crate::person::Persons;
 use crate::role_table::taken;
 use crate::shapes::bad_value;
+use fisca_rosters::{Home, Homes};
 use fisca_tables::Role;
 use fisca_yaml::{Item, Tree};
 

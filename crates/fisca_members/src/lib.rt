@@ -1,26 +1,22 @@
 //! The members of a situation: its persons, the groups that hold them and in which roles, as an input names them.
 #![tactic(auto)]
 
-mod entity_members;
 mod fault;
 mod few;
 mod groups;
 mod holders;
-mod home;
 mod members;
 mod own;
 mod person;
 mod persons;
 mod role_table;
-mod roster;
 mod section;
 mod sections;
 mod shapes;
 mod titles;
 
-pub use entity_members::{EntityMembers, MemberNames};
 pub use fault::{Kind, MembersFault};
-pub use home::{Home, Homes};
+pub use fisca_rosters::{EntityMembers, Home, Homes, MemberNames};
 pub use members::{Members, members_in, members_of};
 pub use person::{Person, Persons};
 pub use role_table::RoleTable;

@@ -4,11 +4,10 @@ ghost use Rattle.std.specs.Prelude.{◌≡◌};
 ghost use Rattle.fisca_members.specs.Groups as spec;
 ghost use Rattle.fisca_members.specs.Outcomes.{Leaves};
 
-use crate::entity_members::EntityMembers;
 use crate::fault::MembersFault;
-use crate::home::Home;
 use crate::person::Person;
 use crate::persons::room;
+use fisca_rosters::{EntityMembers, Home};
 use fisca_typing::RolePlace;
 use std::alloc::Global;
 

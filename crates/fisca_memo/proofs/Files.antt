@@ -14,8 +14,8 @@ use Rattle.fisca_inputs.specs.Rules.{rule_of}
 use Rattle.fisca_inputs.specs.declared.fault.SituationFault.{SituationFault}
 use Rattle.fisca_inputs.specs.declared.given.Given.{Given}
 use Rattle.fisca_inputs.specs.declared.key.Key.{Key}
-use Rattle.fisca_members.specs.Lookup.{counts_of}
-use Rattle.fisca_members.specs.declared.entity_members.EntityMembers.{EntityMembers}
+use Rattle.fisca_rosters.specs.Lookup.{counts_of}
+use Rattle.fisca_rosters.specs.declared.entity_members.EntityMembers.{EntityMembers}
 use Rattle.fisca_params.specs.Results.{and_then}
 use Rattle.fisca_memo.specs.Readings.{input_read}
 use Rattle.fisca_run_file.specs.Conditions.{conditions_in}

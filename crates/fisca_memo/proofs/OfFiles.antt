@@ -13,7 +13,7 @@ use Rattle.fisca_inputs.specs.Rules.{Rule, rule_of}
 use Rattle.fisca_inputs.specs.declared.given.Given.{Given}
 use Rattle.fisca_inputs.specs.declared.key.Key.{Key}
 use Rattle.fisca_meaning.specs.Questions.{fits, key_period}
-use Rattle.fisca_members.specs.Lookup.{counts_of as member_counts}
+use Rattle.fisca_rosters.specs.Lookup.{counts_of as member_counts}
 use Rattle.fisca_num.specs.Number.{Number}
 use Rattle.fisca_params.specs.Results.{and_then}
 use Rattle.fisca_run_file.specs.Moved.{put_all_in}

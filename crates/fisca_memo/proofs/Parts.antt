@@ -20,7 +20,7 @@ use Rattle.fisca_memo.proofs.Months.{month_before, month_no_later, months_end}
 use Rattle.fisca_memo.proofs.Placed.{Apart, across}
 use Rattle.fisca_memo.proofs.Shared.{CanShare, Disjoint, Each, Pairwise}
 use Rattle.fisca_memo.proofs.Steps.{CanPart, most_parts}
-use Rattle.fisca_run_file.specs.Overlaps.{shares_day, starts_before}
+use Rattle.fisca_inputs.specs.Overlaps.{shares_day, starts_before}
 use Rattle.fisca_time.specs.Calendar.{first_day, end_day}
 use Rattle.fisca_time.specs.Instant.{is_between}
 use Rattle.fisca_time.specs.Period.{Span, eternity, months, days, is_period, is_within, is_eternal, unit_of, first_of, size_of, start_day, stop_day, month_start, days_of, day_at, month_at, year_at, subs, span_cmp}

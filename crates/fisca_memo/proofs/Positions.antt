@@ -23,8 +23,8 @@ use Rattle.fisca_inputs.specs.declared.fault.SituationKind.TheVariants as situat
 use Rattle.fisca_inputs.specs.declared.given.Given.{Given}
 use Rattle.fisca_inputs.specs.declared.key.Key.{Key}
 use Rattle.fisca_meaning.specs.Questions.{is_eternity, key_period}
-use Rattle.fisca_members.specs.Lookup.{count_at, counts_of}
-use Rattle.fisca_members.specs.declared.entity_members.EntityMembers.{EntityMembers}
+use Rattle.fisca_rosters.specs.Lookup.{count_at, counts_of}
+use Rattle.fisca_rosters.specs.declared.entity_members.EntityMembers.{EntityMembers}
 use Rattle.fisca_num.specs.Number.{Number, trunc_of}
 use Rattle.fisca_params.specs.Results.{and_then}
 use Rattle.fisca_memo.proofs.Both.{Moving, here}

@@ -14,7 +14,7 @@ use Rattle.fisca_inputs.specs.Sharing.{own_key, parts_of}
 use Rattle.fisca_inputs.specs.declared.given.Given.{Given}
 use Rattle.fisca_inputs.specs.declared.key.Key.{Key}
 use Rattle.fisca_meaning.specs.Questions.{fits}
-use Rattle.fisca_run_file.specs.Overlaps.{is_across, meets, overlaps, shares_day, starts_before}
+use Rattle.fisca_inputs.specs.Overlaps.{is_across, meets, overlaps, shares_day, starts_before}
 use Rattle.fisca_memo.proofs.Both.{Moving, keys_of}
 use Rattle.fisca_memo.proofs.Months.{month_before}
 use Rattle.fisca_memo.proofs.Parts.{both_equal, key_parts, part_key}

@@ -14,7 +14,7 @@ use Rattle.fisca_meaning.specs.Questions.{is_eternity}
 use Rattle.fisca_num.specs.Number.{Number}
 use Rattle.fisca_num.specs.declared.faults.NumFault.{NumFault}
 use Rattle.fisca_run_file.specs.Moved.{put_all_in}
-use Rattle.fisca_run_file.specs.Overlaps.{shares_day}
+use Rattle.fisca_inputs.specs.Overlaps.{shares_day}
 use Rattle.fisca_memo.proofs.Anew.{Agrees, Anew, IsEven, Stands, set, share_for}
 use Rattle.fisca_memo.proofs.AnewAll.{AllThere, IsFit, Still, There, inputs_again}
 use Rattle.fisca_memo.proofs.Both.{Moving, here, keys_of}

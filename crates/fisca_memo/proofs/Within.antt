@@ -16,8 +16,8 @@ use Rattle.fisca_grid.specs.declared.axes.AxisSpec.{AxisSpec}
 use Rattle.fisca_inputs.proofs.Typed.{then_ok}
 use Rattle.fisca_inputs.specs.Inputs.{is_marked}
 use Rattle.fisca_inputs.specs.declared.given.Given.{Given}
-use Rattle.fisca_members.specs.Lookup.{count_at}
-use Rattle.fisca_members.specs.declared.entity_members.EntityMembers.{EntityMembers}
+use Rattle.fisca_rosters.specs.Lookup.{count_at}
+use Rattle.fisca_rosters.specs.declared.entity_members.EntityMembers.{EntityMembers}
 use Rattle.fisca_num.specs.Number.{zero_number}
 use Rattle.fisca_run_file.specs.Grids.{specs_of}
 use Rattle.fisca_run_file.specs.Moved.{moved_at, moved_by, moved_of, moved_or_fault, period_moved, variable_moved, with_moved}

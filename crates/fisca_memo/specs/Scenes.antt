@@ -13,7 +13,7 @@ use Rattle.fisca_inputs.specs.declared.key.Key.{Key}
 use Rattle.fisca_machine.specs.World.{groups, tables}
 use Rattle.fisca_meaning.specs.Dialogues as meaning
 use Rattle.fisca_meaning.specs.Dialogues.{Dialogue, Value}
-use Rattle.fisca_members.specs.Grouped.{grouped}
+use Rattle.fisca_rosters.specs.Grouped.{grouped}
 use Rattle.fisca_memo.specs.declared.known.Known.{Known}
 use Rattle.fisca_rules.specs.Rules.{known_by}
 use Rattle.fisca_eval.specs.Simulations as simulations

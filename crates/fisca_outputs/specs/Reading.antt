@@ -4,9 +4,9 @@ use Rattle.std.specs.Str.{bytes_eq}
 use Rattle.fisca_calc.specs.Columns.{period_at}
 use Rattle.fisca_inputs.specs.declared.given.Value.{Value}
 use Rattle.fisca_members.specs.Groups.{role_named}
-use Rattle.fisca_members.specs.Lookup.{count_at}
+use Rattle.fisca_rosters.specs.Lookup.{count_at}
 use Rattle.fisca_members.specs.Sections.{Input, one_person, sections, Section, input_of, titles_of}
-use Rattle.fisca_members.specs.declared.entity_members.EntityMembers.{EntityMembers}
+use Rattle.fisca_rosters.specs.declared.entity_members.EntityMembers.{EntityMembers}
 use Rattle.fisca_members.specs.declared.titles.Titles.{Titles}
 use Rattle.fisca_params.specs.Results.{and_then}
 use Rattle.fisca_situations.specs.Values.{said}

@@ -1,5 +1,4 @@
 pub mod Counted
-pub mod Days
 pub mod Lefts
 pub mod Puts
 pub mod Spaces

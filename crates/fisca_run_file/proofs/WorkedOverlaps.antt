@@ -9,7 +9,7 @@ use Rattle.fisca_num.specs.Number.{zero_number, one_number}
 use Rattle.fisca_time.specs.Period.{Span, eternity, months}
 use Rattle.fisca_time.specs.declared.unit.Unit.TheVariants as unit
 use Rattle.fisca_run_file.specs.Moved.{apart_from, put_all_in}
-use Rattle.fisca_run_file.specs.Overlaps.{overlaps, shares_day}
+use Rattle.fisca_inputs.specs.Overlaps.{overlaps, shares_day}
 
 abbrev january : Span
 january = months unit.Month (12 * 2017) 1

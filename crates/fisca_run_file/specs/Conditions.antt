@@ -15,7 +15,7 @@ use Rattle.fisca_inputs.specs.declared.given.Value.{Value}
 use Rattle.fisca_inputs.specs.declared.given.Value.TheVariants as v
 use Rattle.fisca_inputs.specs.declared.key.Key.{Key}
 use Rattle.fisca_meaning.specs.Questions.{variable_type}
-use Rattle.fisca_members.specs.declared.entity_members.EntityMembers.{EntityMembers}
+use Rattle.fisca_rosters.specs.declared.entity_members.EntityMembers.{EntityMembers}
 use Rattle.fisca_params.specs.Results.{and_then}
 use Rattle.fisca_tables.specs.Known.{tables as known}
 use Rattle.fisca_tables.specs.declared.tables.Tables.{Tables}

@@ -3,7 +3,6 @@ pub mod Grids
 pub mod Keys
 pub mod Moved
 pub mod Neutral
-pub mod Overlaps
 pub mod Positions
 pub mod RunFiles
 pub mod SaidAxes

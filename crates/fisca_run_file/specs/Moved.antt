@@ -12,8 +12,8 @@ use Rattle.fisca_inputs.specs.declared.given.Given.{Given}
 use Rattle.fisca_inputs.specs.declared.given.Value.TheVariants.{Number}
 use Rattle.fisca_inputs.specs.declared.key.Key.{Key}
 use Rattle.fisca_meaning.specs.Questions.{is_eternity, key_period}
-use Rattle.fisca_members.specs.Lookup.{count_at, counts_of}
-use Rattle.fisca_members.specs.declared.entity_members.EntityMembers.{EntityMembers}
+use Rattle.fisca_rosters.specs.Lookup.{count_at, counts_of}
+use Rattle.fisca_rosters.specs.declared.entity_members.EntityMembers.{EntityMembers}
 use Rattle.fisca_num.specs.Number.{zero_number}
 use Rattle.fisca_params.specs.Results.{and_then}
 use Rattle.fisca_situations.specs.Reading.{variable_of}
@@ -23,7 +23,7 @@ use Rattle.fisca_tables.specs.declared.variable.DeclaredType.TheVariants as type
 use Rattle.fisca_tables.specs.declared.variable.Variable.{Variable}
 use Rattle.fisca_time.specs.Period.{Span, eternity}
 use Rattle.fisca_typing.specs.Tables.{otherwise}
-use Rattle.fisca_run_file.specs.Overlaps.{meets, overlaps}
+use Rattle.fisca_inputs.specs.Overlaps.{meets, overlaps}
 use Rattle.fisca_run_file.specs.SaidAxes.{SaidAxis}
 
 -- What an axis moves

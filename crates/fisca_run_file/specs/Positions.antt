@@ -11,7 +11,7 @@ use Rattle.fisca_inputs.specs.Rules.{rule_of}
 use Rattle.fisca_inputs.specs.declared.fault.SituationFault.{SituationFault}
 use Rattle.fisca_inputs.specs.declared.given.Given.{Given}
 use Rattle.fisca_inputs.specs.declared.given.Value.TheVariants as value
-use Rattle.fisca_members.specs.Lookup.{counts_of}
+use Rattle.fisca_rosters.specs.Lookup.{counts_of}
 use Rattle.fisca_num.specs.Number.{Number, trunc_of, whole_number}
 use Rattle.fisca_params.specs.Results.{and_then}
 use Rattle.fisca_situations.specs.Situations.{Situation}

@@ -1,7 +1,6 @@
 //! Files of `fisca run`: a situation, the axes that move some of its inputs, columns, and the conditions of a filter.
 #![tactic(auto)]
 
-mod across;
 mod condition;
 mod conditions;
 mod file;
@@ -18,9 +17,9 @@ mod said_axis;
 mod setting;
 mod sharing;
 
-pub use across::overlaps;
 pub use condition::{Condition, read_condition};
 pub use conditions::Conditions;
 pub use file::RunFile;
+pub use fisca_inputs::overlaps;
 pub use moved::MovedInputs;
 pub use positions::cut_for;

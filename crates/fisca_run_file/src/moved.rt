@@ -7,11 +7,10 @@ ghost use Rattle.fisca_run_file.specs.Views.{said_axis as said_axis_view, said_l
 ghost use Rattle.fisca_situations.specs.Reading as naming;
 ghost use Rattle.fisca_situations.specs.Views.{situation as situation_view};
 
-use crate::across::{meets, overlaps};
 use crate::said_axis::SaidAxis;
 use fisca_calc::{RunFileFault, RunFileKind};
 use fisca_grid::AxesFault;
-use fisca_inputs::{Given, Value, key_period, takes};
+use fisca_inputs::{Given, Value, key_period, meets, overlaps, takes};
 use fisca_num::Fraction;
 use fisca_situations::Situation;
 use fisca_tables::{DeclaredType, Tables, Variable};

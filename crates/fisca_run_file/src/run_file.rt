@@ -2,19 +2,19 @@
 
 ghost use Rattle.std.specs.Prelude.{◌≡◌, length, map};
 ghost use Rattle.fisca_calc.specs.Outcomes.{Tells};
-ghost use Rattle.fisca_run_file.specs.Overlaps.{overlaps as overlaps_spec};
+ghost use Rattle.fisca_inputs.specs.Overlaps.{overlaps as overlaps_spec};
 ghost use Rattle.fisca_run_file.specs.RunFiles as spec;
 ghost use Rattle.fisca_run_file.specs.Views.{movement as movement_view, run_file as run_file_view, setting as setting_view};
 ghost use Rattle.fisca_situations.specs.Views.{situation as situation_view};
 ghost use Rattle.fisca_yaml.specs.Views.{node};
 
-use crate::across::overlaps;
 use crate::conditions::conditions_in;
 use crate::file::{Movement, RunFile};
 use crate::keys::check_file;
 use crate::movement::movement_in;
 use crate::setting::{Setting, setting_in};
 use fisca_calc::{RunFileFault, columns_in};
+use fisca_inputs::overlaps;
 use fisca_situations::Situation;
 use fisca_tables::Tables;
 use fisca_time::Period;

@@ -5,7 +5,7 @@ ghost use Rattle.fisca_calc.specs.Faults.{told};
 ghost use Rattle.fisca_calc.specs.Outcomes.{Tells};
 ghost use Rattle.fisca_inputs.specs.Inputs.{inputs_of};
 ghost use Rattle.fisca_inputs.specs.Rules.{rule_of};
-ghost use Rattle.fisca_members.specs.Lookup.{counts_of};
+ghost use Rattle.fisca_rosters.specs.Lookup.{counts_of};
 ghost use Rattle.fisca_run_file.specs.RunFiles as spec;
 ghost use Rattle.fisca_run_file.specs.Views.{setting as setting_view};
 ghost use Rattle.fisca_situations.specs.Situations.{reading_of as reading_spec};

@@ -20,7 +20,7 @@ use Rattle.fisca_inputs.specs.declared.key.Key.{Key}
 use Rattle.fisca_meaning.specs.Questions.{is_eternity, key_period, type_in, variable_type}
 use Rattle.fisca_members.specs.Faults.{entries_in}
 use Rattle.fisca_members.specs.Groups.{role_named}
-use Rattle.fisca_members.specs.Lookup.{counts_of}
+use Rattle.fisca_rosters.specs.Lookup.{counts_of}
 use Rattle.fisca_members.specs.Members.{members_in}
 use Rattle.fisca_members.specs.Persons.{most_members}
 use Rattle.fisca_members.specs.Sections.{Input, one_person, sections, Section, input_of, titles_of}

@@ -7,11 +7,11 @@ use Rattle.fisca_inputs.specs.Rules.{rule_of}
 use Rattle.fisca_inputs.specs.declared.fault.SituationFault.{SituationFault}
 use Rattle.fisca_inputs.specs.declared.fault.SituationKind.{SituationKind}
 use Rattle.fisca_inputs.specs.declared.fault.SituationKind.TheVariants as situation
-use Rattle.fisca_members.specs.declared.entity_members.EntityMembers.{EntityMembers}
+use Rattle.fisca_rosters.specs.declared.entity_members.EntityMembers.{EntityMembers}
 use Rattle.fisca_members.specs.declared.fault.Kind.{Kind}
 use Rattle.fisca_members.specs.declared.fault.Kind.TheVariants as members
 use Rattle.fisca_members.specs.declared.fault.MembersFault.{MembersFault}
-use Rattle.fisca_members.specs.Lookup.{counts_of}
+use Rattle.fisca_rosters.specs.Lookup.{counts_of}
 use Rattle.fisca_members.specs.Members.{members_in}
 use Rattle.fisca_members.specs.Sections.{Input, input_of, titles_of}
 use Rattle.fisca_params.specs.Results.{and_then}

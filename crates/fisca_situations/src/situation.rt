@@ -4,7 +4,7 @@ ghost use Rattle.std.specs.Prelude.{◌≡◌, option_map};
 ghost use Rattle.fisca_inputs.specs.Entries.{value_at};
 ghost use Rattle.fisca_inputs.specs.Inputs.{without_marked};
 ghost use Rattle.fisca_inputs.specs.Outcomes.{Tells};
-ghost use Rattle.fisca_members.specs.Lookup.{count_at, name_at};
+ghost use Rattle.fisca_rosters.specs.Lookup.{count_at, name_at};
 ghost use Rattle.fisca_situations.specs.Situations as spec;
 ghost use Rattle.fisca_situations.specs.Views.{situation};
 ghost use Rattle.fisca_yaml.specs.Views.{node};

@@ -3,7 +3,7 @@
 ghost use Rattle.std.specs.Prelude.{◌≡◌, [], ◌∷◌, ◌<◌, ◌≤◌, ◌^◌, Some, drop, length, MatchOption};
 ghost use Rattle.fisca_meaning.specs.Questions as asking;
 ghost use Rattle.fisca_meaning.specs.Questions.{with_role};
-ghost use Rattle.fisca_members.specs.Grouped.{grouped};
+ghost use Rattle.fisca_rosters.specs.Grouped.{grouped};
 ghost use Rattle.fisca_values.specs.Persons as spec;
 ghost use Rattle.fisca_values.specs.Persons.{first, persons_from};
 

@@ -11,7 +11,7 @@ use Rattle.fisca_inputs.specs.Entries.{key}
 use Rattle.fisca_inputs.specs.declared.given.Value.{Value}
 use Rattle.fisca_inputs.specs.declared.given.Value.TheVariants as v
 use Rattle.fisca_inputs.specs.declared.key.Key.{Key}
-use Rattle.fisca_members.specs.declared.entity_members.EntityMembers.{EntityMembers}
+use Rattle.fisca_rosters.specs.declared.entity_members.EntityMembers.{EntityMembers}
 use Rattle.fisca_num.specs.Number.{Number, ratio_of, whole_number, zero_number}
 use Rattle.fisca_num.specs.Operations.{difference_of, only_number_of, product_of}
 use Rattle.fisca_num.specs.Rational.{IsTooWide, ratio_difference, ratio_product}

@@ -5,7 +5,7 @@ use Rattle.std.specs.List.{flat_map, list_all}
 use Rattle.fisca_calc.specs.Texts.{key_text, value_text}
 use Rattle.fisca_inputs.specs.declared.given.Value.{Value}
 use Rattle.fisca_inputs.specs.declared.key.Key.{Key}
-use Rattle.fisca_members.specs.declared.entity_members.EntityMembers.{EntityMembers}
+use Rattle.fisca_rosters.specs.declared.entity_members.EntityMembers.{EntityMembers}
 use Rattle.fisca_outputs.specs.Outputs.{Output}
 use Rattle.fisca_situations.specs.Situations.{Situation}
 use Rattle.fisca_typing.specs.Tables.{Tables}

@@ -5,7 +5,7 @@ use Rattle.std.specs.Int.{is_negative}
 use Rattle.std.specs.Option.{unwrap_or}
 use Rattle.std.specs.Str.{bytes_eq}
 use Rattle.fisca_calc.specs.Calc.{are_columns as are_texts, default_in, period_in}
-use Rattle.fisca_members.specs.declared.entity_members.EntityMembers.{EntityMembers}
+use Rattle.fisca_rosters.specs.declared.entity_members.EntityMembers.{EntityMembers}
 use Rattle.fisca_num.specs.Number.{Number}
 use Rattle.fisca_outputs.specs.Outputs.{Output}
 use Rattle.fisca_outputs.specs.Reading.{outputs_of}

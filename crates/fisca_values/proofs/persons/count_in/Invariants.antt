@@ -1,7 +1,7 @@
 use Rattle.std.proofs.Common.{◌≡◌, ◌+◌, ◌≤◌, length, drop}
 use Rattle.std.specs.Prelude.{Some}
 use Rattle.fisca_meaning.specs.Questions.{with_role}
-use Rattle.fisca_members.specs.Grouped.{grouped}
+use Rattle.fisca_rosters.specs.Grouped.{grouped}
 use Rattle.fisca_values.proofs.persons.count_in.Given as goal
 
 -- those that are counted, and those that are left

@@ -1,6 +1,6 @@
 use Rattle.std.proofs.Common.{◌≡◌, ◌-◌, length, drop}
 use Rattle.fisca_meaning.specs.Questions.{with_role}
-use Rattle.fisca_members.specs.Grouped.{grouped}
+use Rattle.fisca_rosters.specs.Grouped.{grouped}
 use Rattle.fisca_values.proofs.persons.next_of.Given as goal
 
 -- of the persons before the place none has the role

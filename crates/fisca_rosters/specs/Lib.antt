@@ -1,0 +1,4 @@
+pub mod Grouped
+pub mod Homes
+pub mod Lookup
+pub mod Rosters

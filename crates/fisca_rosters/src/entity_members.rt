@@ -1,0 +1,79 @@
+//! The members of one entity.
+
+ghost use Rattle.std.specs.Prelude.{◌≡◌, ◌<◌, ◌≤◌, [], ◌∷◌, ◌++◌, length, slice_get, option_map, IfOk, OnOk};
+
+use crate::home::Homes;
+use std::alloc::{AllocError, Global};
+use std::marker::Model;
+
+/// Names of members in order, at most 1,000 of them, seen as a list.
+#[derive(Drop)]
+pub struct MemberNames {
+    items: Vec<Vec<u8>>,
+}
+
+impl Model for MemberNames {
+    ghost use Rattle.std.specs.Prelude.{◌≤◌, ℕ, List, map, length};
+
+    ghost Value = { List (List ℕ) };
+
+    ghost view = { λ n. map (λ v. v.items) n.items.items };
+
+    ghost invariant = { λ n. length n.items.items ≤ 1000 };
+}
+
+impl MemberNames {
+    /// No names.
+    pub fn new(alloc: Global) -> MemberNames
+        ensures { result ≡ [] }
+    {
+        MemberNames {
+            items: Vec::new(alloc),
+        }
+    }
+
+    /// No names, with room for so many.
+    pub fn with_capacity(alloc: Global, capacity: usize) -> Result<MemberNames, AllocError>
+        ensures { IfOk result (λ n. n ≡ []) }
+    {
+        Ok(MemberNames {
+            items: Vec::with_capacity(alloc, capacity)?,
+        })
+    }
+
+    /// One name more.
+    pub fn push(&mut self, alloc: Global, name: &[u8]) -> Result<(), AllocError>
+        requires { length self.old < 1000 }
+        ensures { OnOk result (self.new ≡ self.old ++ name.now ∷ []) }
+    {
+        let copy = name.to_vec(alloc)?;
+        self.items.push(copy).map_err(AllocError::from)
+    }
+
+    /// How many there are.
+    pub fn len(&self) -> usize
+        ensures value { result ≡ length self.now }
+        ensures most { result ≤ 1000 }
+    {
+        self.items.as_slice().len()
+    }
+
+    /// The name of the member at a place.
+    pub fn get(&self, place: usize) -> Option<&[u8]>
+        ensures { option_map (λ n. n.now) result ≡ slice_get self.now place }
+    {
+        match self.items.as_slice().get(place) {
+            Some(name) => Some(name.as_slice()),
+            None => None,
+        }
+    }
+}
+
+/// The members of one entity: their names in order and, of groups, for each person the group that holds it, where one does.
+#[derive(Drop)]
+pub struct EntityMembers {
+    /// The names.
+    pub names: MemberNames,
+    /// Where each person belongs; nowhere among persons.
+    pub homes: Homes,
+}

@@ -1,6 +1,0 @@
-use Rattle.std.proofs.Common.{◌≡◌, drop}
-use Rattle.fisca_run_file.specs.Overlaps.{meets}
-use Rattle.fisca_run_file.proofs.across.meets.Given as goal
-
-abbrev pub invariant-loop-input : goal.invariant-loop-input
-invariant-loop-input l = meets l.given l.variable l.member l.period ≡ meets (drop l.input-index l.given) l.variable l.member l.period

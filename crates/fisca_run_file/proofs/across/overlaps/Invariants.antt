@@ -1,6 +1,0 @@
-use Rattle.std.proofs.Common.{◌≡◌, drop}
-use Rattle.fisca_run_file.specs.Overlaps.{overlaps}
-use Rattle.fisca_run_file.proofs.across.overlaps.Given as goal
-
-abbrev pub invariant-loop-input : goal.invariant-loop-input
-invariant-loop-input l = overlaps l.given l.variable l.member l.period ≡ overlaps (drop l.input-index l.given) l.variable l.member l.period

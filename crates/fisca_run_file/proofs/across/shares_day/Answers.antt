@@ -1,5 +1,0 @@
-use Rattle.fisca_run_file.proofs.Days.{shares_is}
-use Rattle.fisca_run_file.proofs.across.shares_day.Goals as goal
-
-pub returns : goal.returns
-returns c = shares_is c.args.ours c.args.theirs c.overlaps.result c.overlaps.ensures

@@ -104,7 +104,7 @@ set_share ks (Ok n) es = set_keys ks (value.Number n) es
 set_share ks (Err f) es = es
 
 -- The inputs, where those of a slot are set anew. A share that is too wide sets none: no value of an axis of an accepted
--- file has one, since its inputs can be shared at each position (`positions_have_situations` of `fisca_run`).
+-- file has one, since its inputs can be shared at each position (`positions_have_situations` of `fisca_commands`).
 abbrev pub turned : Slot → Number → Entries → Entries
 turned s v es = set_share (keys_of s) (share_in s v) es
 

@@ -1,6 +1,5 @@
 -- Values by keys: a finite map, as the list of its entries.
-use Rattle.std.specs.Prelude.{ℕ, Bool, ◌==◌, ◌&&◌, nat_lt, if◌then◌else◌, List, [], ◌∷◌, ◌++◌, length, Option, None, Some, Result, Ok, Err}
-use Rattle.indexmap.specs.IndexMap.{insert_entry}
+use Rattle.std.specs.Prelude.{ℕ, Bool, ◌==◌, ◌&&◌, nat_lt, if◌then◌else◌, List, [], ◌∷◌, ◌++◌, length, Option, Result, Ok, Err}
 use Rattle.std.specs.Map.{lookup}
 use Rattle.std.specs.Option.{is_some}
 use Rattle.std.specs.Ordering.{eq_by_cmp}
@@ -37,11 +36,6 @@ put line k x es = if nat_lt (length es) limit then Ok (es ++ (k, x) ∷ []) else
 
 abbrev pub put_free : ℕ → Value → Key → Entries → Result Entries SituationFault
 put_free line x k es = if has es k then Ok es else put line k x es
-
--- a key gets back what it had, if anything
-abbrev pub restored : Key → Option Value → Entries → Entries
-restored k None es = es
-restored k (Some x) es = insert_entry same_key es k x
 
 -- each of these keys that has no value gets this one
 abbrev pub put_all : ℕ → Value → List Key → Entries → Result Entries SituationFault

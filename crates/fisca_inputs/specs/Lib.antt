@@ -3,10 +3,10 @@ pub mod Defaults
 pub mod Entries
 pub mod Faults
 pub mod Inputs
-pub mod KeyHashes
 pub mod Order
 pub mod Outcomes
 pub mod Overlaps
+pub mod Places
 pub mod Ranks
 pub mod Rules
 pub mod Seen

@@ -10,7 +10,7 @@ ghost use Rattle.fisca_inputs.specs.Rules as rules;
 
 use crate::fault::{SituationFault, SituationKind};
 use crate::given::{Given, Value};
-use crate::hasher::Numbers;
+use crate::hashed::Numbers;
 use crate::inputs::Inputs;
 use crate::key::Key;
 use crate::sharing::fault;

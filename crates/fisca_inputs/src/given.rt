@@ -5,7 +5,7 @@ ghost use Rattle.fisca_inputs.specs.Inputs.{and_given, with_key};
 ghost use Rattle.fisca_inputs.specs.Outcomes.{Becomes, Tells};
 
 use crate::fault::{SituationFault, SituationKind};
-use crate::hasher::Keys;
+use crate::hashed::Keys;
 use crate::key::Key;
 use fisca_num::Fraction;
 use fisca_time::Period;

@@ -85,7 +85,7 @@ impl Inputs {
         ensures { Becomes (entries.put_all given.now.line value.now (spec.parts_by unit given.now) self.old) self.new result }
     {
         for i in 0..count {
-            self.put_part(given.line, *value, part_at(given, unit, i))?;
+            self.put_free(given.line, *value, part_at(given, unit, i))?;
         }
         Ok(())
     }

@@ -2,7 +2,7 @@
 -- hashes that do.
 use Rattle.std.specs.Prelude.{ℕ, ◌+◌, ◌*◌, ◌/◌, ◌%◌, List, [], ◌∷◌}
 use Rattle.std.specs.Int.{from_le_bytes, w32, w64}
-use Rattle.fisca_inputs.specs.declared.hasher.KeyHasher.{KeyHasher}
+use Rattle.fisca_hashes.specs.declared.hasher.KeyHasher.{KeyHasher}
 
 abbrev pub multiplier : ℕ
 multiplier = 0x9e37_79b9_7f4a_7c15

@@ -1,17 +1,9 @@
 //! The hash of keys.
 
 ghost use Rattle.std.specs.Prelude.{◌≡◌, ◌<◌};
-ghost use Rattle.fisca_inputs.specs.KeyHashes.{tagged, word};
+ghost use Rattle.fisca_hashes.specs.KeyHashes.{tagged, word};
 
-use crate::key::Key;
-use indexmap::{IndexMap, IndexSet};
-use std::hash::{BuildHasherDefault, Hasher};
-
-/// Keys, each once, found by their hashes.
-pub(crate) type Keys = IndexSet<Key, BuildHasherDefault<KeyHasher>>;
-
-/// Numbers of keys, found by their hashes.
-pub(crate) type Numbers = IndexMap<Key, u32, BuildHasherDefault<KeyHasher>>;
+use std::hash::Hasher;
 
 /// The fraction of the golden ratio, by which numbers that follow one another are spread.
 const MULTIPLIER: u64 = 0x9e37_79b9_7f4a_7c15;
@@ -30,7 +22,7 @@ pub struct KeyHasher {
 }
 
 impl Default for KeyHasher {
-    ghost use Rattle.fisca_inputs.specs.KeyHashes.{initial};
+    ghost use Rattle.fisca_hashes.specs.KeyHashes.{initial};
 
     ghost is_default = { λ h. h ≡ initial };
 
@@ -40,7 +32,7 @@ impl Default for KeyHasher {
 }
 
 impl Hasher for KeyHasher {
-    ghost use Rattle.fisca_inputs.specs.KeyHashes as spec;
+    ghost use Rattle.fisca_hashes.specs.KeyHashes as spec;
 
     ghost write = { spec.write };
 

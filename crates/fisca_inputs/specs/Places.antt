@@ -1,0 +1,43 @@
+-- Where the values of keys stand: for each variable and period numbers of members, in pages of 64, which are not 0 where a member has a value.
+use Rattle.std.specs.Global.{Global}
+use Rattle.std.specs.Prelude.{◌≡◌, ℕ, ◌<◌, ◌/◌, ◌%◌, Vec, true, List, Option, Some, None, slice_get}
+use Rattle.std.specs.List.{IsDistinct}
+use Rattle.std.specs.Map.{keys_of, lookup}
+use Rattle.std.specs.Option.{unwrap_or}
+use Rattle.fisca_inputs.specs.Entries.{Entries, has, key, same_key}
+use Rattle.fisca_inputs.specs.declared.given.Value.{Value}
+use Rattle.fisca_inputs.specs.declared.key.Key.{Key}
+
+-- the number at a place; 0 past the last
+abbrev pub number_at : List ℕ → ℕ → ℕ
+number_at numbers m = unwrap_or (slice_get numbers m) 0
+
+abbrev pub Pages : Type 0
+Pages = List (Key × Vec ℕ Global)
+
+abbrev pub number_in : Option (Vec ℕ Global) → ℕ → ℕ
+number_in None m = 0
+number_in (Some v) m = number_at v.items m
+
+-- 64 members of one variable and period have a page
+abbrev pub page_key : Key → Key
+page_key k = key k.variable (k.member / 64) k.period
+
+-- the number of a key
+abbrev pub number_of : Pages → Key → ℕ
+number_of pages k = number_in (lookup (same_key (page_key k)) pages) (k.member % 64)
+
+-- each key that has a value has a number
+abbrev pub AreNoted : Pages → Entries → Type 0
+AreNoted pages es = (k : Key) → has es k ≡ true → 0 < number_of pages k
+
+-- no key stands twice
+abbrev pub AreOnce : Entries → Type 0
+AreOnce es = IsDistinct same_key (keys_of es)
+
+-- the key's entry stands at this place
+pub record StandsAt (es : Entries) (k : Key) (place : ℕ) : Type 0 where
+  pub own : Key
+  pub value : Value
+  pub there : slice_get es place ≡ Some (own, value)
+  pub same : same_key k own ≡ true

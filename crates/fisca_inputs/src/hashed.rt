@@ -1,0 +1,15 @@
+//! What is found by the hashes of keys.
+
+use crate::key::Key;
+use fisca_hashes::KeyHasher;
+use indexmap::{IndexMap, IndexSet};
+use std::hash::BuildHasherDefault;
+
+/// Keys, each once.
+pub(crate) type Keys = IndexSet<Key, BuildHasherDefault<KeyHasher>>;
+
+/// A number of each key.
+pub(crate) type Numbers = IndexMap<Key, u32, BuildHasherDefault<KeyHasher>>;
+
+/// Numbers of keys, those of 64 members of one variable and period together.
+pub(crate) type Pages = IndexMap<Key, Vec<u32>, BuildHasherDefault<KeyHasher>>;

@@ -11,7 +11,8 @@ ghost use Rattle.fisca_commands.specs.Kept.{IsRunFile, IsSituated};
 ghost use Rattle.fisca_commands.specs.Runs.{positions, run_row};
 ghost use Rattle.fisca_run_file.specs.Views.{run_file as run_file_view};
 
-use crate::row::{Asked, write_row};
+use crate::conditions::all_met;
+use crate::row::{Asked, write_line};
 use crate::turning::turn_slots;
 use fisca_eval::EvalFault;
 use fisca_inputs::Given;
@@ -101,7 +102,8 @@ impl<'a, 'b, 'r, 't, R: Recall> Rows for KeptRows<'a, 'b, 'r, 't, R> {
     }
 }
 
-/// Works out the row at a position, in the situation there. Nothing is worked out but the keys for which the row asks, in order, each once.
+/// Works out the row at a position, in the situation there. Nothing is worked out but the keys for which the row asks, in order, each once, and the
+/// values of the axes where all conditions hold.
 fn write_row_at<R: Recall>(
     alloc: Global,
     rules: &RuleSet<'_>,
@@ -120,6 +122,9 @@ fn write_row_at<R: Recall>(
     ensures asked { HaveAsked (HasWorked R.find) (HasRefused R.find) (keys_asked (told_in (simulation_of evaluator.old)) (run_file_view run.now).conditions (run_file_view run.now).columns) evaluator.old evaluator.new result }
     ensures memory { IsMemoryOf (marks_in evaluator.new) (simulation_of evaluator.new) (R.find evaluator.new.store.recall) evaluator.new.store.counts.free }
 {
+    if !all_met(evaluator, run.conditions.as_slice())? {
+        return Ok(Selection::Dropped);
+    }
     let (steps, moved) = (&mut room.steps, &mut room.moved);
     match run.moved_into(&rules.tables, position, steps, moved) {
         Ok(()) => {
@@ -129,7 +134,7 @@ fn write_row_at<R: Recall>(
                 conditions: run.conditions.as_slice(),
                 columns: run.columns.as_slice(),
             };
-            write_row(alloc, &rules.tables, &asked, evaluator, line)
+            write_line(alloc, &rules.tables, &asked, evaluator, line)
         }
         Err(_) => Err(RowFault::Memory),
     }

@@ -30,8 +30,8 @@ pub struct Asked<'a> {
     pub columns: &'a [Key],
 }
 
-/// Appends the whole line of a position to an empty line.
-fn write_line<A: Answers>(
+/// Appends the whole line of a position to an empty line. Of the conditions nothing is asked.
+pub(crate) fn write_line<A: Answers>(
     alloc: Global,
     tables: &Tables<'_>,
     asked: &Asked<'_>,

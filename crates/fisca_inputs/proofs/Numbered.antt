@@ -1,13 +1,14 @@
 -- Entries at the places that numbers tell.
-use Rattle.std.proofs.Common.{◌≡◌, ◌<◌, ℕ, zero, suc, Bool, true, false, cond, List, [], ◌∷◌, ◌++◌, length, Option, Some, None, is_some, slice_get, slice_set, slice_index_or, refl, sym, ap, subst, ◌∙◌, if◌then◌else◌, ◌||◌}
+use Rattle.std.proofs.Common.{◌≡◌, ◌<◌, ◌≤◌, ◌+◌, ◌-◌, arith, ℕ, zero, suc, Bool, true, false, cond, List, [], ◌∷◌, ◌++◌, length, Option, Some, None, ⊎_elim, is_some, slice_get, slice_set, slice_index_or, refl, sym, ap, subst, ◌∙◌, if◌then◌else◌, ◌||◌}
 use Rattle.std.specs.Prelude.{Vec, filter, ◌==◌, ◌&&◌, ◌/◌, ◌%◌}
 use Rattle.std.specs.Global.{Global}
 use Rattle.std.specs.List.{AllByRecursion, IsDistinct, list_any}
 use Rattle.std.specs.Map.{keys_of, lookup, set_value}
 use Rattle.std.specs.Ordering.{eq_by_cmp}
-use Rattle.std.proofs.lemmas.Bool.{and_parts, eqb-true, false≢true}
+use Rattle.std.proofs.lemmas.Bool.{and_parts, cases_lt, eq-eqb, eqb-true, false≢true, or_parts}
+use Rattle.std.proofs.lemmas.List.Sums.{count_by-le-length, length-filter}
 use Rattle.std.proofs.lemmas.Map.{keys-set_value, lookup-set_value}
-use Rattle.std.proofs.lemmas.Map.Entries.{lookup-filter-keys}
+use Rattle.std.proofs.lemmas.Map.Entries.{length-keys_of, lookup-filter-keys}
 use Rattle.std.proofs.lemmas.Map.Keys.{IsDistinct-head, IsDistinct-push, IsDistinct-tail}
 use Rattle.std.proofs.lemmas.Map.Made.{IsDistinct-keys_filter}
 use Rattle.std.proofs.lemmas.Option.{slice_get-get_or}
@@ -16,7 +17,7 @@ use Rattle.fisca_typing.specs.Tables.{otherwise}
 use Rattle.fisca_inputs.specs.contracts.key.KeyEq.TheImpl.Laws.{laws-law}
 use Rattle.fisca_inputs.specs.Anew.{set_keys}
 use Rattle.fisca_inputs.specs.Entries.{Entries, has, same_key, value_at}
-use Rattle.fisca_inputs.specs.Places.{AreNoted, AreOnce, Pages, StandsAt, number_at, number_in, number_of, page_key}
+use Rattle.fisca_inputs.specs.Places.{AreNumbered, AreOnce, Pages, StandsAt, number_at, number_in, number_of, numbered_from, page_key}
 use Rattle.fisca_inputs.specs.declared.given.Value.{Value}
 use Rattle.fisca_inputs.specs.declared.key.Key.{Key}
 use Rattle.fisca_inputs.proofs.Anew.{set_nowhere, set_once}
@@ -108,8 +109,8 @@ module _ (es : Entries) (k : Key) (x : Value) (i : ℕ) (e : Key × Value) (once
   pub set_keeps_once : AreOnce (slice_set es i (e.0, x))
   set_keeps_once = subst (IsDistinct same_key) (sym same_keys) once
 
-  pub set_keeps_noted : (pages : Pages) → AreNoted pages es → AreNoted pages (slice_set es i (e.0, x))
-  set_keeps_noted pages noted q there = noted q (sym (same_has (slice_set es i (e.0, x)) es same_keys q) ∙ there)
+  pub set_keeps_numbers : (pages : Pages) → AreNumbered pages es → AreNumbered pages (slice_set es i (e.0, x))
+  set_keeps_numbers pages numbered q = numbered q ∙ ap (λ ks. numbered_from 1 ks q) (sym same_keys)
 
 none_of : {X : Type 0} (o : Option X) → is_some o ≡ false → o ≡ None
 none_of None h = refl
@@ -117,6 +118,75 @@ none_of (Some x) h = cc
 
 pub set_absent : (es : Entries) (k : Key) (x : Value) → has es k ≡ false → es ≡ set_keys (k ∷ []) x es
 set_absent es k x none = sym (set_nowhere k x es (none_of (value_at es k) none))
+
+-- The number of a key
+
+pub no_number : (n : ℕ) (ks : List Key) (k : Key) → list_any (same_key k) ks ≡ false → numbered_from n ks k ≡ 0
+no_number n [] k none = refl
+no_number n (q ∷ ks) k none = by (same_key k q) none (no_number (suc n) ks k)
+  where
+    by : (b : Bool) → (b || list_any (same_key k) ks) ≡ false → (list_any (same_key k) ks ≡ false → numbered_from (suc n) ks k ≡ 0) → (if b then n else numbered_from (suc n) ks k) ≡ 0
+    by true h rest = absurd (false≢true (sym h))
+    by false h rest = rest h
+
+pub some_number : (n : ℕ) (ks : List Key) (k : Key) → list_any (same_key k) ks ≡ true → n < numbered_from (suc n) ks k
+some_number n [] k there = absurd (false≢true there)
+some_number n (q ∷ ks) k there = by (same_key k q) there (some_number (suc n) ks k)
+  where
+    by : (b : Bool) → (b || list_any (same_key k) ks) ≡ true → (list_any (same_key k) ks ≡ true → suc n < numbered_from (suc (suc n)) ks k)
+        → n < (if b then suc n else numbered_from (suc (suc n)) ks k)
+    by true h rest = omega arith
+    by false h rest = omega (arith, rest h)
+
+pub number_within : (n : ℕ) (ks : List Key) (k : Key) → numbered_from (suc n) ks k ≤ n + length ks
+number_within n [] k = omega arith
+number_within n (q ∷ ks) k = by (same_key k q) (number_within (suc n) ks k)
+  where
+    by : (b : Bool) → numbered_from (suc (suc n)) ks k ≤ suc n + length ks → (if b then suc n else numbered_from (suc (suc n)) ks k) ≤ n + suc (length ks)
+    by true rest = omega arith
+    by false rest = omega (arith, rest)
+
+-- one key more
+pub numbered_behind : (n : ℕ) (ks : List Key) (own k : Key) → list_any (same_key own) ks ≡ false
+    → numbered_from (suc n) (ks ++ own ∷ []) k ≡ (if same_key k own then suc (n + length ks) else numbered_from (suc n) ks k)
+numbered_behind n [] own k free = ap (λ m. if same_key k own then suc m else 0) (omega arith)
+numbered_behind n (q ∷ ks) own k free = by (same_key k q) refl (numbered_behind (suc n) ks own k (or_parts (same_key own q) (list_any (same_key own) ks) free).1)
+  where
+    apart : (b : Bool) → same_key k own ≡ b → same_key k q ≡ true → same_key k own ≡ false
+    apart true e same = absurd (false≢true (sym (or_parts (same_key own q) (list_any (same_key own) ks) free).0 ∙ (sym (laws-law.congr k own q e) ∙ same)))
+    apart false e same = e
+
+    by : (b : Bool) → same_key k q ≡ b
+        → numbered_from (suc (suc n)) (ks ++ own ∷ []) k ≡ (if same_key k own then suc (suc n + length ks) else numbered_from (suc (suc n)) ks k)
+        → (if b then suc n else numbered_from (suc (suc n)) (ks ++ own ∷ []) k) ≡ (if same_key k own then suc (n + suc (length ks)) else (if b then suc n else numbered_from (suc (suc n)) ks k))
+    by true same later = ap (λ b. if b then suc (n + suc (length ks)) else suc n) (sym (apart (same_key k own) refl same))
+    by false other later = later ∙ ap (λ m. if same_key k own then suc m else numbered_from (suc (suc n)) ks k) (omega arith)
+
+-- by its number a key is found
+pub numbered_stands : (n : ℕ) (es : Entries) (k : Key) → has es k ≡ true → (i : ℕ) × (numbered_from n (keys_of es) k ≡ n + i) × StandsAt es k i
+numbered_stands n [] k there = absurd (false≢true there)
+numbered_stands n (e ∷ es) k there = by (same_key k e.0) refl there (numbered_stands (suc n) es k)
+  where
+    by : (b : Bool) → same_key k e.0 ≡ b → is_some (cond b (Some e.1) (value_at es k)) ≡ true
+        → (has es k ≡ true → (i : ℕ) × (numbered_from (suc n) (keys_of es) k ≡ suc n + i) × StandsAt es k i)
+        → (i : ℕ) × ((if b then n else numbered_from (suc n) (keys_of es) k) ≡ n + i) × StandsAt (e ∷ es) k i
+    by true same h rest = (0, omega arith, record { own = e.0; value = e.1; there = refl; same = same })
+    by false other h rest =
+        let later = rest h in
+        let s = later.2 in
+        (suc later.0, omega (arith, later.1), record { own = s.own; value = s.value; there = s.there; same = s.same })
+
+-- and an entry has the number of its place
+pub stands_numbered : (n : ℕ) (es : Entries) (k : Key) (i : ℕ) (own : Key) (value : Value) → AreOnce es → slice_get es i ≡ Some (own, value) → same_key k own ≡ true
+    → numbered_from n (keys_of es) k ≡ n + i
+stands_numbered n [] k i own value once there same = cc
+stands_numbered n (e ∷ es) k zero own value once there same =
+    let own_entry : e ≡ (own, value) = cc in
+    ap (λ (x : Key × Value). if same_key k x.0 then n else numbered_from (suc n) (keys_of es) k) own_entry
+    ∙ (ap (λ b. if b then n else numbered_from (suc n) (keys_of es) k) same ∙ omega arith)
+stands_numbered n (e ∷ es) k (suc i) own value once there same =
+    ap (λ b. if b then n else numbered_from (suc n) (keys_of es) k) (not_first k own value e es i once there same)
+    ∙ (stands_numbered (suc n) es k i own value (IsDistinct-tail same_key e.0 (keys_of es) once) there same ∙ omega arith)
 
 -- One entry more
 
@@ -129,61 +199,86 @@ module _ (es new : Entries) (key : Key) (x : Value) (free : has es key ≡ false
   behind_once once =
       subst (IsDistinct same_key) (sym (ap keys_of is ∙ keys_behind es key x)) (IsDistinct-push laws-law (keys_of es) key once (sym (has_keys es key) ∙ free))
 
-  pub behind_noted : (old pages : Pages) → AreNoted old es → ((k : Key) → same_key k key ≡ true → 0 < number_of pages k) → ((k : Key) → 0 < number_of old k → 0 < number_of pages k) → AreNoted pages new
-  behind_noted old pages noted there kept k some = by (has es k) refl (same_key k key) refl
+  pub behind_numbered : (old pages : Pages) (number : ℕ) → number ≡ suc (length es) → AreNumbered old es
+      → ((k : Key) → number_of pages k ≡ (if same_key k key then number else number_of old k)) → AreNumbered pages new
+  behind_numbered old pages number next numbered put k = put k ∙ by (same_key k key) ∙ sym found
     where
-      found : has new k ≡ is_some (otherwise (value_at es k) (cond (same_key k key) (Some x) None))
-      found = ap (λ fs. has fs k) is ∙ ap is_some (lookup-behind (same_key k) es ((key, x) ∷ []))
+      found : numbered_from 1 (keys_of new) k ≡ (if same_key k key then suc (0 + length (keys_of es)) else numbered_from 1 (keys_of es) k)
+      found = ap (λ fs. numbered_from 1 (keys_of fs) k) is ∙ ap (λ ks. numbered_from 1 ks k) (keys_behind es key x)
+          ∙ numbered_behind 0 (keys_of es) key k (sym (has_keys es key) ∙ free)
 
-      neither : (a : Option Value) (b : Bool) → is_some a ≡ false → b ≡ false → is_some (otherwise a (cond b (Some x) None)) ≡ false
-      neither None true h e = cc
-      neither None false h e = refl
-      neither (Some y) b h e = cc
-
-      by : (a : Bool) → has es k ≡ a → (b : Bool) → same_key k key ≡ b → 0 < number_of pages k
-      by true a b e = kept k (noted k a)
-      by false a true e = there k e
-      by false a false e = absurd (false≢true (sym (found ∙ neither (value_at es k) (same_key k key) a e) ∙ some))
-
--- where memory is refused there is none more
-module _ (es new : Entries) (key : Key) (x : Value) (free : has es key ≡ false) where
-  pub appended_once : AreOnce es → (b : Bool) → new ≡ (if b then es ++ (key, x) ∷ [] else es) → AreOnce new
-  appended_once once true is = behind_once es new key x free is once
-  appended_once once false is = subst AreOnce (sym is) once
-
-  pub appended_noted : (old pages : Pages) → AreNoted old es → ((k : Key) → same_key k key ≡ true → 0 < number_of pages k) → ((k : Key) → 0 < number_of old k → 0 < number_of pages k)
-      → (b : Bool) → new ≡ (if b then es ++ (key, x) ∷ [] else es) → AreNoted pages new
-  appended_noted old pages noted there kept true is = behind_noted es new key x free is old pages noted there kept
-  appended_noted old pages noted there kept false is = subst (AreNoted pages) (sym is) (λ k some. kept k (noted k some))
+      by : (b : Bool) → (if b then number else number_of old k) ≡ (if b then suc (0 + length (keys_of es)) else numbered_from 1 (keys_of es) k)
+      by true = omega (arith, next, length-keys_of es)
+      by false = numbered k
 
 -- The entries and the numbers of some variables are taken out
 
-variable_of : (q k : Key) → same_key q k ≡ true → q.variable ≡ k.variable
-variable_of q k same = eqb-true q.variable k.variable (and_parts (q.variable == k.variable) ((q.member == k.member) && eq_by_cmp span_cmp q.period k.period) same).0
+pub key_parts : (q k : Key) → same_key q k ≡ true → (q.variable ≡ k.variable) × (q.member ≡ k.member) × (eq_by_cmp span_cmp q.period k.period ≡ true)
+key_parts q k h =
+    let one = and_parts (q.variable == k.variable) ((q.member == k.member) && eq_by_cmp span_cmp q.period k.period) h in
+    let two = and_parts (q.member == k.member) (eq_by_cmp span_cmp q.period k.period) one.1 in
+    (eqb-true q.variable k.variable one.0, eqb-true q.member k.member two.0, two.1)
+
+-- where none is taken out all stay
+all_stay : (stays : Key × Value → Bool) (es : Entries) → length es ≤ length (filter stays es) → filter stays es ≡ es
+all_stay stays [] h = refl
+all_stay stays (e ∷ es) h = by (stays e) h (all_stay stays es)
+  where
+    by : (b : Bool) → suc (length es) ≤ length (cond b (e ∷ filter stays es) (filter stays es)) → (length es ≤ length (filter stays es) → filter stays es ≡ es)
+        → cond b (e ∷ filter stays es) (filter stays es) ≡ e ∷ es
+    by true h rest = ap (λ fs. e ∷ fs) (rest (omega arith))
+    by false h rest = absurd (omega (arith, h, length-filter stays es, count_by-le-length stays es))
 
 -- whether a key is found among what stays
 left_of : {X : Type 0} (stays : ℕ → Bool) (q : Key) (es : List (Key × X)) → lookup (same_key q) (filter (λ e. stays e.0.variable) es) ≡ cond (stays q.variable) (lookup (same_key q) es) None
-left_of stays q es = lookup-filter-keys (same_key q) (λ k. stays k.variable) (stays q.variable) (λ k same. ap stays (sym (variable_of q k same))) es
+left_of stays q es = lookup-filter-keys (same_key q) (λ k. stays k.variable) (stays q.variable) (λ k same. ap stays (sym (key_parts q k same).0)) es
 
 module _ (stays : ℕ → Bool) (es new : Entries) (is : new ≡ filter (λ e. stays e.0.variable) es) where
   pub left_once : AreOnce es → AreOnce new
   left_once once = subst AreOnce (sym is) (IsDistinct-keys_filter same_key (λ e. stays e.0.variable) es once)
 
-  pub left_noted : (old pages : Pages) → pages ≡ filter (λ r. stays r.0.variable) old → AreNoted old es → AreNoted pages new
-  left_noted old pages left noted k there = by (stays k.variable) refl
-    where
-      found : value_at new k ≡ cond (stays k.variable) (value_at es k) None
-      found = ap (λ fs. value_at fs k) is ∙ left_of stays k es
+  pub left_fewer : length new ≤ length es
+  left_fewer = omega (arith, ap length is, length-filter (λ (e : Key × Value). stays e.0.variable) es, count_by-le-length (λ (e : Key × Value). stays e.0.variable) es)
 
-      numbers : lookup (same_key (page_key k)) pages ≡ cond (stays k.variable) (lookup (same_key (page_key k)) old) None
-      numbers = ap (lookup (same_key (page_key k))) left ∙ left_of stays (page_key k) old
+  -- a key has a number then just where it has an entry
+  module _ (old pages : Pages) (left : pages ≡ filter (λ r. stays r.0.variable) old) (numbered : AreNumbered old es) (k : Key) where
+    found : value_at new k ≡ cond (stays k.variable) (value_at es k) None
+    found = ap (λ fs. value_at fs k) is ∙ left_of stays k es
 
-      by : (b : Bool) → stays k.variable ≡ b → 0 < number_of pages k
-      by true stay =
-          let same : number_of pages k ≡ number_of old k = ap (λ o. number_in o (k.member % 64)) (numbers ∙ ap (λ b. cond b (lookup (same_key (page_key k)) old) None) stay) in
-          let had : has es k ≡ true = ap is_some (sym (found ∙ ap (λ b. cond b (value_at es k) None) stay)) ∙ there in
-          subst (λ n. 0 < n) (sym same) (noted k had)
-      by false gone = absurd (false≢true (sym (ap is_some (found ∙ ap (λ b. cond b (value_at es k) None) gone)) ∙ there))
+    numbers : lookup (same_key (page_key k)) pages ≡ cond (stays k.variable) (lookup (same_key (page_key k)) old) None
+    numbers = ap (lookup (same_key (page_key k))) left ∙ left_of stays (page_key k) old
+
+    pub left_noted : has new k ≡ true → 0 < number_of pages k
+    left_noted there = by (stays k.variable) numbers (sym (ap is_some found) ∙ there)
+      where
+        by : (b : Bool) → lookup (same_key (page_key k)) pages ≡ cond b (lookup (same_key (page_key k)) old) None → is_some (cond b (value_at es k) None) ≡ true → 0 < number_of pages k
+        by true same had = subst (λ o. 0 < number_in o (k.member % 64)) (sym same) (subst (λ n. 0 < n) (sym (numbered k)) (some_number 0 (keys_of es) k (sym (has_keys es k) ∙ had)))
+        by false same had = absurd (false≢true had)
+
+    pub left_free : has new k ≡ false → number_of pages k ≡ 0
+    left_free none = by (stays k.variable) numbers (sym (ap is_some found) ∙ none)
+      where
+        by : (b : Bool) → lookup (same_key (page_key k)) pages ≡ cond b (lookup (same_key (page_key k)) old) None → is_some (cond b (value_at es k) None) ≡ false → number_of pages k ≡ 0
+        by true same had = ap (λ o. number_in o (k.member % 64)) same ∙ (numbered k ∙ no_number 1 (keys_of es) k (sym (has_keys es k) ∙ had))
+        by false same had = ap (λ o. number_in o (k.member % 64)) same
+
+-- numbers stay where no entry is taken out
+pub left_numbered : (stays : ℕ → Bool) (es new : Entries) (old pages : Pages) → new ≡ filter (λ e. stays e.0.variable) es → length es ≤ length new → pages ≡ filter (λ r. stays r.0.variable) old
+    → AreNumbered old es → AreNumbered pages new
+left_numbered stays es new old pages is many left numbered k = by (has new k) refl
+  where
+    whole : new ≡ es
+    whole = is ∙ all_stay (λ e. stays e.0.variable) es (subst (λ fs. length es ≤ length fs) is many)
+
+    by : (b : Bool) → has new k ≡ b → number_of pages k ≡ numbered_from 1 (keys_of new) k
+    by true some = kept (stays k.variable) refl
+      where
+        kept : (b : Bool) → stays k.variable ≡ b → number_of pages k ≡ numbered_from 1 (keys_of new) k
+        kept true e =
+            ap (λ o. number_in o (k.member % 64)) (ap (lookup (same_key (page_key k))) left ∙ (left_of stays (page_key k) old ∙ ap (λ b. cond b (lookup (same_key (page_key k)) old) None) e))
+            ∙ (numbered k ∙ ap (λ fs. numbered_from 1 (keys_of fs) k) (sym whole))
+        kept false e = absurd (false≢true (sym (ap is_some (ap (λ fs. value_at fs k) is ∙ (left_of stays k es ∙ ap (λ b. cond b (value_at es k) None) e))) ∙ some))
+    by false none = left_free stays es new is old pages left numbered k none ∙ sym (no_number 1 (keys_of new) k (sym (has_keys new k) ∙ none))
 
 -- Numbers of a page
 
@@ -197,24 +292,156 @@ cond_if true false x y e = absurd (false≢true (sym e))
 cond_if false true x y e = absurd (false≢true e)
 cond_if false false x y e = refl
 
-module _ (pages new : Pages) (page : Key) (numbers : Vec ℕ Global) (put : (k : Key) → lookup (same_key k) new ≡ (if same_key k page then Some numbers else lookup (same_key k) pages)) where
-  put_number : (k : Key) (b : Bool) → same_key (page_key k) page ≡ b → number_of new k ≡ (if b then number_at numbers.items (k.member % 64) else number_of pages k)
-  put_number k true e = ap (λ o. number_in o (k.member % 64)) (put (page_key k) ∙ ap (λ b. if b then Some numbers else lookup (same_key (page_key k)) pages) e)
-  put_number k false e = ap (λ o. number_in o (k.member % 64)) (put (page_key k) ∙ ap (λ b. if b then Some numbers else lookup (same_key (page_key k)) pages) e)
+-- a key is another just where its page is, or its place in the page
+number_split : (m n : ℕ) → (m == n) ≡ ((m / 64 == n / 64) && (m % 64 == n % 64))
+number_split m n = by (m == n) refl (m / 64 == n / 64) refl (m % 64 == n % 64) refl
+  where
+    by : (a : Bool) → (m == n) ≡ a → (b : Bool) → (m / 64 == n / 64) ≡ b → (d : Bool) → (m % 64 == n % 64) ≡ d → a ≡ (b && d)
+    by true same true q true r = refl
+    by true same true q false r = absurd (false≢true (sym r ∙ eq-eqb (m % 64) (n % 64) (ap (λ k. k % 64) (eqb-true m n same))))
+    by true same false q d r = absurd (false≢true (sym q ∙ eq-eqb (m / 64) (n / 64) (ap (λ k. k / 64) (eqb-true m n same))))
+    by false other true q true r =
+        let quotients : m / 64 ≡ n / 64 = eqb-true (m / 64) (n / 64) q in
+        let rests : m % 64 ≡ n % 64 = eqb-true (m % 64) (n % 64) r in
+        absurd (false≢true (sym other ∙ eq-eqb m n (omega arith)))
+    by false other true q false r = refl
+    by false other false q d r = refl
 
-  pub page_kept : ((m : ℕ) → 0 < number_in (lookup (same_key page) pages) m → 0 < number_at numbers.items m) → (k : Key) → 0 < number_of pages k → 0 < number_of new k
-  page_kept more k some = by (same_key (page_key k) page) refl
+parted : (v q r e : Bool) → (v && ((q && r) && e)) ≡ ((v && (q && e)) && r)
+parted true true true e = by e
+  where
+    by : (e : Bool) → e ≡ (e && true)
+    by true = refl
+    by false = refl
+parted true true false e = by e
+  where
+    by : (e : Bool) → false ≡ (e && false)
+    by true = refl
+    by false = refl
+parted true false r e = refl
+parted false q r e = refl
+
+key_split : (k j : Key) → same_key k j ≡ (same_key (page_key k) (page_key j) && (k.member % 64 == j.member % 64))
+key_split k j =
+    ap (λ b. (k.variable == j.variable) && (b && eq_by_cmp span_cmp k.period j.period)) (number_split k.member j.member)
+    ∙ parted (k.variable == j.variable) (k.member / 64 == j.member / 64) (k.member % 64 == j.member % 64) (eq_by_cmp span_cmp k.period j.period)
+
+module _ (pages new : Pages) (own : Key) (number : ℕ) (numbers : Vec ℕ Global)
+    (put : (k : Key) → lookup (same_key k) new ≡ (if same_key k (page_key own) then Some numbers else lookup (same_key k) pages))
+    (there : (m : ℕ) → number_at numbers.items m ≡ (if m == own.member % 64 then number else number_in (lookup (same_key (page_key own)) pages) m)) where
+  pub page_put : (k : Key) → number_of new k ≡ (if same_key k own then number else number_of pages k)
+  page_put k = by (same_key (page_key k) (page_key own)) refl ∙ ap (λ b. if b then number else number_of pages k) (sym (key_split k own))
     where
-      by : (b : Bool) → same_key (page_key k) page ≡ b → 0 < number_of new k
-      by true e = subst (λ n. 0 < n) (sym (put_number k true e)) (more (k.member % 64) (subst (λ o. 0 < number_in o (k.member % 64)) (lookup_like (page_key k) page e pages) some))
-      by false e = subst (λ n. 0 < n) (sym (put_number k false e)) some
+      by : (b : Bool) → same_key (page_key k) (page_key own) ≡ b → number_of new k ≡ (if (b && (k.member % 64 == own.member % 64)) then number else number_of pages k)
+      by true e =
+          ap (λ o. number_in o (k.member % 64)) (put (page_key k) ∙ ap (λ b. if b then Some numbers else lookup (same_key (page_key k)) pages) e)
+          ∙ (there (k.member % 64)
+          ∙ ap (λ o. if (k.member % 64 == own.member % 64) then number else number_in o (k.member % 64)) (sym (lookup_like (page_key k) (page_key own) e pages)))
+      by false e = ap (λ o. number_in o (k.member % 64)) (put (page_key k) ∙ ap (λ b. if b then Some numbers else lookup (same_key (page_key k)) pages) e)
 
 -- a number is set in the page that is found
-module _ (pages : Pages) (page : Key) (old numbers : Vec ℕ Global) (found : Some old ≡ lookup (same_key page) pages) where
-  set_put : (k : Key) → lookup (same_key k) (set_value (same_key page) pages numbers) ≡ (if same_key k page then Some numbers else lookup (same_key k) pages)
+module _ (pages : Pages) (own : Key) (number : ℕ) (old numbers : Vec ℕ Global) (found : Some old ≡ lookup (same_key (page_key own)) pages) where
+  set_put : (k : Key) → lookup (same_key k) (set_value (same_key (page_key own)) pages numbers) ≡ (if same_key k (page_key own) then Some numbers else lookup (same_key k) pages)
   set_put k =
-      lookup-set_value laws-law (same_key page) (λ x y same. laws-law.congr page x y same) k numbers pages (ap is_some (sym found))
-      ∙ cond_if (same_key page k) (same_key k page) (Some numbers) (lookup (same_key k) pages) (laws-law.symm page k)
+      lookup-set_value laws-law (same_key (page_key own)) (λ x y same. laws-law.congr (page_key own) x y same) k numbers pages (ap is_some (sym found))
+      ∙ cond_if (same_key (page_key own) k) (same_key k (page_key own)) (Some numbers) (lookup (same_key k) pages) (laws-law.symm (page_key own) k)
 
-  pub set_kept : ((m : ℕ) → 0 < number_at old.items m → 0 < number_at numbers.items m) → (k : Key) → 0 < number_of pages k → 0 < number_of (set_value (same_key page) pages numbers) k
-  set_kept more = page_kept pages (set_value (same_key page) pages numbers) page numbers set_put (λ m some. more m (subst (λ o. 0 < number_in o m) (sym found) some))
+  pub page_set : ((m : ℕ) → number_at numbers.items m ≡ (if m == own.member % 64 then number else number_at old.items m))
+      → (k : Key) → number_of (set_value (same_key (page_key own)) pages numbers) k ≡ (if same_key k own then number else number_of pages k)
+  page_set there = page_put pages (set_value (same_key (page_key own)) pages numbers) own number numbers set_put
+      (λ m. there m ∙ ap (λ o. if m == own.member % 64 then number else number_in o m) found)
+
+  pub page_like : ((m : ℕ) → number_at numbers.items m ≡ number_at old.items m) → (k : Key) → number_of (set_value (same_key (page_key own)) pages numbers) k ≡ number_of pages k
+  page_like there k = by (same_key (page_key k) (page_key own)) refl
+    where
+      by : (b : Bool) → same_key (page_key k) (page_key own) ≡ b → number_of (set_value (same_key (page_key own)) pages numbers) k ≡ number_of pages k
+      by true e =
+          ap (λ o. number_in o (k.member % 64)) (set_put (page_key k) ∙ ap (λ b. if b then Some numbers else lookup (same_key (page_key k)) pages) e)
+          ∙ (there (k.member % 64) ∙ ap (λ o. number_in o (k.member % 64)) (found ∙ sym (lookup_like (page_key k) (page_key own) e pages)))
+      by false e = ap (λ o. number_in o (k.member % 64)) (set_put (page_key k) ∙ ap (λ b. if b then Some numbers else lookup (same_key (page_key k)) pages) e)
+
+-- A look-up by its number
+
+pub none_numbered : (es : Entries) (k : Key) → numbered_from 1 (keys_of es) k ≡ 0 → has es k ≡ false
+none_numbered es k is = by (has es k) refl
+  where
+    by : (b : Bool) → has es k ≡ b → has es k ≡ false
+    by true some = let found = numbered_stands 1 es k some in absurd (omega (arith, is, found.1))
+    by false none = none
+
+pub stands_by_number : (es : Entries) (k : Key) (n : ℕ) → n ≡ numbered_from 1 (keys_of es) k → 0 < n → StandsAt es k (n - 1)
+stands_by_number es k n is some = by (has es k) refl
+  where
+    by : (b : Bool) → has es k ≡ b → StandsAt es k (n - 1)
+    by true there =
+        let found = numbered_stands 1 es k there in
+        let at : found.0 ≡ n - 1 = omega (arith, is, found.1) in
+        subst (StandsAt es k) at found.2
+    by false none = absurd (omega (arith, is, some, no_number 1 (keys_of es) k (sym (has_keys es k) ∙ none)))
+
+-- a member whose number is not 0 is within its page
+pub within_page : (ns : List ℕ) (m : ℕ) → 0 < number_at ns m → m < length ns
+within_page [] m some = absurd (omega (arith, some))
+within_page (n ∷ ns) zero some = omega arith
+within_page (n ∷ ns) (suc m) some = omega (arith, within_page ns m some)
+
+-- Numbers are set anew, from the front
+
+module _ (es : Entries) (pages : Pages) where
+  pub numbers_begin : ((k : Key) → has es k ≡ false → number_of pages k ≡ 0) → (k : Key) → numbered_from 1 (keys_of es) k ≤ 0 → number_of pages k ≡ numbered_from 1 (keys_of es) k
+  numbers_begin free k none =
+      let zeroth : numbered_from 1 (keys_of es) k ≡ 0 = omega (arith, none) in
+      free k (none_numbered es k zeroth) ∙ sym zeroth
+
+  pub numbers_some : ((k : Key) → has es k ≡ true → 0 < number_of pages k) → (k : Key) → 0 < numbered_from 1 (keys_of es) k → 0 < number_of pages k
+  numbers_some noted k some = by (has es k) refl
+    where
+      by : (b : Bool) → has es k ≡ b → 0 < number_of pages k
+      by true there = noted k there
+      by false none = absurd (omega (arith, some, no_number 1 (keys_of es) k (sym (has_keys es k) ∙ none)))
+
+below : (n i : ℕ) → n ≤ i + 1 → (n ≡ i + 1 → ⊥) → n ≤ i
+below n i low other = ⊎_elim (λ (h : i < n). absurd (other (omega (arith, low, h)))) (λ (h : n ≤ i). h) (cases_lt i n)
+
+-- an entry is numbered
+module _ (es : Entries) (once : AreOnce es) (i : ℕ) (e : Key × Value) (within : i < length es) (is : e ≡ slice_index_or es i e) where
+  there : slice_get es i ≡ Some (e.0, e.1)
+  there = slice_get-get_or es i e within ∙ ap (λ x. Some x) (sym is)
+
+  pub own_number : (k : Key) → same_key k e.0 ≡ true → numbered_from 1 (keys_of es) k ≡ 1 + i
+  own_number k same = stands_numbered 1 es k i e.0 e.1 once there same
+
+  -- the number of a place is that of no other key
+  own_key : (k : Key) → numbered_from 1 (keys_of es) k ≡ 1 + i → same_key k e.0 ≡ true
+  own_key k number = by (has es k) refl
+    where
+      by : (b : Bool) → has es k ≡ b → same_key k e.0 ≡ true
+      by true some =
+          let found = numbered_stands 1 es k some in
+          let at : found.0 ≡ i = omega (arith, number, found.1) in
+          let stands = subst (StandsAt es k) at found.2 in
+          let own : Some (stands.own, stands.value) ≡ Some (e.0, e.1) = sym stands.there ∙ there in
+          let same : (stands.own, stands.value) ≡ (e.0, e.1) = cc in
+          sym (ap (λ (x : Key × Value). same_key k x.0) same) ∙ stands.same
+      by false none = absurd (omega (arith, number, no_number 1 (keys_of es) k (sym (has_keys es k) ∙ none)))
+
+  module _ (old new : Pages) (set : (k : Key) → number_of new k ≡ (if same_key k e.0 then i + 1 else number_of old k)) where
+    pub numbers_go_on : ((k : Key) → numbered_from 1 (keys_of es) k ≤ i → number_of old k ≡ numbered_from 1 (keys_of es) k) → (k : Key) → numbered_from 1 (keys_of es) k ≤ i + 1 → number_of new k ≡ numbered_from 1 (keys_of es) k
+    numbers_go_on done k low = by (same_key k e.0) refl
+      where
+        by : (b : Bool) → same_key k e.0 ≡ b → number_of new k ≡ numbered_from 1 (keys_of es) k
+        by true same = set k ∙ (ap (λ b. if b then i + 1 else number_of old k) same ∙ omega (arith, own_number k same))
+        by false other = set k ∙ (ap (λ b. if b then i + 1 else number_of old k) other ∙ done k lower)
+          where
+            not_own : (n : ℕ) → n ≡ numbered_from 1 (keys_of es) k → n ≡ i + 1 → ⊥
+            not_own n is at = false≢true (sym other ∙ own_key k (omega (arith, is, at)))
+
+            lower : numbered_from 1 (keys_of es) k ≤ i
+            lower = below (numbered_from 1 (keys_of es) k) i low (not_own (numbered_from 1 (keys_of es) k) refl)
+
+    pub numbers_next : ((k : Key) → 0 < numbered_from 1 (keys_of es) k → 0 < number_of old k) → (k : Key) → 0 < numbered_from 1 (keys_of es) k → 0 < number_of new k
+    numbers_next noted k some = by (same_key k e.0) refl
+      where
+        by : (b : Bool) → same_key k e.0 ≡ b → 0 < number_of new k
+        by true same = subst (λ n. 0 < n) (sym (set k ∙ ap (λ b. if b then i + 1 else number_of old k) same)) (omega arith)
+        by false other = subst (λ n. 0 < n) (sym (set k ∙ ap (λ b. if b then i + 1 else number_of old k) other)) (noted k some)

@@ -1,10 +1,10 @@
--- Where the values of keys stand: for each variable and period numbers of members, in pages of 64, which are not 0 where a member has a value.
+-- Where the values of keys stand: for each variable and period numbers of members, in pages of 64, each one more than the place of the entry.
 use Rattle.std.specs.Global.{Global}
-use Rattle.std.specs.Prelude.{◌≡◌, ℕ, ◌<◌, ◌/◌, ◌%◌, Vec, true, List, Option, Some, None, slice_get}
+use Rattle.std.specs.Prelude.{◌≡◌, ℕ, suc, ◌/◌, ◌%◌, Vec, if◌then◌else◌, true, List, [], ◌∷◌, Option, Some, None, slice_get}
 use Rattle.std.specs.List.{IsDistinct}
 use Rattle.std.specs.Map.{keys_of, lookup}
 use Rattle.std.specs.Option.{unwrap_or}
-use Rattle.fisca_inputs.specs.Entries.{Entries, has, key, same_key}
+use Rattle.fisca_inputs.specs.Entries.{Entries, key, same_key}
 use Rattle.fisca_inputs.specs.declared.given.Value.{Value}
 use Rattle.fisca_inputs.specs.declared.key.Key.{Key}
 
@@ -27,9 +27,14 @@ page_key k = key k.variable (k.member / 64) k.period
 abbrev pub number_of : Pages → Key → ℕ
 number_of pages k = number_in (lookup (same_key (page_key k)) pages) (k.member % 64)
 
--- each key that has a value has a number
-abbrev pub AreNoted : Pages → Entries → Type 0
-AreNoted pages es = (k : Key) → has es k ≡ true → 0 < number_of pages k
+-- the number of a key among these, where the first has this number and each one more than that before it; 0 where it is none of them
+abbrev pub numbered_from : ℕ → List Key → Key → ℕ
+numbered_from n [] k = 0
+numbered_from n (q ∷ qs) k = if same_key k q then n else numbered_from (suc n) qs k
+
+-- each key has the number of its entry
+abbrev pub AreNumbered : Pages → Entries → Type 0
+AreNumbered pages es = (k : Key) → number_of pages k ≡ numbered_from 1 (keys_of es) k
 
 -- no key stands twice
 abbrev pub AreOnce : Entries → Type 0

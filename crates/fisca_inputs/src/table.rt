@@ -1,12 +1,13 @@
 //! The table of values: keys with their values, found by numbers that stand side by side for members of one variable and period.
 
-ghost use Rattle.std.specs.Prelude.{◌≡◌, ◌<◌, ◌≤◌, ◌%◌, [], ◌∷◌, ◌++◌, ℕ, true, false, not, length, filter, if◌then◌else◌, Some, None, OnOk, OnErr, MatchOption};
+ghost use Rattle.std.specs.Prelude.{◌≡◌, ◌<◌, ◌≤◌, ◌%◌, ◌==◌, [], ◌∷◌, ◌++◌, ℕ, suc, true, false, not, length, filter, if◌then◌else◌, Some, None, IfOk, OnOk, OnErr, MatchOption};
+ghost use Rattle.std.specs.Bool.{OnTrue};
 ghost use Rattle.std.specs.Map.{lookup};
 ghost use Rattle.std.proofs.Props.{props};
 ghost use Rattle.fisca_inputs.specs.Entries as spec;
 ghost use Rattle.fisca_inputs.specs.Anew.{set_keys};
 ghost use Rattle.fisca_inputs.specs.Inputs.{is_marked as is_marked_at, without_marked};
-ghost use Rattle.fisca_inputs.specs.Places.{AreNoted, AreOnce, StandsAt, number_at, number_of, page_key};
+ghost use Rattle.fisca_inputs.specs.Places.{AreNumbered, AreOnce, StandsAt, number_at, number_of, page_key};
 ghost use Rattle.fisca_inputs.specs.declared.key.Key as declared;
 
 use crate::given::Value;
@@ -22,14 +23,20 @@ const PAGE: u32 = 64;
 /// For how many of them there is room at once.
 const ROOM: usize = 8;
 
-/// Keys with their values, in the order in which they came. The number of a key is one more than the place of its entry, and 0 where it has none. That a key
-/// with a value has a number is all that has to be known: where another entry stands at that place, the key is looked for.
+/// Of how many keys it is noted where they stand, which were given another value last.
+const NOTES: usize = 64;
+
+/// Keys with their values, in the order in which they came. The number of a key is one more than the place of its entry, and 0 where it has none.
 #[derive(Drop)]
 pub(crate) struct Table {
     pub(crate) entries: Vec<(Key, Value)>,
     pages: Pages,
+    /// Where keys may stand that were given another value last: those that an axis moves are looked for again and again.
+    noted: [u32; NOTES],
     ghost once: { AreOnce entries.items } by { Prim.hlevel props },
-    ghost noted: { AreNoted pages.entries entries.items },
+    ghost notes: { length noted ≡ 64 },
+    ghost few: { length entries.items < 4_294_967_296 },
+    ghost numbered: { AreNumbered pages.entries entries.items },
 }
 
 /// The key under which the number of a key stands: those of members that follow one another stand together, so that one member far behind costs no more than a page.
@@ -64,11 +71,33 @@ fn number(pages: &Pages, key: &Key) -> u32
     }
 }
 
-/// The number of an entry that comes behind so many.
-fn number_behind(count: usize) -> u32
-    ensures { 0 < result }
+/// Which note is that of a key.
+#[inline(always)]
+fn note_of(key: &Key) -> usize
+    ensures { result < 64 }
 {
-    count.min(u32::MAX as usize - 1) as u32 + 1
+    key.variable.wrapping_add(key.member as usize) % NOTES
+}
+
+/// Whether the entry of a key stands at a place.
+#[inline(always)]
+fn stands_at(entries: &[(Key, Value)], place: usize, key: &Key) -> bool
+    ensures { OnTrue result (StandsAt entries.now key.now place) }
+{
+    match entries.get(place) {
+        Some(entry) => *key == entry.0,
+        None => false,
+    }
+}
+
+/// The number of an entry that comes behind so many. No entry is numbered past `u32::MAX`: as if memory was refused.
+fn number_behind(count: usize) -> Result<u32, AllocError>
+    ensures { IfOk result (λ n. n ≡ suc count) }
+{
+    if count >= u32::MAX as usize {
+        return Err(AllocError);
+    }
+    Ok(count as u32 + 1)
 }
 
 /// Puts zeros behind numbers until there are so many.
@@ -82,26 +111,23 @@ fn fill(numbers: &mut Vec<u32>, count: usize) -> Result<(), AllocError>
     Ok(())
 }
 
-/// Puts a number at this place.
-fn put_number(numbers: &mut Vec<u32>, place: usize, number: u32) -> Result<(), AllocError>
-    requires small { place < 64 }
-    requires number { 0 < number }
-    ensures there { OnOk result (0 < number_at numbers.new.items place) }
-    ensures kept { (m : ℕ) → 0 < number_at numbers.old.items m → 0 < number_at numbers.new.items m }
+/// Sets the number at this place, and no other.
+fn set_number(numbers: &mut Vec<u32>, place: usize, number: u32)
+    requires { place < length numbers.old.items }
+    ensures { (m : ℕ) → number_at numbers.new.items m ≡ (if m == place then number else number_at numbers.old.items m) }
 {
-    fill(numbers, place + 1)?;
     numbers[place] = number;
-    Ok(())
 }
 
-/// Puts another number at this place, where there is one.
-fn change_number(numbers: &mut Vec<u32>, place: usize, number: u32)
-    requires { 0 < number }
-    ensures { (m : ℕ) → 0 < number_at numbers.old.items m → 0 < number_at numbers.new.items m }
+/// Puts a number at this place, where there may be none, and no other at any place.
+fn put_number(numbers: &mut Vec<u32>, place: usize, number: u32) -> Result<(), AllocError>
+    requires { place < 64 }
+    ensures ok { OnOk result ((m : ℕ) → number_at numbers.new.items m ≡ (if m == place then number else number_at numbers.old.items m)) }
+    ensures err { OnErr result ((m : ℕ) → number_at numbers.new.items m ≡ number_at numbers.old.items m) }
 {
-    if place < numbers.len() {
-        numbers[place] = number;
-    }
+    fill(numbers, place + 1)?;
+    set_number(numbers, place, number);
+    Ok(())
 }
 
 /// Puts a page of numbers that is not there.
@@ -115,21 +141,19 @@ fn put_numbers(pages: &mut Pages, page: Key, numbers: Vec<u32>) -> Result<(), Al
 
 /// Puts the first number of a page.
 fn begin_page(pages: &mut Pages, alloc: Global, key: &Key, number: u32) -> Result<(), AllocError>
-    requires number { 0 < number }
-    requires none { lookup (spec.same_key (page_key key.now)) pages.old.entries ≡ None }
-    ensures there { OnOk result ((k : declared.Key) → spec.same_key k key.now ≡ true → 0 < number_of pages.new.entries k) }
-    ensures kept { (k : declared.Key) → 0 < number_of pages.old.entries k → 0 < number_of pages.new.entries k }
+    requires { lookup (spec.same_key (page_key key.now)) pages.old.entries ≡ None }
+    ensures ok { OnOk result ((k : declared.Key) → number_of pages.new.entries k ≡ (if spec.same_key k key.now then number else number_of pages.old.entries k)) }
+    ensures err { OnErr result (pages.new.entries ≡ pages.old.entries) }
 {
     let mut numbers = Vec::with_capacity(alloc, ROOM)?;
     put_number(&mut numbers, place_of(key), number)?;
     put_numbers(pages, page_of(key), numbers)
 }
 
-/// Gives a key a number.
+/// Gives a key this number, and none to any other.
 fn note(pages: &mut Pages, alloc: Global, key: &Key, number: u32) -> Result<(), AllocError>
-    requires { 0 < number }
-    ensures there { OnOk result ((k : declared.Key) → spec.same_key k key.now ≡ true → 0 < number_of pages.new.entries k) }
-    ensures kept { (k : declared.Key) → 0 < number_of pages.old.entries k → 0 < number_of pages.new.entries k }
+    ensures ok { OnOk result ((k : declared.Key) → number_of pages.new.entries k ≡ (if spec.same_key k key.now then number else number_of pages.old.entries k)) }
+    ensures err { OnErr result ((k : declared.Key) → number_of pages.new.entries k ≡ number_of pages.old.entries k) }
 {
     match pages.get_mut(&page_of(key)) {
         Some(numbers) => put_number(numbers, place_of(key), number),
@@ -137,47 +161,27 @@ fn note(pages: &mut Pages, alloc: Global, key: &Key, number: u32) -> Result<(), 
     }
 }
 
-/// Gives a key another number, where it has one.
+/// Gives a key that has a number this one, and none to any other.
 fn renumber(pages: &mut Pages, key: &Key, number: u32)
-    requires { 0 < number }
-    ensures { (k : declared.Key) → 0 < number_of pages.old.entries k → 0 < number_of pages.new.entries k }
+    requires { 0 < number_of pages.old.entries key.now }
+    ensures { (k : declared.Key) → number_of pages.new.entries k ≡ (if spec.same_key k key.now then number else number_of pages.old.entries k) }
 {
-    if let Some(numbers) = pages.get_mut(&page_of(key)) {
-        change_number(numbers, place_of(key), number);
+    match pages.get_mut(&page_of(key)) {
+        Some(numbers) => set_number(numbers, place_of(key), number),
+        None => unreachable!(),
     }
 }
 
-/// The place of the first entry of a key, looked for from the front.
-fn search(entries: &[(Key, Value)], key: &Key) -> Option<usize>
-    ensures { MatchOption result (spec.has entries.now key.now ≡ false) (StandsAt entries.now key.now) }
+/// Numbers entries by their places. Those and no others have numbers.
+fn renumber_all(pages: &mut Pages, entries: &[(Key, Value)])
+    requires once { AreOnce entries.now }
+    requires few { length entries.now < 4_294_967_296 }
+    requires noted { (k : declared.Key) → spec.has entries.now k ≡ true → 0 < number_of pages.old.entries k }
+    requires free { (k : declared.Key) → spec.has entries.now k ≡ false → number_of pages.old.entries k ≡ 0 }
+    ensures { AreNumbered pages.new.entries entries.now }
 {
     for (place, entry) in entries.iter().enumerate() {
-        if *key == entry.0 {
-            return Some(place);
-        }
-    }
-    None
-}
-
-/// The place of the entry of a key that has this number.
-#[inline(always)]
-fn find(entries: &[(Key, Value)], number: u32, key: &Key) -> Option<usize>
-    requires { number ≡ 0 → spec.has entries.now key.now ≡ false }
-    ensures { MatchOption result (spec.has entries.now key.now ≡ false) (StandsAt entries.now key.now) }
-{
-    if number == 0 {
-        return None;
-    }
-    let place = number as usize - 1;
-    match entries.get(place) {
-        Some(entry) => {
-            if *key == entry.0 {
-                Some(place)
-            } else {
-                search(entries, key)
-            }
-        }
-        None => search(entries, key),
+        renumber(pages, &entry.0, place as u32 + 1);
     }
 }
 
@@ -221,6 +225,7 @@ impl Table {
         Table {
             entries: Vec::new(alloc),
             pages: IndexMap::with_hasher(alloc, BuildHasherDefault::new()),
+            noted: [0; NOTES],
         }
     }
 
@@ -229,7 +234,14 @@ impl Table {
     fn place(&self, key: &Key) -> Option<usize>
         ensures { MatchOption result (spec.has self.now.entries.items key.now ≡ false) (StandsAt self.now.entries.items key.now) }
     {
-        find(self.entries.as_slice(), number(&self.pages, key), key)
+        let noted = self.noted[note_of(key)] as usize;
+        if stands_at(self.entries.as_slice(), noted, key) {
+            return Some(noted);
+        }
+        match number(&self.pages, key) {
+            0 => None,
+            number => Some(number as usize - 1),
+        }
     }
 
     /// Whether a key has a value.
@@ -253,12 +265,18 @@ impl Table {
     /// One entry more, of a key that has none. Where memory is refused, none.
     pub(crate) fn append(&mut self, alloc: Global, key: Key, value: Value) -> Result<(), AllocError>
         requires { spec.has self.old.entries.items key ≡ false }
-        ensures { OnOk result (self.new.entries.items ≡ self.old.entries.items ++ (key, value) ∷ []) }
+        ensures ok { OnOk result (self.new.entries.items ≡ self.old.entries.items ++ (key, value) ∷ []) }
+        ensures err { OnErr result (self.new.entries.items ≡ self.old.entries.items) }
     {
-        let number = number_behind(self.entries.len());
-        note(&mut self.pages, alloc, &key, number)?;
+        let number = number_behind(self.entries.len())?;
         self.entries.push((key, value))?;
-        Ok(())
+        match note(&mut self.pages, alloc, &key, number) {
+            Ok(()) => Ok(()),
+            Err(_) => {
+                let _ = self.entries.pop();
+                Err(AllocError)
+            }
+        }
     }
 
     /// Gives this value to a key, where it has one: no key comes or goes.
@@ -266,17 +284,8 @@ impl Table {
         ensures { self.new.entries.items ≡ set_keys (key.now ∷ []) value self.old.entries.items }
     {
         if let Some(place) = self.place(key) {
+            self.noted[note_of(key)] = place as u32;
             self.entries[place].1 = value;
-        }
-    }
-
-    /// Numbers the entries anew, by their places.
-    fn renumber_all(&mut self)
-        ensures { self.new.entries.items ≡ self.old.entries.items }
-    {
-        for place in 0..self.entries.len() {
-            let key = self.entries[place].0;
-            renumber(&mut self.pages, &key, number_behind(place));
         }
     }
 
@@ -289,7 +298,7 @@ impl Table {
         leave_unmarked(&mut self.entries, marks);
         leave_unmarked_pages(&mut self.pages, marks);
         if self.entries.len() < count {
-            self.renumber_all();
+            renumber_all(&mut self.pages, self.entries.as_slice());
         }
     }
 }

@@ -11,6 +11,7 @@ pub mod Marked
 pub mod Memories
 pub mod Months
 pub mod Normal
+pub mod Noted
 pub mod OfFiles
 pub mod OfPositions
 pub mod Outcomes

@@ -8,6 +8,7 @@ use Rattle.std.specs.declared.cmp.Ordering.{Ordering}
 use Rattle.std.specs.declared.cmp.Ordering.TheVariants.{Less, Equal, Greater}
 use Rattle.std.proofs.lemmas.Bool.{and_parts, eqb-true, eq-eqb, leb-true, lt-ltb}
 use Rattle.std.proofs.lemmas.List.FromFn.{length-map-range_with_len}
+use Rattle.fisca_inputs.proofs.Numbered.{key_parts}
 use Rattle.fisca_inputs.specs.Entries.{key, same_key}
 use Rattle.fisca_inputs.specs.Rules.{Rule}
 use Rattle.fisca_inputs.specs.Sharing.{own_key, parts_of}
@@ -183,12 +184,6 @@ pub record IsKeyOf (unit : Unit) (g : Given) (q : Key) : Type 0 where
   pub variable : q.variable ≡ g.variable
   pub member : q.member ≡ g.member
   pub ends : EndsIn unit (first_of q.period) g.period
-
-pub key_parts : (q k : Key) → same_key q k ≡ true → (q.variable ≡ k.variable) × (q.member ≡ k.member) × (eq_by_cmp span_cmp q.period k.period ≡ true)
-key_parts q k h =
-    let one = and_parts (q.variable == k.variable) ((q.member == k.member) && eq_by_cmp span_cmp q.period k.period) h in
-    let two = and_parts (q.member == k.member) (eq_by_cmp span_cmp q.period k.period) one.1 in
-    (eqb-true q.variable k.variable one.0, eqb-true q.member k.member two.0, two.1)
 
 pub in_parts : (q : Key) (x m : ℕ) (ps : List Span) → list_any (same_key q) (map (λ p. key x m p) ps) ≡ true
     → (q.variable ≡ x) × (q.member ≡ m) × (list_any (eq_by_cmp span_cmp q.period) ps ≡ true)

@@ -17,7 +17,8 @@ use Rattle.fisca_meaning.specs.Questions.{fits}
 use Rattle.fisca_inputs.specs.Overlaps.{is_across, meets, overlaps, shares_day, starts_before}
 use Rattle.fisca_memo.proofs.Both.{Moving, keys_of}
 use Rattle.fisca_memo.proofs.Months.{month_before}
-use Rattle.fisca_memo.proofs.Parts.{both_equal, key_parts, part_key}
+use Rattle.fisca_inputs.proofs.Numbered.{key_parts}
+use Rattle.fisca_memo.proofs.Parts.{both_equal, part_key}
 use Rattle.fisca_memo.proofs.Placed.{AllOf, Apart, NoneOverlaps, across, key_of, place, place_all}
 use Rattle.fisca_memo.proofs.Shared.{Each, Pairwise, given_of, order_moving, put_moving}
 use Rattle.fisca_time.specs.Calendar.{first_day, end_day}

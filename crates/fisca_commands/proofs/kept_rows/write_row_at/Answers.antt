@@ -1,15 +1,20 @@
-use Rattle.std.proofs.Common.{sym, subst}
-use Rattle.fisca_calc.proofs.Asking.{some_none}
+use Rattle.std.proofs.Common.{Bool, Err, Ok, ap, sym, subst, ◌∙◌}
+use Rattle.std.proofs.lemmas.Result.{err_from_is_err_and}
+use Rattle.fisca_calc.proofs.Asking.{some_all, some_first}
+use Rattle.fisca_calc.specs.Asked.{HaveAsked}
 use Rattle.fisca_eval.specs.Told.{IsReady, told_in}
 use Rattle.fisca_memo.specs.Asked.{HasRefused, HasWorked}
 use Rattle.fisca_memo.specs.Evaluators.{simulation_of}
+use Rattle.fisca_commands.proofs.Asking.{handed_on, row_fault, row_written}
 use Rattle.fisca_commands.proofs.Fitting.{ready_at}
-use Rattle.fisca_commands.specs.Asked.{keys_asked}
+use Rattle.fisca_commands.specs.Asked.{keys_if_met, keys_met, keys_written}
+use Rattle.fisca_commands.specs.Conditions.{all_met as are_met}
+use Rattle.fisca_commands.specs.Outcomes.{IsOutcome}
 use Rattle.fisca_run_file.specs.Views.{run_file}
 use Rattle.fisca_commands.proofs.kept_rows.write_row_at.Goals as goal
 
-pub write_row-requires-clause-ready : goal.write_row-requires-clause-ready
-write_row-requires-clause-ready g c =
+pub all_met-requires : goal.all_met-requires
+all_met-requires g c =
     let s = c.requires.situated in
     let a = c.requires.accepted in
     record {
@@ -17,8 +22,28 @@ write_row-requires-clause-ready g c =
       memory = c.requires.memory;
     }
 
+pub returns-in_err-all_met-clause-asked : goal.returns-in_err-all_met-clause-asked
+returns-in_err-all_met-clause-asked g c =
+    let find = g.R.Recall.find in
+    let f = run_file c.args.run.now in
+    let answer = told_in (simulation_of c.args.evaluator.now) in
+    let p = err_from_is_err_and c.from_residual.result c.from_residual.ensures.1 in
+    handed_on (HasWorked find) (HasRefused find) _ _ _ c.from_residual.result p.0 c.in_err-all_met.field-0.0 p.1 p.2
+    (row_fault (HasWorked find) (HasRefused find) answer f.conditions f.columns c.in_err-all_met.field-0.0 _ _
+    (subst (λ xs. IsOutcome {X = Bool} (are_met answer xs) (Err c.in_err-all_met.field-0.0)) c.as_slice.ensures c.in_err-all_met.ensures.met)
+    (subst (λ xs. HaveAsked {X = Bool} (HasWorked find) (HasRefused find) (keys_met answer xs) c.args.evaluator.now c.all_met.new.answers (Err c.in_err-all_met.field-0.0)) c.as_slice.ensures c.in_err-all_met.ensures.asked))
+
+pub returns-in-Ok-clause-asked : goal.returns-in-Ok-clause-asked
+returns-in-Ok-clause-asked g c =
+    let find = g.R.Recall.find in
+    let f = run_file c.args.run.now in
+    row_written (HasWorked find) (HasRefused find) (told_in (simulation_of c.args.evaluator.now)) f.conditions f.columns c.write_line.result (told_in (simulation_of c.all_met.new.answers)) _ c.all_met.new.answers _
+    (rw c.as_slice.ensures at c.in_ok-all_met.ensures.met ∙ ap Ok c.if-not-branch.false) c.all_met.ensures.same_answers (rw c.as_slice.ensures at c.in_ok-all_met.ensures.asked) (rw c.as_slice-in-Ok-3.ensures at c.write_line.ensures.asked)
+
 pub returns-in-Err-clause-asked : goal.returns-in-Err-clause-asked
 returns-in-Err-clause-asked g c =
-    let e = c.args.evaluator.now in
-    some_none (HasWorked g.R.Recall.find) (HasRefused g.R.Recall.find) e
-    (keys_asked (told_in (simulation_of e)) (run_file c.args.run.now).conditions (run_file c.args.run.now).columns)
+    let find = g.R.Recall.find in
+    let f = run_file c.args.run.now in
+    let answer = told_in (simulation_of c.args.evaluator.now) in
+    some_first (HasWorked find) (HasRefused find) c.args.evaluator.now c.all_met.new.answers (keys_met answer f.conditions) (keys_if_met (are_met answer f.conditions) (keys_written answer f.columns))
+    (some_all (HasWorked find) (HasRefused find) c.args.evaluator.now c.all_met.new.answers (keys_met answer f.conditions) (rw c.as_slice.ensures at c.in_ok-all_met.ensures.asked))

@@ -6,5 +6,5 @@ use Rattle.fisca_inputs.proofs.inputs.Inputs.put.Goals as goal
 pub returns : goal.returns
 returns c =
     let same = ap length c.self.view_is in
-    let entries = c.in_ok-append.ensures ∙ ap (λ (es : Entries). es ++ (c.args.key, c.args.value) ∷ []) c.self.view_is in
+    let entries = c.in_ok-append.ensures.ok ∙ ap (λ (es : Entries). es ++ (c.args.key, c.args.value) ∷ []) c.self.view_is in
     put_is c.args.line c.args.key c.args.value c.args.self.now c.append.new.self.entries.items (omega (arith, same, c.len.ensures, c.if-len-ge-LIMIT.false)) entries

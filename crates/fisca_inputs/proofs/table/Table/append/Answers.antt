@@ -1,13 +1,18 @@
-use Rattle.std.specs.Result.{is_ok}
-use Rattle.fisca_inputs.proofs.Numbered.{appended_noted, appended_once}
+use Rattle.std.proofs.Common.{arith, ap, length, ◌∙◌, sym}
+use Rattle.std.proofs.lemmas.List.{length_push}
+use Rattle.fisca_inputs.proofs.Numbered.{behind_numbered, behind_once}
 use Rattle.fisca_inputs.proofs.table.Table.append.Goals as goal
 
-pub invariant_of-self-2 : goal.invariant_of-self-2
-invariant_of-self-2 c =
+pub invariant_of-self-in-Ok : goal.invariant_of-self-in-Ok
+invariant_of-self-in-Ok c =
     let t = c.args.self.now in
     let es = t.entries.items in
+    let pushed = c.in_ok-push.ensures.items in
+    let longer = ap length pushed ∙ length_push es (c.args.key, c.args.value) in
+    let number = c.in_ok-number.ensures in
     record {
-      once = appended_once es c.push.new.self.items c.args.key c.args.value c.requires t.once (is_ok c.push.result) c.push.ensures.items;
-      noted = appended_noted es c.push.new.self.items c.args.key c.args.value c.requires t.pages.entries c.note.new.pages.entries t.noted c.in_ok-note.ensures.there c.in_ok-note.ensures.kept
-          (is_ok c.push.result) c.push.ensures.items;
+      once = behind_once es c.push.new.self.items c.args.key c.args.value c.requires pushed t.once;
+      notes = t.notes;
+      few = omega (arith, longer, number, c.number_behind.type_inv);
+      numbered = behind_numbered es c.push.new.self.items c.args.key c.args.value c.requires pushed t.pages.entries c.note.new.pages.entries c.in_ok-number.number (omega (arith, number, c.len.ensures)) t.numbered c.in-Ok.ensures.ok;
     }

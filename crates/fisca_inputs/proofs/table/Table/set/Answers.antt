@@ -1,12 +1,16 @@
-use Rattle.fisca_inputs.proofs.Numbered.{set_absent, set_here, set_keeps_noted, set_keeps_once}
+use Rattle.std.proofs.Common.{rules}
+use Rattle.fisca_inputs.proofs.Numbered.{set_absent, set_here, set_keeps_numbers, set_keeps_once}
 use Rattle.fisca_inputs.proofs.table.Table.set.Goals as goal
 
 pub invariant_of-self : goal.invariant_of-self
 invariant_of-self c =
-    let es = c.args.self.now.entries.items in
+    let t = c.args.self.now in
+    let es = t.entries.items in
     record {
-      once = set_keeps_once es c.args.key.now c.args.value c.in-Some.place c.index_mut.result.now c.args.self.now.once c.in-Some.ensures c.index_mut.ensures.value;
-      noted = set_keeps_noted es c.args.key.now c.args.value c.in-Some.place c.index_mut.result.now c.args.self.now.once c.in-Some.ensures c.index_mut.ensures.value c.args.self.now.pages.entries c.args.self.now.noted;
+      once = set_keeps_once es c.args.key.now c.args.value c.in-Some.place c.index_mut.result.now t.once c.in-Some.ensures c.index_mut.ensures.value;
+      notes = search rules;
+      few = search rules;
+      numbered = set_keeps_numbers es c.args.key.now c.args.value c.in-Some.place c.index_mut.result.now t.once c.in-Some.ensures c.index_mut.ensures.value t.pages.entries t.numbered;
     }
 
 pub returns-in-Some : goal.returns-in-Some

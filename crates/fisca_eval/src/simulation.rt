@@ -68,6 +68,7 @@ impl<'r, 't, 's> Simulation<'r, 't, 's> {
 
     /// The formula of this variable that is in force where the key's period starts. `None` where none is, past the variable's end, for
     /// eternity, and where the variable is neutralised.
+    #[inline(always)]
     pub fn formula(&self, variable: &Variable<'_>, key: Key) -> Option<&'r Formula>
         ensures { option_map (λ f. formula_view f.now) result ≡ spec.formula_of (simulation self.now).rules (simulation self.now).neutral (written variable.now) (key_seen key) }
     {

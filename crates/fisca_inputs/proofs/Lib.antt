@@ -4,6 +4,7 @@ pub mod Days
 pub mod First
 pub mod Givens
 pub mod Looked
+pub mod Noted
 pub mod Numbered
 pub mod Numbers
 pub mod Ordered

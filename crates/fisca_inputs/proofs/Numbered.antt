@@ -2,26 +2,27 @@
 use Rattle.std.proofs.Common.{◌≡◌, ◌<◌, ◌≤◌, ◌+◌, ◌-◌, arith, ℕ, zero, suc, Bool, true, false, cond, List, [], ◌∷◌, ◌++◌, length, Option, Some, None, ⊎_elim, is_some, slice_get, slice_set, slice_index_or, refl, sym, ap, subst, ◌∙◌, if◌then◌else◌, ◌||◌}
 use Rattle.std.specs.Prelude.{Vec, filter, ◌==◌, ◌&&◌, ◌/◌, ◌%◌}
 use Rattle.std.specs.Global.{Global}
-use Rattle.std.specs.List.{AllByRecursion, IsDistinct, list_any}
+use Rattle.std.specs.List.{IsDistinct, list_any}
 use Rattle.std.specs.Map.{keys_of, lookup, set_value}
 use Rattle.std.specs.Ordering.{eq_by_cmp}
 use Rattle.std.proofs.lemmas.Bool.{and_parts, cases_lt, eq-eqb, eqb-true, false≢true, or_parts}
+use Rattle.std.proofs.lemmas.List.{get_or-set_same}
 use Rattle.std.proofs.lemmas.List.Sums.{count_by-le-length, length-filter}
-use Rattle.std.proofs.lemmas.Map.{keys-set_value, lookup-set_value}
+use Rattle.std.proofs.lemmas.Map.{keys-set_value}
 use Rattle.std.proofs.lemmas.Map.Entries.{length-keys_of, lookup-filter-keys}
-use Rattle.std.proofs.lemmas.Map.Keys.{IsDistinct-head, IsDistinct-push, IsDistinct-tail}
+use Rattle.std.proofs.lemmas.Map.Keys.{IsDistinct-push, IsDistinct-tail}
 use Rattle.std.proofs.lemmas.Map.Made.{IsDistinct-keys_filter}
 use Rattle.std.proofs.lemmas.Option.{slice_get-get_or}
+use Rattle.indexmap.specs.IndexMap.{set_value_at}
 use Rattle.fisca_time.specs.Period.{span_cmp}
-use Rattle.fisca_typing.specs.Tables.{otherwise}
 use Rattle.fisca_inputs.specs.contracts.key.KeyEq.TheImpl.Laws.{laws-law}
 use Rattle.fisca_inputs.specs.Anew.{set_keys}
 use Rattle.fisca_inputs.specs.Entries.{Entries, has, same_key, value_at}
-use Rattle.fisca_inputs.specs.Places.{AreNumbered, AreOnce, Pages, StandsAt, number_at, number_in, number_of, numbered_from, page_key}
+use Rattle.fisca_inputs.specs.Places.{AreNumbered, AreOccupied, AreOnce, Pages, StandsAt, number_at, number_in, number_of, numbered_from, page_key}
 use Rattle.fisca_inputs.specs.declared.given.Value.{Value}
 use Rattle.fisca_inputs.specs.declared.key.Key.{Key}
 use Rattle.fisca_inputs.proofs.Anew.{set_nowhere, set_once}
-use Rattle.fisca_inputs.proofs.Looked.{lookup-behind}
+use Rattle.fisca_inputs.proofs.Noted.{not_first, set_seen, set_there, stands}
 
 -- Which keys have a value hangs on the keys alone.
 
@@ -41,16 +42,11 @@ same_has es fs same k = has_keys es k ∙ ap (list_any (same_key k)) same ∙ sy
 pub stands_here : (es : Entries) (k : Key) (i : ℕ) (e : Key × Value) → i < length es → e ≡ slice_index_or es i e → same_key k e.0 ≡ true → StandsAt es k i
 stands_here es k i e within is same = record { own = e.0; value = e.1; there = slice_get-get_or es i e within ∙ ap (λ x. Some x) (sym is); same = same }
 
-all_there : (P : Key → Type 0) (es : Entries) (i : ℕ) (own : Key) (value : Value) → AllByRecursion P (keys_of es) → slice_get es i ≡ Some (own, value) → P own
-all_there P [] i own value all there = cc
-all_there P (e ∷ es) zero own value all there = let same : e ≡ (own, value) = cc in subst P (ap (λ (x : Key × Value). x.0) same) all.0
-all_there P (e ∷ es) (suc i) own value all there = all_there P es i own value all.1 there
-
--- no earlier entry is of the key
-not_first : (k own : Key) (value : Value) (e : Key × Value) (es : Entries) (i : ℕ) → AreOnce (e ∷ es) → slice_get es i ≡ Some (own, value) → same_key k own ≡ true → same_key k e.0 ≡ false
-not_first k own value e es i once there same =
-    let apart : same_key e.0 own ≡ false = all_there (λ y. same_key e.0 y ≡ false) es i own value (IsDistinct-head same_key e.0 (keys_of es) once) there in
-    laws-law.congr k own e.0 same ∙ (laws-law.symm own e.0 ∙ apart)
+-- the key of the entry stands there
+key_stands : (es : Entries) (k : Key) (i : ℕ) (own : Key) (value : Value) → slice_get es i ≡ Some (own, value) → same_key k own ≡ true → stands k es i ≡ true
+key_stands [] k i own value there same = cc
+key_stands (e ∷ es) k zero own value there same = let own_entry : e ≡ (own, value) = cc in ap (λ (x : Key × Value). same_key k x.0) own_entry ∙ same
+key_stands (e ∷ es) k (suc i) own value there same = key_stands es k i own value there same
 
 pub value_stands : (es : Entries) (k : Key) (i : ℕ) (own : Key) (value : Value) → AreOnce es → slice_get es i ≡ Some (own, value) → same_key k own ≡ true → value_at es k ≡ Some value
 value_stands [] k i own value once there same = cc
@@ -58,7 +54,7 @@ value_stands (e ∷ es) k zero own value once there same =
     let own_entry : e ≡ (own, value) = cc in
     ap (λ (x : Key × Value). cond (same_key k x.0) (Some x.1) (value_at es k)) own_entry ∙ ap (λ b. cond b (Some value) (value_at es k)) same
 value_stands (e ∷ es) k (suc i) own value once there same =
-    ap (λ b. cond b (Some e.1) (value_at es k)) (not_first k own value e es i once there same)
+    ap (λ b. cond b (Some e.1) (value_at es k)) (not_first k e es i once (key_stands es k i own value there same))
     ∙ value_stands es k i own value (IsDistinct-tail same_key e.0 (keys_of es) once) there same
 
 pub value_here : (es : Entries) (k : Key) (i : ℕ) (e : Key × Value) → AreOnce es → StandsAt es k i → e ≡ slice_index_or es i e → i < length es → value_at es k ≡ Some e.1
@@ -84,21 +80,15 @@ has_stands es k i stands = has_at es k i stands.own stands.value stands.there st
 pub has_own : (es : Entries) (i : ℕ) (e : Key × Value) → i < length es → e ≡ slice_index_or es i e → has es e.0 ≡ true
 has_own es i e within is = has_stands es e.0 i (stands_here es e.0 i e within is (laws-law.refl e.0))
 
--- a value is set at the key's place
-pub set_stands : (es : Entries) (k : Key) (x : Value) (i : ℕ) (own : Key) (value : Value) (e : Key × Value) → AreOnce es → slice_get es i ≡ Some (own, value) → same_key k own ≡ true → e ≡ slice_index_or es i e
-    → slice_set es i (e.0, x) ≡ set_value (same_key k) es x
-set_stands [] k x i own value e once there same is = cc
-set_stands (f ∷ es) k x zero own value e once there same is =
-    let own_entry : f ≡ (own, value) = cc in
-    let on : same_key k f.0 ≡ true = ap (λ (y : Key × Value). same_key k y.0) own_entry ∙ same in
-    ap (λ (y : Key × Value). (y.0, x) ∷ es) is ∙ sym (ap (λ b. cond b ((f.0, x) ∷ es) (f ∷ set_value (same_key k) es x)) on)
-set_stands (f ∷ es) k x (suc i) own value e once there same is =
-    ap (λ fs. f ∷ fs) (set_stands es k x i own value e (IsDistinct-tail same_key f.0 (keys_of es) once) there same is)
-    ∙ sym (ap (λ b. cond b ((f.0, x) ∷ es) (f ∷ set_value (same_key k) es x)) (not_first k own value f es i once there same))
+-- the value of an entry is set at its place
+set_at : (es : Entries) (x : Value) (i : ℕ) (e : Key × Value) → e ≡ slice_index_or es i e → slice_set es i (e.0, x) ≡ set_value_at es i x
+set_at [] x i e is = refl
+set_at (f ∷ es) x zero e is = ap (λ (y : Key × Value). (y.0, x) ∷ es) is
+set_at (f ∷ es) x (suc i) e is = ap (λ fs. f ∷ fs) (set_at es x i e is)
 
-module _ (es : Entries) (k : Key) (x : Value) (i : ℕ) (e : Key × Value) (once : AreOnce es) (stands : StandsAt es k i) (is : e ≡ slice_index_or es i e) where
+module _ (es : Entries) (k : Key) (x : Value) (i : ℕ) (e : Key × Value) (once : AreOnce es) (found : StandsAt es k i) (is : e ≡ slice_index_or es i e) where
   set_so : slice_set es i (e.0, x) ≡ set_value (same_key k) es x
-  set_so = set_stands es k x i stands.own stands.value e once stands.there stands.same is
+  set_so = set_at es x i e is ∙ set_there k x es i once (key_stands es k i found.own found.value found.there found.same)
 
   pub set_here : slice_set es i (e.0, x) ≡ set_keys (k ∷ []) x es
   set_here = set_so ∙ set_once k x es once
@@ -108,6 +98,9 @@ module _ (es : Entries) (k : Key) (x : Value) (i : ℕ) (e : Key × Value) (once
 
   pub set_keeps_once : AreOnce (slice_set es i (e.0, x))
   set_keeps_once = subst (IsDistinct same_key) (sym same_keys) once
+
+  pub set_keeps_occupied : (occupied : List Bool) → AreOccupied occupied es → AreOccupied occupied (slice_set es i (e.0, x))
+  set_keeps_occupied occupied kept q there = kept q (sym (same_has (slice_set es i (e.0, x)) es same_keys q) ∙ there)
 
   pub set_keeps_numbers : (pages : Pages) → AreNumbered pages es → AreNumbered pages (slice_set es i (e.0, x))
   set_keeps_numbers pages numbered q = numbered q ∙ ap (λ ks. numbered_from 1 ks q) (sym same_keys)
@@ -185,10 +178,46 @@ stands_numbered n (e ∷ es) k zero own value once there same =
     ap (λ (x : Key × Value). if same_key k x.0 then n else numbered_from (suc n) (keys_of es) k) own_entry
     ∙ (ap (λ b. if b then n else numbered_from (suc n) (keys_of es) k) same ∙ omega arith)
 stands_numbered n (e ∷ es) k (suc i) own value once there same =
-    ap (λ b. if b then n else numbered_from (suc n) (keys_of es) k) (not_first k own value e es i once there same)
+    ap (λ b. if b then n else numbered_from (suc n) (keys_of es) k) (not_first k e es i once (key_stands es k i own value there same))
     ∙ (stands_numbered (suc n) es k i own value (IsDistinct-tail same_key e.0 (keys_of es) once) there same ∙ omega arith)
 
+-- Slots of variables
+
+pub key_parts : (q k : Key) → same_key q k ≡ true → (q.variable ≡ k.variable) × (q.member ≡ k.member) × (eq_by_cmp span_cmp q.period k.period ≡ true)
+key_parts q k h =
+    let one = and_parts (q.variable == k.variable) ((q.member == k.member) && eq_by_cmp span_cmp q.period k.period) h in
+    let two = and_parts (q.member == k.member) (eq_by_cmp span_cmp q.period k.period) one.1 in
+    (eqb-true q.variable k.variable one.0, eqb-true q.member k.member two.0, two.1)
+
+-- a key has no entry where no variable of its slot has one
+pub slot_free : (occupied : List Bool) (es : Entries) (k : Key) → AreOccupied occupied es → slice_index_or occupied (k.variable % 256) false ≡ false → has es k ≡ false
+slot_free occupied es k kept free = by (has es k) refl
+  where
+    by : (b : Bool) → has es k ≡ b → has es k ≡ false
+    by true there = absurd (false≢true (sym free ∙ kept k there))
+    by false none = none
+
+still_occupied : (occupied : List Bool) (slot other : ℕ) → slice_index_or occupied slot false ≡ true → slice_index_or (slice_set occupied other true) slot false ≡ true
+still_occupied [] slot other h = h
+still_occupied (o ∷ occupied) zero zero h = refl
+still_occupied (o ∷ occupied) zero (suc other) h = h
+still_occupied (o ∷ occupied) (suc slot) zero h = h
+still_occupied (o ∷ occupied) (suc slot) (suc other) h = still_occupied occupied slot other h
+
 -- One entry more
+
+has_behind : (es : Entries) (key : Key) (x : Value) (k : Key) → has (es ++ (key, x) ∷ []) k ≡ (has es k || same_key k key)
+has_behind [] key x k = by (same_key k key)
+  where
+    by : (b : Bool) → is_some (cond b (Some x) None) ≡ b
+    by true = refl
+    by false = refl
+has_behind (e ∷ es) key x k = by (same_key k e.0) (has_behind es key x k)
+  where
+    by : (b : Bool) → has (es ++ (key, x) ∷ []) k ≡ (has es k || same_key k key)
+        → is_some (cond b (Some e.1) (value_at (es ++ (key, x) ∷ []) k)) ≡ (is_some (cond b (Some e.1) (value_at es k)) || same_key k key)
+    by true rest = refl
+    by false rest = rest
 
 keys_behind : (es : Entries) (k : Key) (x : Value) → keys_of (es ++ (k, x) ∷ []) ≡ keys_of es ++ k ∷ []
 keys_behind [] k x = refl
@@ -198,6 +227,16 @@ module _ (es new : Entries) (key : Key) (x : Value) (free : has es key ≡ false
   pub behind_once : AreOnce es → AreOnce new
   behind_once once =
       subst (IsDistinct same_key) (sym (ap keys_of is ∙ keys_behind es key x)) (IsDistinct-push laws-law (keys_of es) key once (sym (has_keys es key) ∙ free))
+
+  pub behind_occupied : (occupied : List Bool) (slot : ℕ) → slot ≡ key.variable % 256 → slot < length occupied → AreOccupied occupied es → AreOccupied (slice_set occupied slot true) new
+  behind_occupied occupied slot own within kept k there = by (has es k) refl (same_key k key) refl (sym (ap (λ fs. has fs k) is ∙ has_behind es key x k) ∙ there)
+    where
+      by : (a : Bool) → has es k ≡ a → (b : Bool) → same_key k key ≡ b → (a || b) ≡ true → slice_index_or (slice_set occupied slot true) (k.variable % 256) false ≡ true
+      by true before b e h = still_occupied occupied (k.variable % 256) slot (kept k before)
+      by false none true same h =
+          let at : slot ≡ k.variable % 256 = own ∙ ap (λ v. v % 256) (sym (key_parts k key same).0) in
+          subst (λ s. slice_index_or (slice_set occupied slot true) s false ≡ true) at (get_or-set_same occupied slot true false within)
+      by false none false other h = absurd (false≢true h)
 
   pub behind_numbered : (old pages : Pages) (number : ℕ) → number ≡ suc (length es) → AreNumbered old es
       → ((k : Key) → number_of pages k ≡ (if same_key k key then number else number_of old k)) → AreNumbered pages new
@@ -212,12 +251,6 @@ module _ (es new : Entries) (key : Key) (x : Value) (free : has es key ≡ false
       by false = numbered k
 
 -- The entries and the numbers of some variables are taken out
-
-pub key_parts : (q k : Key) → same_key q k ≡ true → (q.variable ≡ k.variable) × (q.member ≡ k.member) × (eq_by_cmp span_cmp q.period k.period ≡ true)
-key_parts q k h =
-    let one = and_parts (q.variable == k.variable) ((q.member == k.member) && eq_by_cmp span_cmp q.period k.period) h in
-    let two = and_parts (q.member == k.member) (eq_by_cmp span_cmp q.period k.period) one.1 in
-    (eqb-true q.variable k.variable one.0, eqb-true q.member k.member two.0, two.1)
 
 -- where none is taken out all stay
 all_stay : (stays : Key × Value → Bool) (es : Entries) → length es ≤ length (filter stays es) → filter stays es ≡ es
@@ -239,6 +272,13 @@ module _ (stays : ℕ → Bool) (es new : Entries) (is : new ≡ filter (λ e. s
 
   pub left_fewer : length new ≤ length es
   left_fewer = omega (arith, ap length is, length-filter (λ (e : Key × Value). stays e.0.variable) es, count_by-le-length (λ (e : Key × Value). stays e.0.variable) es)
+
+  pub left_occupied : (occupied : List Bool) → AreOccupied occupied es → AreOccupied occupied new
+  left_occupied occupied kept k there = kept k (by (stays k.variable) (sym (ap is_some (ap (λ fs. value_at fs k) is ∙ left_of stays k es)) ∙ there))
+    where
+      by : (b : Bool) → is_some (cond b (value_at es k) None) ≡ true → has es k ≡ true
+      by true had = had
+      by false had = absurd (false≢true had)
 
   -- a key has a number then just where it has an entry
   module _ (old pages : Pages) (left : pages ≡ filter (λ r. stays r.0.variable) old) (numbered : AreNumbered old es) (k : Key) where
@@ -285,12 +325,6 @@ left_numbered stays es new old pages is many left numbered k = by (has new k) re
 lookup_like : {X : Type 0} (q k : Key) → same_key q k ≡ true → (pages : List (Key × X)) → lookup (same_key q) pages ≡ lookup (same_key k) pages
 lookup_like q k same [] = refl
 lookup_like q k same (r ∷ pages) = λ i. cond (laws-law.congr q k r.0 same i) (Some r.1) (lookup_like q k same pages i)
-
-pub cond_if : {X : Type 0} (a b : Bool) (x y : X) → a ≡ b → cond a x y ≡ (if b then x else y)
-cond_if true true x y e = refl
-cond_if true false x y e = absurd (false≢true (sym e))
-cond_if false true x y e = absurd (false≢true e)
-cond_if false false x y e = refl
 
 -- a key is another just where its page is, or its place in the page
 number_split : (m n : ℕ) → (m == n) ≡ ((m / 64 == n / 64) && (m % 64 == n % 64))
@@ -342,9 +376,7 @@ module _ (pages new : Pages) (own : Key) (number : ℕ) (numbers : Vec ℕ Globa
 -- a number is set in the page that is found
 module _ (pages : Pages) (own : Key) (number : ℕ) (old numbers : Vec ℕ Global) (found : Some old ≡ lookup (same_key (page_key own)) pages) where
   set_put : (k : Key) → lookup (same_key k) (set_value (same_key (page_key own)) pages numbers) ≡ (if same_key k (page_key own) then Some numbers else lookup (same_key k) pages)
-  set_put k =
-      lookup-set_value laws-law (same_key (page_key own)) (λ x y same. laws-law.congr (page_key own) x y same) k numbers pages (ap is_some (sym found))
-      ∙ cond_if (same_key (page_key own) k) (same_key k (page_key own)) (Some numbers) (lookup (same_key k) pages) (laws-law.symm (page_key own) k)
+  set_put = set_seen (page_key own) numbers pages (ap is_some (sym found))
 
   pub page_set : ((m : ℕ) → number_at numbers.items m ≡ (if m == own.member % 64 then number else number_at old.items m))
       → (k : Key) → number_of (set_value (same_key (page_key own)) pages numbers) k ≡ (if same_key k own then number else number_of pages k)

@@ -1,10 +1,10 @@
 -- Where the values of keys stand: for each variable and period numbers of members, in pages of 64, each one more than the place of the entry.
 use Rattle.std.specs.Global.{Global}
-use Rattle.std.specs.Prelude.{◌≡◌, ℕ, suc, ◌/◌, ◌%◌, Vec, if◌then◌else◌, true, List, [], ◌∷◌, Option, Some, None, slice_get}
+use Rattle.std.specs.Prelude.{◌≡◌, ℕ, suc, ◌/◌, ◌%◌, Vec, if◌then◌else◌, true, false, Bool, List, [], ◌∷◌, Option, Some, None, slice_get, slice_index_or}
 use Rattle.std.specs.List.{IsDistinct}
 use Rattle.std.specs.Map.{keys_of, lookup}
 use Rattle.std.specs.Option.{unwrap_or}
-use Rattle.fisca_inputs.specs.Entries.{Entries, key, same_key}
+use Rattle.fisca_inputs.specs.Entries.{Entries, has, key, same_key}
 use Rattle.fisca_inputs.specs.declared.given.Value.{Value}
 use Rattle.fisca_inputs.specs.declared.key.Key.{Key}
 
@@ -36,8 +36,12 @@ numbered_from n (q ∷ qs) k = if same_key k q then n else numbered_from (suc n)
 abbrev pub AreNumbered : Pages → Entries → Type 0
 AreNumbered pages es = (k : Key) → number_of pages k ≡ numbered_from 1 (keys_of es) k
 
+-- the slots of the variables that have entries are occupied
+abbrev pub AreOccupied : List Bool → Entries → Type 0
+AreOccupied occupied es = (k : Key) → has es k ≡ true → slice_index_or occupied (k.variable % 256) false ≡ true
+
 -- no key stands twice
-abbrev pub AreOnce : Entries → Type 0
+abbrev pub AreOnce : {X : Type 0} → List (Key × X) → Type 0
 AreOnce es = IsDistinct same_key (keys_of es)
 
 -- the key's entry stands at this place

@@ -21,6 +21,6 @@ pub use fault::{SituationFault, SituationKind};
 pub use fisca_hashes::KeyHasher;
 pub use given::{Given, GivenInputs, Value};
 pub use inputs::Inputs;
-pub use key::Key;
+pub use key::{Key, NOTES};
 pub use law::{defaults_stand_beside, shares_add_up};
 pub use periods::{fits, key_period, takes};

@@ -7,12 +7,12 @@ ghost use Rattle.std.proofs.Props.{props};
 ghost use Rattle.fisca_inputs.specs.Entries as spec;
 ghost use Rattle.fisca_inputs.specs.Anew.{set_keys};
 ghost use Rattle.fisca_inputs.specs.Inputs.{is_marked as is_marked_at, without_marked};
-ghost use Rattle.fisca_inputs.specs.Places.{AreNumbered, AreOnce, StandsAt, number_at, number_of, page_key};
+ghost use Rattle.fisca_inputs.specs.Places.{AreNumbered, AreOccupied, AreOnce, StandsAt, number_at, number_of, page_key};
 ghost use Rattle.fisca_inputs.specs.declared.key.Key as declared;
 
 use crate::given::Value;
 use crate::hashed::Pages;
-use crate::key::Key;
+use crate::key::{Key, NOTES};
 use indexmap::IndexMap;
 use std::alloc::{AllocError, Global};
 use std::hash::BuildHasherDefault;
@@ -23,8 +23,8 @@ const PAGE: u32 = 64;
 /// For how many of them there is room at once.
 const ROOM: usize = 8;
 
-/// Of how many keys it is noted where they stand, which were given another value last.
-const NOTES: usize = 64;
+/// How many slots there are, which variables share.
+const SLOTS: usize = 256;
 
 /// Keys with their values, in the order in which they came. The number of a key is one more than the place of its entry, and 0 where it has none.
 #[derive(Drop)]
@@ -33,8 +33,12 @@ pub(crate) struct Table {
     pages: Pages,
     /// Where keys may stand that were given another value last: those that an axis moves are looked for again and again.
     noted: [u32; NOTES],
+    /// Whether a variable of the slot may have an entry. Most that are asked for have none, which this tells without a hash.
+    occupied: [bool; SLOTS],
     ghost once: { AreOnce entries.items } by { Prim.hlevel props },
     ghost notes: { length noted ≡ 64 },
+    ghost slots: { length occupied ≡ 256 },
+    ghost own_slots: { AreOccupied occupied entries.items },
     ghost few: { length entries.items < 4_294_967_296 },
     ghost numbered: { AreNumbered pages.entries entries.items },
 }
@@ -71,12 +75,12 @@ fn number(pages: &Pages, key: &Key) -> u32
     }
 }
 
-/// Which note is that of a key.
+/// The slot of the variable of a key.
 #[inline(always)]
-fn note_of(key: &Key) -> usize
-    ensures { result < 64 }
+fn slot_of(key: &Key) -> usize
+    ensures { result ≡ key.now.variable % 256 }
 {
-    key.variable.wrapping_add(key.member as usize) % NOTES
+    key.variable % SLOTS
 }
 
 /// Whether the entry of a key stands at a place.
@@ -92,23 +96,13 @@ fn stands_at(entries: &[(Key, Value)], place: usize, key: &Key) -> bool
 
 /// The number of an entry that comes behind so many. No entry is numbered past `u32::MAX`: as if memory was refused.
 fn number_behind(count: usize) -> Result<u32, AllocError>
-    ensures { IfOk result (λ n. n ≡ suc count) }
+    ensures ok { IfOk result (λ n. n ≡ suc count) }
+    ensures err { OnErr result (4_294_967_295 ≤ count) }
 {
     if count >= u32::MAX as usize {
         return Err(AllocError);
     }
     Ok(count as u32 + 1)
-}
-
-/// Puts zeros behind numbers until there are so many.
-fn fill(numbers: &mut Vec<u32>, count: usize) -> Result<(), AllocError>
-    ensures long { OnOk result (count ≤ length numbers.new.items) }
-    ensures kept { (m : ℕ) → number_at numbers.new.items m ≡ number_at numbers.old.items m }
-{
-    for _more in numbers.len()..count {
-        numbers.push(0)?;
-    }
-    Ok(())
 }
 
 /// Sets the number at this place, and no other.
@@ -125,7 +119,9 @@ fn put_number(numbers: &mut Vec<u32>, place: usize, number: u32) -> Result<(), A
     ensures ok { OnOk result ((m : ℕ) → number_at numbers.new.items m ≡ (if m == place then number else number_at numbers.old.items m)) }
     ensures err { OnErr result ((m : ℕ) → number_at numbers.new.items m ≡ number_at numbers.old.items m) }
 {
-    fill(numbers, place + 1)?;
+    if numbers.len() <= place {
+        numbers.resize(place + 1, 0)?;
+    }
     set_number(numbers, place, number);
     Ok(())
 }
@@ -226,6 +222,7 @@ impl Table {
             entries: Vec::new(alloc),
             pages: IndexMap::with_hasher(alloc, BuildHasherDefault::new()),
             noted: [0; NOTES],
+            occupied: [false; SLOTS],
         }
     }
 
@@ -234,7 +231,10 @@ impl Table {
     fn place(&self, key: &Key) -> Option<usize>
         ensures { MatchOption result (spec.has self.now.entries.items key.now ≡ false) (StandsAt self.now.entries.items key.now) }
     {
-        let noted = self.noted[note_of(key)] as usize;
+        if !self.occupied[slot_of(key)] {
+            return None;
+        }
+        let noted = self.noted[key.note()] as usize;
         if stands_at(self.entries.as_slice(), noted, key) {
             return Some(noted);
         }
@@ -271,7 +271,10 @@ impl Table {
         let number = number_behind(self.entries.len())?;
         self.entries.push((key, value))?;
         match note(&mut self.pages, alloc, &key, number) {
-            Ok(()) => Ok(()),
+            Ok(()) => {
+                self.occupied[slot_of(&key)] = true;
+                Ok(())
+            }
             Err(_) => {
                 let _ = self.entries.pop();
                 Err(AllocError)
@@ -284,7 +287,7 @@ impl Table {
         ensures { self.new.entries.items ≡ set_keys (key.now ∷ []) value self.old.entries.items }
     {
         if let Some(place) = self.place(key) {
-            self.noted[note_of(key)] = place as u32;
+            self.noted[key.note()] = place as u32;
             self.entries[place].1 = value;
         }
     }

@@ -2,6 +2,7 @@
 use Rattle.std.proofs.Common.{◌≡◌, rules, ap, ◌∙◌, Box, Global}
 use Rattle.fisca_expressions.specs.declared.tree.Comparison.{Comparison}
 use Rattle.fisca_nodes.specs.Views.{node}
+use Rattle.fisca_nodes.specs.declared.node.Ask.{Ask}
 use Rattle.fisca_nodes.specs.declared.node.Node.{Node, the_lemmas}
 use Rattle.fisca_nodes.specs.declared.node.Node.TheVariants as held
 use Rattle.fisca_nodes.specs.declared.node.Pair.{Pair}
@@ -37,3 +38,6 @@ parameter_seen e x is = ap node is ∙ search (the_lemmas, rules)
 
 pub scale_seen : (e : Node) (x : Box ScaleSum Global) → e ≡ held.ScaleSum x → node e ≡ spec.scale_sum x.value.place x.value.moves.items (node x.value.base)
 scale_seen e x is = ap node is ∙ search (the_lemmas, rules)
+
+pub ask_seen : (e : Node) (x : Box Ask Global) → e ≡ held.Ask x → node e ≡ spec.ask x.value.variable x.value.whom x.value.asking x.value.moves.items
+ask_seen e x is = ap node is ∙ search (the_lemmas, rules)

@@ -1,5 +1,5 @@
 -- What a local says: its node, over the locals before it.
-use Rattle.std.proofs.Common.{◌≡◌, ℕ, zero, suc, ◌+◌, ◌<◌, ◌≤◌, List, Some, None, eq-eqb, ne_eqb, refl, sym, subst, arith, ⊎_elim, slice_get}
+use Rattle.std.proofs.Common.{◌≡◌, ℕ, zero, suc, ◌<◌, ◌≤◌, List, Some, None, eq-eqb, ne_eqb, refl, sym, subst, arith, ⊎_elim, slice_get}
 use Rattle.std.proofs.lemmas.Bool.{cases_eq}
 use Rattle.fisca_meaning.specs.Dialogues.{stuck}
 use Rattle.fisca_meaning.specs.Questions.{Groups, Point}

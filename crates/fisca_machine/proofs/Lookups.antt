@@ -1,5 +1,5 @@
 -- What is looked up.
-use Rattle.std.proofs.Common.{◌≡◌, ℕ, List, Option, Some, None, map, slice_get, ap, ◌∙◌, option_map}
+use Rattle.std.proofs.Common.{◌≡◌, ℕ, List, map, slice_get, option_map}
 use Rattle.std.proofs.lemmas.Option.{slice_get-map}
 
 pub variable_there : {A B : Type 0} (v : A → B) (xs : List A) (k : ℕ) → slice_get (map v xs) k ≡ option_map v (slice_get xs k)

@@ -1,3 +1,4 @@
+pub mod Plans
 pub mod Running
 pub mod Weights
 pub mod World

@@ -1,7 +1,6 @@
 -- What a machine has still to do, told with what comes after it.
 use Rattle.std.specs.Prelude.{◌≡◌, ℕ, zero, suc, ◌+◌, ◌*◌, ◌==◌, if◌then◌else◌, List, [], ◌∷◌, drop, slice_get, length, Option, Some, None}
 use Rattle.fisca_inputs.specs.Seen.{key_seen, value_seen}
-use Rattle.fisca_inputs.specs.declared.given.Value.{Value as Given}
 use Rattle.fisca_meaning.specs.Answers.{arithmetic_of, logic_of, comparison_of, same_of, negative_of, not_of}
 use Rattle.fisca_meaning.specs.Dialogues.{Value, Dialogue, number, bool, member, gives, fails, stuck, asks, ◌>>=◌, with_number, with_member, computed, no_member}
 use Rattle.fisca_meaning.specs.Meaning.{at_person, at_place, chosen, parameter_value, scale_value}

@@ -95,6 +95,7 @@ pub(crate) fn date_part(part: DatePart, moves: &[Move], period: Period) -> Resul
 }
 
 /// What is made of two values.
+#[inline(always)]
 pub(crate) fn applied(operation: Operation, left: Value, right: Value) -> Result<Value, Fault>
     requires { IsMoving (applies operation (value_seen left) (value_seen right)) }
     ensures { ended result ≡ applies operation (value_seen left) (value_seen right) }

@@ -8,10 +8,14 @@ mod found;
 mod machine;
 mod parameters;
 mod pending;
+mod plan;
+mod progress;
 mod stack;
 mod totals;
 mod world;
 
 pub use machine::{Control, Machine, Step};
 pub use pending::{At, Frame};
+pub use plan::{Plan, plan_of};
+pub use progress::{Progress, Stop};
 pub use world::World;

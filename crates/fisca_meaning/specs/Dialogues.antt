@@ -33,6 +33,7 @@ pub data Dialogue : Type 0 where
   -- an operand of a wrong type or level, a name that stands for nothing, or a member that is not there
   stuck : Dialogue
   asks : Key → (Value → Dialogue) → Dialogue
+  deriving IsSet as Dialogue-set
 
 infixl 20 ◌>>=◌
 abbrev pub ◌>>=◌ : Dialogue → (Value → Dialogue) → Dialogue

@@ -11,12 +11,12 @@ pub mod Marked
 pub mod Memories
 pub mod Months
 pub mod Normal
-pub mod Noted
 pub mod OfFiles
 pub mod OfPositions
 pub mod Outcomes
 pub mod Parts
 pub mod Placed
+pub mod Planning
 pub mod Positions
 pub mod Reading
 pub mod Recalls

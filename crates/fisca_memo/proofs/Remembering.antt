@@ -6,7 +6,6 @@ use Rattle.fisca_answers.specs.Inquiry.{Fault, of_key}
 use Rattle.fisca_answers.specs.Keys.{has}
 use Rattle.fisca_answers.specs.Stacks.{left_below, ends_below}
 use Rattle.fisca_answers.proofs.Below.{below_formula}
-use Rattle.fisca_formula.specs.declared.formula.Formula.{Formula}
 use Rattle.fisca_heights.specs.Added.{AreAdded}
 use Rattle.fisca_heights.specs.Entries.{Entry, Entries, Remembered, with_entry}
 use Rattle.fisca_heights.specs.Memory.{HasFormula, IsKnown, IsTrueMemory}
@@ -21,13 +20,12 @@ use Rattle.fisca_meaning.specs.Dialogues as meaning
 use Rattle.fisca_memo.specs.Counted.{with_kept, with_lost}
 use Rattle.fisca_memo.specs.declared.counts.Counts.{Counts}
 use Rattle.fisca_memo.specs.declared.known.Known.{Known}
-use Rattle.fisca_tables.specs.declared.variable.Variable.{Variable}
 use Rattle.fisca_eval.specs.Faults.{IsTold}
 use Rattle.fisca_eval.proofs.Steps.{one_behind}
 use Rattle.fisca_memo.proofs.Risen.{counted_entry, counted_on}
 use Rattle.fisca_memo.specs.Counting.{IsCounted}
 use Rattle.fisca_memo.specs.Recalled.{HasPassed, HasPassedTo, IfTold, IsDoneAt, IsDoneBelow, IsKnownAt, IsKnownBelow, IsStack, IsWorking, work_at, work_below}
-use Rattle.fisca_memo.specs.Scenes.{sources_in, wanted, wanted_of_work, work}
+use Rattle.fisca_memo.specs.Scenes.{sources_in, wanted, wanted_of_work}
 use Rattle.fisca_memo.specs.Scenes as scenes
 use Rattle.fisca_memo.specs.declared.scene.Scene.{Scene}
 
@@ -66,9 +64,9 @@ module _ (s : Scene) (keys : List Key) (key : Key) where
     pub popped_done : (m : Entries) (o : Option Fault) → IfTold o (IsDoneAt (sources_in s) m (keys ++ key ∷ []) key) → IfTold o (IsDoneBelow (sources_in s) m keys key)
     popped_done m o h = subst (λ n. IfTold o ((k : meaning.Key) → IsWork (sources_in s) n (key_seen key) k → Remembered m k)) left_so h
 
-    pub popped_fault : (v : Variable) (f : Formula) → scenes.IsWork s v f key → (o : Option Fault) → IsTold o (wanted_of_work s (keys ++ key ∷ []) v f key) → IsTold o (wanted s keys key)
-    popped_fault v f is o h =
-        let whole = of_key (key_seen key) (work s v f key) in
+    pub popped_fault : (d : meaning.Dialogue) → scenes.IsWork s d key → (o : Option Fault) → IsTold o (wanted_of_work s (keys ++ key ∷ []) d key) → IsTold o (wanted s keys key)
+    popped_fault d is o h =
+        let whole = of_key (key_seen key) d in
         let fits : length (map key_seen keys) < 100 = omega (arith, length-map keys key_seen, room) in
         subst (IsTold o)
         (ap (λ ks. ends_below (sources_in s) ks (key_seen key) whole) (one_behind key_seen keys key)

@@ -51,12 +51,13 @@ module _ (s : Scene) (v : Variable) (f : Formula) (key : Key) where
   pub begins : IsScene s → before (formula_means (tables s.world) (groups s.world) (formula_view f) (start_point (written v) (key_seen key))) (cast v.value_type) ≡ work s v f key
   begins is = λ i. before (formula_means (is.tables i) (is.groups i) (formula_view f) (start_point (written v) (key_seen key))) (cast v.value_type)
 
-  pub nothing_asked : (n : ℕ) (r : Dialogue) (P : meaning.Key → Type 0) → r ≡ work s v f key → IsGathered (sources_in s) n (of_key (key_seen key) (work s v f key)) (of_key (key_seen key) r) 0 P
-  nothing_asked n r P e = gathered_none (sources_in s) n (of_key (key_seen key) (work s v f key)) (of_key (key_seen key) r) P (ap (of_key (key_seen key)) (sym e))
+-- nothing of it was asked so far
+pub nothing_asked : (s : Scene) (d : Dialogue) (key : Key) (n : ℕ) (r : Dialogue) (P : meaning.Key → Type 0) → r ≡ d → IsGathered (sources_in s) n (of_key (key_seen key) d) (of_key (key_seen key) r) 0 P
+nothing_asked s d key n r P e = gathered_none (sources_in s) n (of_key (key_seen key) d) (of_key (key_seen key) r) P (ap (of_key (key_seen key)) (sym e))
 
 -- of the formula's dialogue r is left
-module _ (s : Scene) (v : Variable) (f : Formula) (key : Key) (keys : List Key) (r : Dialogue) (tallest : ℕ) (M : meaning.Key → Type 0) (is : scenes.IsWork s v f key)
-    (g : IsGathered (sources_in s) (left_below (map key_seen keys)) (of_key (key_seen key) (work s v f key)) (of_key (key_seen key) r) tallest (Covered (sources_in s) M)) where
+module _ (s : Scene) (d : Dialogue) (key : Key) (keys : List Key) (r : Dialogue) (tallest : ℕ) (M : meaning.Key → Type 0) (is : scenes.IsWork s d key)
+    (g : IsGathered (sources_in s) (left_below (map key_seen keys)) (of_key (key_seen key) d) (of_key (key_seen key) r) tallest (Covered (sources_in s) M)) where
   abbrev src : Sources
   src = sources_in s
 
@@ -67,7 +68,7 @@ module _ (s : Scene) (v : Variable) (f : Formula) (key : Key) (keys : List Key) 
   k = key_seen key
 
   abbrev q : Inquiry
-  q = of_key k (work s v f key)
+  q = of_key k d
 
   abbrev now : Inquiry
   now = of_key k r
@@ -82,7 +83,7 @@ module _ (s : Scene) (v : Variable) (f : Formula) (key : Key) (keys : List Key) 
 
   -- it fails
   module _ (x : meaning.Fault) (e : r ≡ meaning.fails x) where
-    pub failed_fault : (o : Option Fault) → o ≡ Some (named (key_seen key) x) → IsTold o (wanted_of_work s keys v f key)
+    pub failed_fault : (o : Option Fault) → o ≡ Some (named (key_seen key) x) → IsTold o (wanted_of_work s keys d key)
     failed_fault o t = is_told o (named k x) _ t (worked_fault src stack k q now tallest M is.source g (named k x) (ap (of_key k) e))
 
     pub failed_done : (o : Option Fault) → IfTold o ((i : meaning.Key) → work_at (sources_in s) keys key i → M i)
@@ -106,8 +107,8 @@ module _ (s : Scene) (v : Variable) (f : Formula) (key : Key) (keys : List Key) 
     pub next_passed : IsWorking (sources_in s) keys key → PassedPath (sources_in s) M (map key_seen keys) → PassedPath (sources_in s) M (map key_seen keys ++ key_seen j ∷ [])
     next_passed w p = needs_passed src stack k q now tallest M is.source g (key_seen j) then_left asks_so w p
 
-    pub next_fault : IsWorking (sources_in s) keys key → (o : Option Fault) → IsTold o (wanted s keys j) → IsTold o (wanted_of_work s keys v f key)
-    next_fault w o t = told_on o (wanted s keys j) (wanted_of_work s keys v f key) (needed_fault src stack k q now tallest M is.source g (key_seen j) then_left asks_so w) t
+    pub next_fault : IsWorking (sources_in s) keys key → (o : Option Fault) → IsTold o (wanted s keys j) → IsTold o (wanted_of_work s keys d key)
+    next_fault w o t = told_on o (wanted s keys j) (wanted_of_work s keys d key) (needed_fault src stack k q now tallest M is.source g (key_seen j) then_left asks_so w) t
 
     pub next_work : (i : meaning.Key) → work_below (sources_in s) keys j i → work_at (sources_in s) keys key i
     next_work i w = needs_work src stack k q now tallest M is.source g (key_seen j) then_left asks_so i w
@@ -122,7 +123,7 @@ module _ (s : Scene) (v : Variable) (f : Formula) (key : Key) (keys : List Key) 
     -- one more answer
     module _ (x : Known) (known : IsKnownBelow (sources_in s) keys j x) where
       pub next_more : (M' : meaning.Key → Type 0) → ((i : meaning.Key) → M i → M' i) → Covered (sources_in s) M' (key_seen j)
-          → IsGathered (sources_in s) (left_below (map key_seen keys)) (of_key (key_seen key) (work s v f key)) (of_key (key_seen key) (go (value_seen x.value))) (max tallest x.height) (Covered (sources_in s) M')
+          → IsGathered (sources_in s) (left_below (map key_seen keys)) (of_key (key_seen key) d) (of_key (key_seen key) (go (value_seen x.value))) (max tallest x.height) (Covered (sources_in s) M')
       next_more M' up c = needed_more src stack k q now tallest M is.source g (key_seen j) then_left asks_so M' up (value_seen x.value) x.height known c
 
       pub next_less : length (asked (value_within (sources_in s) (left_below (map key_seen keys))) (of_key (key_seen key) (go (value_seen x.value))))
@@ -137,10 +138,10 @@ module _ (s : Scene) (v : Variable) (f : Formula) (key : Key) (keys : List Key) 
           asked_so.2 (value_seen x.value) (typed_is_of c (variable_type c j.variable) asked_so.0 (value_seen x.value) asked_so.1 (values_fit c (sources_in s) sound (left_below stack) (key_seen j) (value_seen x.value) known.answers))
 
 -- of the formula's dialogue r is left, and all that was asked for so far reads just these wheels
-module _ (s : Scene) (v : Variable) (f : Formula) (key : Key) (keys : List Key) (r : Dialogue) (tallest reads : ℕ) (is : scenes.IsWork s v f key)
-    (g : IsGathered (sources_in s) (left_below (map key_seen keys)) (of_key (key_seen key) (work s v f key)) (of_key (key_seen key) r) tallest
+module _ (s : Scene) (d : Dialogue) (key : Key) (keys : List Key) (r : Dialogue) (tallest reads : ℕ) (is : scenes.IsWork s d key)
+    (g : IsGathered (sources_in s) (left_below (map key_seen keys)) (of_key (key_seen key) d) (of_key (key_seen key) r) tallest
     (ReadsWithin (marks_in s) (sources_in s) (left_below (map key_seen keys)) reads))
-    (read : AreRead (marks_in s) (sources_in s) (left_below (map key_seen keys)) (of_key (key_seen key) (work s v f key)) reads) where
+    (read : AreRead (marks_in s) (sources_in s) (left_below (map key_seen keys)) (of_key (key_seen key) d) reads) where
   abbrev fuel : ℕ
   fuel = left_below (map key_seen keys)
 
@@ -148,7 +149,7 @@ module _ (s : Scene) (v : Variable) (f : Formula) (key : Key) (keys : List Key) 
   own = key_seen key
 
   abbrev whole : Inquiry
-  whole = of_key (key_seen key) (work s v f key)
+  whole = of_key (key_seen key) d
 
   -- it gives a value
   pub done_read : (x : Given) → r ≡ meaning.gives (value_seen x) → IsReads (marks_in s) (sources_in s) (key_seen key) (bit_or reads (marks_in s (key_seen key)))
@@ -159,9 +160,9 @@ module _ (s : Scene) (v : Variable) (f : Formula) (key : Key) (keys : List Key) 
     abbrev then_left_of : Value → Inquiry
     then_left_of = λ y. of_key own (go y)
 
-    pub next_reading : IsGathered (sources_in s) (left_below (map key_seen keys)) (of_key (key_seen key) (work s v f key)) (of_key (key_seen key) (go (value_seen x.value))) (max tallest x.height)
+    pub next_reading : IsGathered (sources_in s) (left_below (map key_seen keys)) (of_key (key_seen key) d) (of_key (key_seen key) (go (value_seen x.value))) (max tallest x.height)
         (ReadsWithin (marks_in s) (sources_in s) (left_below (map key_seen keys)) (bit_or reads x.reads))
     next_reading = reading_more (marks_in s) (sources_in s) fuel whole (of_key own r) tallest reads g (key_seen j) then_left_of (ap (of_key own) e) (value_seen x.value) x.height x.reads known.answers known.height_is more
 
-    pub next_read : AreRead (marks_in s) (sources_in s) (left_below (map key_seen keys)) (of_key (key_seen key) (work s v f key)) (bit_or reads x.reads)
+    pub next_read : AreRead (marks_in s) (sources_in s) (left_below (map key_seen keys)) (of_key (key_seen key) d) (bit_or reads x.reads)
     next_read = read_more (marks_in s) (sources_in s) fuel whole (of_key own r) tallest reads g (key_seen j) then_left_of (ap (of_key own) e) (value_seen x.value) x.height x.reads known.answers known.height_is more read

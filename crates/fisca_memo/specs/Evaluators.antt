@@ -19,7 +19,7 @@ use Rattle.fisca_memo.specs.Recalled.{IsMemory, marks_of}
 use Rattle.fisca_memo.specs.declared.evaluator.Evaluator.{Evaluator}
 
 abbrev pub simulation_of : {R : Type 0} → Evaluator R → Simulation
-simulation_of e = record { rules = rule_set e.rules.now; situation = situation e.situation; neutral = e.neutral.now }
+simulation_of e = record { rules = rule_set e.plans.rules.now; situation = situation e.situation; neutral = e.plans.neutral.now }
 
 -- that of an eternal variable has the eternal period, whatever period is handed in
 abbrev pub own_key : {R : Type 0} → Evaluator R → Key → meaning.Key

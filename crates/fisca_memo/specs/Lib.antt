@@ -1,10 +1,12 @@
 pub mod Asked
+pub mod Codes
 pub mod Counted
 pub mod Counting
 pub mod Evaluators
 pub mod Found
 pub mod Groups
 pub mod Marks
+pub mod Plans
 pub mod Readings
 pub mod Recalled
 pub mod Scenes

@@ -56,15 +56,15 @@ pub record IsScene (s : Scene) : Type 0 where
 abbrev pub work : Scene → Variable → Formula → Key → Dialogue
 work s v f key = simulations.worked_out (seen s).rules (grouped (seen s).situation.members) (written v) (key_seen key) (formula_view f)
 
--- the variable's formula is what the key's value comes from
-pub record IsWork (s : Scene) (v : Variable) (f : Formula) (key : Key) : Type 0 where
-  pub source : sources_in s (key_seen key) ≡ formula (of_key (key_seen key) (work s v f key))
-  pub sound : GivesOnly (known_in s) (IsValueOf (known_in s) key.variable) (work s v f key)
+-- a formula that says this is what the key's value comes from
+pub record IsWork (s : Scene) (d : Dialogue) (key : Key) : Type 0 where
+  pub source : sources_in s (key_seen key) ≡ formula (of_key (key_seen key) d)
+  pub sound : GivesOnly (known_in s) (IsValueOf (known_in s) key.variable) d
 
 -- the answer of a key below others
 abbrev pub wanted : Scene → List Key → Key → Result Value Fault
 wanted s keys key = answer_below (sources_in s) (map key_seen keys) (key_seen key)
 
--- that of the last of these keys, by its formula
-abbrev pub wanted_of_work : Scene → List Key → Variable → Formula → Key → Result Value Fault
-wanted_of_work s keys v f key = ends_below (sources_in s) (map key_seen keys) (key_seen key) (of_key (key_seen key) (work s v f key))
+-- that of the last of these keys, whose formula says this
+abbrev pub wanted_of_work : Scene → List Key → Dialogue → Key → Result Value Fault
+wanted_of_work s keys d key = ends_below (sources_in s) (map key_seen keys) (key_seen key) (of_key (key_seen key) d)

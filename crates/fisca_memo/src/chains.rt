@@ -15,7 +15,8 @@ fn same_owner(left: &Key, right: &Key) -> bool
 }
 
 /// Whether two keys are the same. Their periods are looked at first: keys of one variable and member often stand below one another.
-fn same(left: &Key, right: &Key) -> bool
+#[inline(always)]
+pub(crate) fn same(left: &Key, right: &Key) -> bool
     ensures { result ≡ keys_spec.same_key (key_seen left.now) (key_seen right.now) }
 {
     // what the units say of the periods: each lies in the calendar

@@ -14,16 +14,13 @@ ghost use Rattle.fisca_memo.specs.declared.known.Stamped as stamps;
 use crate::known::{Known, Stamped};
 use crate::recall::Recall;
 use crate::wheels::{has_wheel, is_fresh};
-use fisca_inputs::{Key, KeyHasher};
+use fisca_inputs::{Key, KeyHasher, NOTES};
 use indexmap::IndexMap;
 use std::alloc::{AllocError, Global};
 use std::hash::BuildHasherDefault;
 
 /// What is kept under keys, found by the hash of keys that inputs have.
 type Entries = IndexMap<Key, Stamped, BuildHasherDefault<KeyHasher>>;
-
-/// For how many keys it is noted at once where they stand.
-const NOTES: usize = 64;
 
 /// What is remembered, found by the hashes of keys, with the times at which it was kept, and for each wheel the time at which it turned
 /// last. The clock moves on when a wheel turns, and from then on what was kept and reads the wheel counts for nothing. It is written over
@@ -55,14 +52,6 @@ impl IndexRecall {
             clock: 0,
         }
     }
-}
-
-/// The note of the key. Members that follow one another have notes of their own.
-#[inline(always)]
-fn note_of(key: &Key) -> usize
-    ensures { result < 64 }
-{
-    key.variable.wrapping_add(key.member as usize) % NOTES
 }
 
 /// Whether the key stands at this place.
@@ -150,10 +139,11 @@ impl Recall for IndexRecall {
 
     ghost find = { λ s. found_fresh s.turned_at s.entries.entries };
 
+    #[inline(always)]
     fn look(&self, key: &Key) -> Option<Known> {
         // what its unit says of the period: it lies in the calendar
         let _unit = key.period.unit();
-        let noted = self.noted[note_of(key)] as usize;
+        let noted = self.noted[key.note()] as usize;
         match kept_under(&self.entries, noted, key) {
             None => None,
             Some(stamped) => {
@@ -166,11 +156,12 @@ impl Recall for IndexRecall {
         }
     }
 
+    #[inline(always)]
     fn keep(&mut self, key: Key, known: Known) -> Result<(), AllocError> {
         // what its unit says of the period: it lies in the calendar
         let _unit = key.period.unit();
         let kept_at = self.clock;
-        let note = note_of(&key);
+        let note = key.note();
         let noted = self.noted[note] as usize;
         let place = put_noted(&mut self.entries, noted, key, Stamped { known, kept_at })?;
         self.noted[note] = place.min(u32::MAX as usize) as u32;

@@ -12,6 +12,8 @@ mod known;
 mod law;
 mod list_recall;
 mod marks;
+mod plans;
+mod played;
 mod recall;
 mod recalled;
 mod scene;

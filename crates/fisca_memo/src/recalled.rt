@@ -26,11 +26,12 @@ use fisca_machine::{Frame, Machine, Step};
 use fisca_tables::Variable;
 
 /// How many keys are asked for below one another at most.
-const MOST_KEYS: usize = 100;
+pub(crate) const MOST_KEYS: usize = 100;
 
 /// What is remembered of a key that is asked for below others, if it is not too high for the fuel that is left. A key of which nothing is
 /// remembered and that stands among those above it is a cycle. A variable without formulas is neither remembered nor among them.
-fn seek<R: Recall>(
+#[inline(always)]
+pub(crate) fn seek<R: Recall>(
     scene: &Scene<'_, '_, '_>,
     recall: &R,
     keys: &[Key],
@@ -66,7 +67,7 @@ fn seek<R: Recall>(
 
 /// A value that is at hand, for a key below others. It is not remembered.
 #[inline(always)]
-fn at_hand(
+pub(crate) fn at_hand(
     scene: &Scene<'_, '_, '_>,
     keys: &[Key],
     key: &Key,
@@ -148,7 +149,7 @@ fn by_formula<'r, R: Recall>(
     key: &Key,
 ) -> Result<Known, EvalFault>
     requires scene { scenes.IsScene scene.now }
-    requires work { scenes.IsWork scene.now variable.now formula.now key.now }
+    requires work { scenes.IsWork scene.now (scenes.work scene.now variable.now formula.now key.now) key.now }
     requires depth { length keys.old.items ≤ 100 }
     requires stack { spec.IsStack (scenes.sources_in scene.now) keys.old.items key.now }
     requires away { has (map key_seen keys.old.items) (key_seen key.now) ≡ false }
@@ -194,7 +195,7 @@ fn work_out<'r, R: Recall>(
     key: &Key,
 ) -> Result<Known, EvalFault>
     requires scene { scenes.IsScene scene.now }
-    requires work { scenes.IsWork scene.now variable.now formula.now key.now }
+    requires work { scenes.IsWork scene.now (scenes.work scene.now variable.now formula.now key.now) key.now }
     requires depth { length keys.old.items ≤ 100 }
     requires stack { spec.IsWorking (scenes.sources_in scene.now) keys.old.items key.now }
     requires memory { scenes.IsMemoryIn scene.now (R.find store.old.recall) store.old.counts.free }
@@ -202,7 +203,7 @@ fn work_out<'r, R: Recall>(
     requires passed { spec.HasPassed (scenes.sources_in scene.now) (R.find store.old.recall) keys.old.items }
     ensures known { IfOk result (λ k. spec.IsKnownAt (scenes.sources_in scene.now) keys.old.items key.now k) }
     ensures read { IfOk result (λ k. scenes.HasRead scene.now key.now k) }
-    ensures fault { IfErr result (λ e. IsTold (told e) (scenes.wanted_of_work scene.now keys.old.items variable.now formula.now key.now)) }
+    ensures fault { IfErr result (λ e. IsTold (told e) (scenes.wanted_of_work scene.now keys.old.items (scenes.work scene.now variable.now formula.now key.now) key.now)) }
     ensures memory { scenes.IsMemoryIn scene.now (R.find store.new.recall) store.new.counts.free }
     ensures grows { Grows (R.find store.old.recall) (R.find store.new.recall) (spec.work_at (scenes.sources_in scene.now) keys.old.items key.now) }
     ensures covered { OnOk result (Covered (scenes.sources_in scene.now) (Remembered (R.find store.new.recall)) (key_seen key.now)) }

@@ -22,6 +22,7 @@ pub(crate) struct Store<R> {
 }
 
 /// Remembers the value that its formula gave of a key of which nothing was remembered, and counts it. Nothing else remembers or counts.
+#[inline(always)]
 pub(crate) fn remember<R: Recall>(
     scene: &Scene<'_, '_, '_>,
     store: &mut Store<R>,

@@ -17,6 +17,8 @@ ghost use Rattle.fisca_eval.specs.Simulations.{Simulation};
 ghost use Rattle.fisca_eval.specs.Sound.{InputsFit, IsSafeRules};
 
 use crate::evaluator::Evaluator;
+use crate::plans::Plans;
+use crate::played::value_by_plan;
 use crate::recalled::value_below;
 use crate::scene::scene_of;
 use crate::store::Store;
@@ -49,8 +51,7 @@ impl<'r, 't, R: Recall> Evaluator<'r, 't, R> {
         ensures counts { result.store.counts ≡ no_counts }
     {
         Evaluator {
-            rules,
-            neutral,
+            plans: Plans::new(alloc, rules, neutral),
             wheels,
             situation,
             machine: Machine::new(alloc),
@@ -91,8 +92,20 @@ impl<'r, 't, R: Recall> Evaluator<'r, 't, R> {
         self.machine.clear();
         self.keys.clear();
         let situation = &self.situation;
-        let scene = scene_of(self.rules, situation, self.neutral, self.wheels);
-        let own = own_key(self.rules, key);
+        let scene = scene_of(self.plans.rules, situation, self.plans.neutral, self.wheels);
+        let own = own_key(self.plans.rules, key);
+        if let Some(plan) = self.plans.of(&own) {
+            let known = value_by_plan(
+                &scene,
+                &mut self.store,
+                &mut self.machine,
+                &mut self.keys,
+                plan,
+                &own,
+            )?;
+            return Ok(known.value);
+        }
+        self.plans.ask(situation, &own);
         let known = value_below(
             &scene,
             &mut self.store,
@@ -129,7 +142,7 @@ impl<'r, 't, R: Recall> Evaluator<'r, 't, R> {
     pub fn rules(&self) -> &'r RuleSet<'t>
         ensures { rule_set result.now ≡ (spec.simulation_of self.now).rules }
     {
-        self.rules
+        self.plans.rules
     }
 
     /// What is remembered.

@@ -14,6 +14,7 @@ use fisca_typing::Arithmetic;
 
 /// The number that an operation makes of two, as `number_by` has it: `ZeroDivisor` of a division by 0, `TooWide` where a part is beyond the limits.
 /// Of equal numbers the lower and the higher one are the first.
+#[inline(always)]
 pub fn by(operation: Arithmetic, left: Fraction, right: Fraction) -> Result<Fraction, NumFault>
     ensures { result ≡ number_by operation left right }
 {

@@ -1,7 +1,7 @@
 use Rattle.std.proofs.Common.{◌∙◌}
 use Rattle.std.specs.Map.{lookup}
 use Rattle.fisca_inputs.specs.Entries.{same_key}
-use Rattle.fisca_memo.proofs.Noted.{put_seen}
+use Rattle.fisca_inputs.proofs.Noted.{put_seen}
 use Rattle.fisca_memo.proofs.index_recall.put.Goals as goal
 
 pub returns-clause-ok : goal.returns-clause-ok

@@ -1,5 +1,5 @@
 use Rattle.std.proofs.lemmas.Bool.{false≢true}
-use Rattle.fisca_memo.proofs.Noted.{put_there, stands_within}
+use Rattle.fisca_inputs.proofs.Noted.{put_there, stands_within}
 use Rattle.fisca_memo.proofs.index_recall.put_at.Goals as goal
 
 pub returns-in-Some : goal.returns-in-Some

@@ -1,5 +1,5 @@
 use Rattle.std.proofs.Common.{◌∙◌}
-use Rattle.fisca_memo.proofs.Noted.{entry_stands}
+use Rattle.fisca_inputs.proofs.Noted.{entry_stands}
 use Rattle.fisca_memo.proofs.index_recall.stands_at.Goals as goal
 
 pub returns-in-Some : goal.returns-in-Some

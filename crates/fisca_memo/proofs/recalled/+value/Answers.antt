@@ -38,8 +38,8 @@ work_out-loop-value-init g t c =
     let s = c.args.scene.now in
     let begun = (rw c.as_slice-locals.ensures.value at c.in-Ok.ensures.begun) ∙ begins s c.args.variable.now c.args.formula.now c.args.key.now c.requires.scene in
     record {
-      gathered = nothing_asked s c.args.variable.now c.args.formula.now c.args.key.now _ _ _ begun;
-      reading = nothing_asked s c.args.variable.now c.args.formula.now c.args.key.now _ _ _ begun;
+      gathered = nothing_asked s (work s c.args.variable.now c.args.formula.now c.args.key.now) c.args.key.now _ _ _ begun;
+      reading = nothing_asked s (work s c.args.variable.now c.args.formula.now c.args.key.now) c.args.key.now _ _ _ begun;
       read = none_read (marks_in s) (sources_in s) _ _;
       sound = subst (GivesOnly (known_in s) (IsValueOf (known_in s) c.args.key.now.variable)) (sym begun) c.requires.work.sound;
       waits = c.in-Ok.ensures.waits;
@@ -59,14 +59,14 @@ work_out-remember-requires g t c =
     let r = resume s.world c.loop-value.machine c.loop-value.control in
     let M = Remembered (g.R.Recall.find c.loop-value.store.recall) in
     let told = c.in-Done.ensures.told.0 in
-    let known = done_known s c.args.variable.now c.args.formula.now c.args.key.now keys r c.loop-value.tallest M c.requires.work i.gathered c.in-Done.value told in
+    let known = done_known s (work s c.args.variable.now c.args.formula.now c.args.key.now) c.args.key.now keys r c.loop-value.tallest M c.requires.work i.gathered c.in-Done.value told in
     record {
       known = own_known s keys c.args.key.now (value_seen c.in-Done.value) (c.loop-value.tallest + 1) known;
-      read = rw c.wheels_of.ensures (done_read s c.args.variable.now c.args.formula.now c.args.key.now keys r c.loop-value.tallest c.loop-value.reads c.requires.work i.reading i.read c.in-Done.value told);
+      read = rw c.wheels_of.ensures (done_read s (work s c.args.variable.now c.args.formula.now c.args.key.now) c.args.key.now keys r c.loop-value.tallest c.loop-value.reads c.requires.work i.reading i.read c.in-Done.value told);
       memory = i.memory;
       miss = λ x. none_there (g.R.Recall.find c.args.store.now.recall) (key_seen c.args.key.now) c.requires.miss (i.apart x);
       formula = (_, c.requires.work.source);
-      work = done_all s c.args.variable.now c.args.formula.now c.args.key.now keys r c.loop-value.tallest M c.requires.work i.gathered c.in-Done.value told;
+      work = done_all s (work s c.args.variable.now c.args.formula.now c.args.key.now) c.args.key.now keys r c.loop-value.tallest M c.requires.work i.gathered c.in-Done.value told;
     }
 
 pub work_out-returns-in-Done-clause-known : goal.work_out-returns-in-Done-clause-known
@@ -74,14 +74,14 @@ work_out-returns-in-Done-clause-known g t c =
     let s = c.args.scene.now in
     let r = resume s.world c.loop-value.machine c.loop-value.control in
     let M = Remembered (g.R.Recall.find c.loop-value.store.recall) in
-    done_known s c.args.variable.now c.args.formula.now c.args.key.now c.args.keys.now.items r c.loop-value.tallest M c.requires.work c.loop-value.invariant.gathered c.in-Done.value c.in-Done.ensures.told.0
+    done_known s (work s c.args.variable.now c.args.formula.now c.args.key.now) c.args.key.now c.args.keys.now.items r c.loop-value.tallest M c.requires.work c.loop-value.invariant.gathered c.in-Done.value c.in-Done.ensures.told.0
 
 pub work_out-returns-in-Done-clause-read : goal.work_out-returns-in-Done-clause-read
 work_out-returns-in-Done-clause-read g t c =
     let s = c.args.scene.now in
     let i = c.loop-value.invariant in
     let r = resume s.world c.loop-value.machine c.loop-value.control in
-    rw c.wheels_of.ensures (done_read s c.args.variable.now c.args.formula.now c.args.key.now c.args.keys.now.items r c.loop-value.tallest c.loop-value.reads c.requires.work i.reading i.read c.in-Done.value c.in-Done.ensures.told.0)
+    rw c.wheels_of.ensures (done_read s (work s c.args.variable.now c.args.formula.now c.args.key.now) c.args.key.now c.args.keys.now.items r c.loop-value.tallest c.loop-value.reads c.requires.work i.reading i.read c.in-Done.value c.in-Done.ensures.told.0)
 
 pub work_out-returns-in-Done-clause-grows : goal.work_out-returns-in-Done-clause-grows
 work_out-returns-in-Done-clause-grows g t c =
@@ -90,7 +90,7 @@ work_out-returns-in-Done-clause-grows g t c =
     let keys = c.args.keys.now.items in
     let r = resume s.world c.loop-value.machine c.loop-value.control in
     let M = Remembered (g.R.Recall.find c.loop-value.store.recall) in
-    let known = done_known s c.args.variable.now c.args.formula.now c.args.key.now keys r c.loop-value.tallest M c.requires.work i.gathered c.in-Done.value c.in-Done.ensures.told.0 in
+    let known = done_known s (work s c.args.variable.now c.args.formula.now c.args.key.now) c.args.key.now keys r c.loop-value.tallest M c.requires.work i.gathered c.in-Done.value c.in-Done.ensures.told.0 in
     kept_grows _ _ _ _ _ c.in_ok-remember-in-Done.ensures.ok (work_at (sources_in s) keys c.args.key.now) (own_work s keys c.args.key.now (value_seen c.in-Done.value) (c.loop-value.tallest + 1) known (_, c.requires.work.source)) i.grows
 
 pub work_out-returns-in-Done-clause-covered : goal.work_out-returns-in-Done-clause-covered
@@ -116,7 +116,7 @@ work_out-returns-in-Failed-clause-fault g t c =
     let i = c.loop-value.invariant in
     let r = resume s.world c.loop-value.machine c.loop-value.control in
     let M = Remembered (g.R.Recall.find c.loop-value.store.recall) in
-    failed_fault s c.args.variable.now c.args.formula.now c.args.key.now c.args.keys.now.items r c.loop-value.tallest M c.requires.work i.gathered _ c.in-Failed.ensures.told _ c.told_of.ensures
+    failed_fault s (work s c.args.variable.now c.args.formula.now c.args.key.now) c.args.key.now c.args.keys.now.items r c.loop-value.tallest M c.requires.work i.gathered _ c.in-Failed.ensures.told _ c.told_of.ensures
 
 pub work_out-returns-in-Failed-clause-stopped : goal.work_out-returns-in-Failed-clause-stopped
 work_out-returns-in-Failed-clause-stopped g t c =
@@ -124,7 +124,7 @@ work_out-returns-in-Failed-clause-stopped g t c =
     let i = c.loop-value.invariant in
     let r = resume s.world c.loop-value.machine c.loop-value.control in
     let M = Remembered (g.R.Recall.find c.loop-value.store.recall) in
-    failed_done s c.args.variable.now c.args.formula.now c.args.key.now c.args.keys.now.items r c.loop-value.tallest M c.requires.work i.gathered _ c.in-Failed.ensures.told _
+    failed_done s (work s c.args.variable.now c.args.formula.now c.args.key.now) c.args.key.now c.args.keys.now.items r c.loop-value.tallest M c.requires.work i.gathered _ c.in-Failed.ensures.told _
 
 pub work_out-value_below-requires : goal.work_out-value_below-requires
 work_out-value_below-requires g t c κs within =
@@ -136,9 +136,9 @@ work_out-value_below-requires g t c κs within =
     let told = c.in-Needs.ensures.told in
     let j = c.in-Needs.asked in
     let go = rest s.world c.run.new.self in
-    let stack = next_stack s c.args.variable.now c.args.formula.now c.args.key.now keys r c.loop-value.tallest M c.requires.work i.gathered j go told.0 c.requires.stack in
+    let stack = next_stack s (work s c.args.variable.now c.args.formula.now c.args.key.now) c.args.key.now keys r c.loop-value.tallest M c.requires.work i.gathered j go told.0 c.requires.stack in
     let before = passed_path_more (sources_in s) (Remembered (g.R.Recall.find c.args.store.now.recall)) M i.grows.kept (map key_seen keys) c.requires.passed in
-    let passed = next_passed s c.args.variable.now c.args.formula.now c.args.key.now keys r c.loop-value.tallest M c.requires.work i.gathered j go told.0 c.requires.stack before in
+    let passed = next_passed s (work s c.args.variable.now c.args.formula.now c.args.key.now) c.args.key.now keys r c.loop-value.tallest M c.requires.work i.gathered j go told.0 c.requires.stack before in
     let long : length c.loop-value.keys.items ≡ length keys = ap length i.keys in
     (omega arith, (within, (c.requires.scene, (rw i.keys c.requires.depth, (subst (λ ks. IsStack (sources_in s) ks j) (sym i.keys) stack, (i.memory, subst (λ ks. HasPassedTo (sources_in s) (g.R.Recall.find c.loop-value.store.recall) ks j) (sym i.keys) passed))))))
 
@@ -152,7 +152,7 @@ work_out-returns-in_err-known-in-Needs-clause-fault g t c =
     let told = c.in-Needs.ensures.told in
     let p = err_from_is_err_and c.from_residual-in_err-known-in-Needs.result c.from_residual-in_err-known-in-Needs.ensures.1 in
     let h = rw i.keys at c.in_err-known-in-Needs.ensures.fault in
-    rw (p.1, p.2) (next_fault s c.args.variable.now c.args.formula.now c.args.key.now keys r c.loop-value.tallest M c.requires.work i.gathered c.in-Needs.asked (rest s.world c.run.new.self) told.0 c.requires.stack _ h)
+    rw (p.1, p.2) (next_fault s (work s c.args.variable.now c.args.formula.now c.args.key.now) c.args.key.now keys r c.loop-value.tallest M c.requires.work i.gathered c.in-Needs.asked (rest s.world c.run.new.self) told.0 c.requires.stack _ h)
 
 pub work_out-returns-in_err-known-in-Needs-clause-stopped : goal.work_out-returns-in_err-known-in-Needs-clause-stopped
 work_out-returns-in_err-known-in-Needs-clause-stopped g t c =
@@ -168,7 +168,7 @@ work_out-returns-in_err-known-in-Needs-clause-stopped g t c =
     let h = rw i.keys at c.in_err-known-in-Needs.ensures.fault in
     let below = rw i.keys at c.in_err-known-in-Needs.ensures.stopped in
     let wide = gathered_wider src _ _ _ c.loop-value.tallest (Covered src M) (Covered src new) (covered_wider src M new c.in_err-known-in-Needs.ensures.grows.kept) i.gathered in
-    rw (p.1, p.2) (next_done s c.args.variable.now c.args.formula.now c.args.key.now keys r c.loop-value.tallest new c.requires.work wide c.in-Needs.asked (rest s.world c.run.new.self) told.0 _ h below)
+    rw (p.1, p.2) (next_done s (work s c.args.variable.now c.args.formula.now c.args.key.now) c.args.key.now keys r c.loop-value.tallest new c.requires.work wide c.in-Needs.asked (rest s.world c.run.new.self) told.0 _ h below)
 
 pub work_out-returns-in_err-known-in-Needs-clause-grows : goal.work_out-returns-in_err-known-in-Needs-clause-grows
 work_out-returns-in_err-known-in-Needs-clause-grows g t c =
@@ -179,7 +179,7 @@ work_out-returns-in_err-known-in-Needs-clause-grows g t c =
     let M = Remembered (g.R.Recall.find c.loop-value.store.recall) in
     let told = c.in-Needs.ensures.told in
     let h = rw i.keys at c.in_err-known-in-Needs.ensures.grows in
-    grows_on _ _ _ (work_at (sources_in s) keys c.args.key.now) i.grows (grows_wider _ _ _ _ h (next_work s c.args.variable.now c.args.formula.now c.args.key.now keys r c.loop-value.tallest M c.requires.work i.gathered c.in-Needs.asked (rest s.world c.run.new.self) told.0))
+    grows_on _ _ _ (work_at (sources_in s) keys c.args.key.now) i.grows (grows_wider _ _ _ _ h (next_work s (work s c.args.variable.now c.args.formula.now c.args.key.now) c.args.key.now keys r c.loop-value.tallest M c.requires.work i.gathered c.in-Needs.asked (rest s.world c.run.new.self) told.0))
 
 pub work_out-returns-in_err-known-in-Needs-clause-counted : goal.work_out-returns-in_err-known-in-Needs-clause-counted
 work_out-returns-in_err-known-in-Needs-clause-counted g t c = counted_on _ _ _ _ _ _ c.loop-value.invariant.counted c.in_err-known-in-Needs.ensures.counted
@@ -201,16 +201,16 @@ work_out-loop-value-preserved g t c =
     let known = rw i.keys at below.known in
     let grown = rw i.keys at below.grows in
     record {
-      gathered = rw (c.give-control.ensures.machine, c.give-control.ensures.control, below.rest, c.max-tallest.ensures) (next_more s c.args.variable.now c.args.formula.now c.args.key.now keys r c.loop-value.tallest M c.requires.work i.gathered j go told.0 x known new grown.kept below.covered);
-      reading = rw (c.give-control.ensures.machine, c.give-control.ensures.control, below.rest, c.max-tallest.ensures) (next_reading s c.args.variable.now c.args.formula.now c.args.key.now keys r c.loop-value.tallest c.loop-value.reads c.requires.work i.reading i.read j go told.0 x known below.read);
-      read = next_read s c.args.variable.now c.args.formula.now c.args.key.now keys r c.loop-value.tallest c.loop-value.reads c.requires.work i.reading i.read j go told.0 x known below.read;
-      sound = rw (c.give-control.ensures.machine, c.give-control.ensures.control, below.rest) (next_sound s c.args.variable.now c.args.formula.now c.args.key.now keys r c.loop-value.tallest M c.requires.work i.gathered j go told.0 x known c.requires.scene i.sound);
+      gathered = rw (c.give-control.ensures.machine, c.give-control.ensures.control, below.rest, c.max-tallest.ensures) (next_more s (work s c.args.variable.now c.args.formula.now c.args.key.now) c.args.key.now keys r c.loop-value.tallest M c.requires.work i.gathered j go told.0 x known new grown.kept below.covered);
+      reading = rw (c.give-control.ensures.machine, c.give-control.ensures.control, below.rest, c.max-tallest.ensures) (next_reading s (work s c.args.variable.now c.args.formula.now c.args.key.now) c.args.key.now keys r c.loop-value.tallest c.loop-value.reads c.requires.work i.reading i.read j go told.0 x known below.read);
+      read = next_read s (work s c.args.variable.now c.args.formula.now c.args.key.now) c.args.key.now keys r c.loop-value.tallest c.loop-value.reads c.requires.work i.reading i.read j go told.0 x known below.read;
+      sound = rw (c.give-control.ensures.machine, c.give-control.ensures.control, below.rest) (next_sound s (work s c.args.variable.now c.args.formula.now c.args.key.now) c.args.key.now keys r c.loop-value.tallest M c.requires.work i.gathered j go told.0 x known c.requires.scene i.sound);
       waits = rw c.give-control.ensures.machine (below.waits ∙ sym told.1 ∙ i.waits);
       memory = below.memory;
       keys = below.keys ∙ i.keys;
-      grows = grows_on _ _ _ (work_at src keys c.args.key.now) i.grows (grows_wider _ _ _ _ grown (next_work s c.args.variable.now c.args.formula.now c.args.key.now keys r c.loop-value.tallest M c.requires.work i.gathered j go told.0));
+      grows = grows_on _ _ _ (work_at src keys c.args.key.now) i.grows (grows_wider _ _ _ _ grown (next_work s (work s c.args.variable.now c.args.formula.now c.args.key.now) c.args.key.now keys r c.loop-value.tallest M c.requires.work i.gathered j go told.0));
       apart = λ y. ⊎_elim (λ (a : M (key_seen c.args.key.now)). i.apart a)
-          (λ (b : work_below src keys j (key_seen c.args.key.now)). absurd (next_apart s c.args.variable.now c.args.formula.now c.args.key.now keys r c.loop-value.tallest M c.requires.work i.gathered j go told.0 b))
+          (λ (b : work_below src keys j (key_seen c.args.key.now)). absurd (next_apart s (work s c.args.variable.now c.args.formula.now c.args.key.now) c.args.key.now keys r c.loop-value.tallest M c.requires.work i.gathered j go told.0 b))
           (grown.only (key_seen c.args.key.now) y);
       counted = counted_on _ _ _ _ _ _ i.counted below.counted;
       lost = below.lost ∙ i.lost;
@@ -271,7 +271,7 @@ by_formula-returns-in-Ok-clause-fault g t c =
     let keys = c.args.keys.now.items in
     let room : length keys < 100 = omega arith in
     let h = rw c.in-Ok.ensures.items at c.work_out-worked.ensures.fault in
-    IfErr-weaker c.work_out-worked.result _ _ (λ e is. popped_fault c.args.scene.now keys c.args.key.now room c.args.variable.now c.args.formula.now c.requires.work (told e) is) h
+    IfErr-weaker c.work_out-worked.result _ _ (λ e is. popped_fault c.args.scene.now keys c.args.key.now room (work c.args.scene.now c.args.variable.now c.args.formula.now c.args.key.now) c.requires.work (told e) is) h
 
 pub by_formula-returns-in-Ok-clause-grows : goal.by_formula-returns-in-Ok-clause-grows
 by_formula-returns-in-Ok-clause-grows g t c =
@@ -338,13 +338,13 @@ value_below-by_formula-requires g t c κs within =
     let f = formula_view c.in-Some-formula.formula.now in
     let e = sym (c.in-Some.ensures) in
     let h = sym (c.in-Some-formula.ensures) in
-    let work : scenes.IsWork s c.in-Some.variable.now c.in-Some-formula.formula.now c.args.key.now = record {
+    let is : scenes.IsWork s (work s c.in-Some.variable.now c.in-Some-formula.formula.now c.args.key.now) c.args.key.now = record {
       source = of_formula (seen s) k w e (sym (c.in_default-input.ensures)) f h;
       sound = works_soundly (seen s) c.requires.scene.safe k w e f h;
     } in
     let away : has (map key_seen c.args.keys.now.items) k ≡ false = search rules in
     let miss : g.R.Recall.find c.args.store.now.recall k ≡ None = search rules in
-    (omega arith, (within, (c.requires.scene, (work, (c.requires.depth, (c.requires.stack, (away, (c.requires.memory, (miss, c.requires.passed)))))))))
+    (omega arith, (within, (c.requires.scene, (is, (c.requires.depth, (c.requires.stack, (away, (c.requires.memory, (miss, c.requires.passed)))))))))
 
 pub value_below-returns-in-Some-default_of-clause-covered : goal.value_below-returns-in-Some-default_of-clause-covered
 value_below-returns-in-Some-default_of-clause-covered g t c =

@@ -1,6 +1,6 @@
-use Rattle.std.proofs.Common.{arith, ap, length, ◌∙◌, sym}
+use Rattle.std.proofs.Common.{arith, ap, length, rules, ◌∙◌}
 use Rattle.std.proofs.lemmas.List.{length_push}
-use Rattle.fisca_inputs.proofs.Numbered.{behind_numbered, behind_once}
+use Rattle.fisca_inputs.proofs.Numbered.{behind_numbered, behind_occupied, behind_once}
 use Rattle.fisca_inputs.proofs.table.Table.append.Goals as goal
 
 pub invariant_of-self-in-Ok : goal.invariant_of-self-in-Ok
@@ -9,10 +9,12 @@ invariant_of-self-in-Ok c =
     let es = t.entries.items in
     let pushed = c.in_ok-push.ensures.items in
     let longer = ap length pushed ∙ length_push es (c.args.key, c.args.value) in
-    let number = c.in_ok-number.ensures in
+    let number = c.in_ok-number.ensures.ok in
     record {
       once = behind_once es c.push.new.self.items c.args.key c.args.value c.requires pushed t.once;
       notes = t.notes;
-      few = omega (arith, longer, number, c.number_behind.type_inv);
+      slots = search rules;
+      own_slots = behind_occupied es c.push.new.self.items c.args.key c.args.value c.requires pushed t.occupied c.slot_of.result c.slot_of.ensures (omega (arith, c.slot_of.ensures, t.slots)) t.own_slots;
+      few = omega (arith, longer, number);
       numbered = behind_numbered es c.push.new.self.items c.args.key c.args.value c.requires pushed t.pages.entries c.note.new.pages.entries c.in_ok-number.number (omega (arith, number, c.len.ensures)) t.numbered c.in-Ok.ensures.ok;
     }

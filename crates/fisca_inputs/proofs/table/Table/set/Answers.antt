@@ -1,5 +1,5 @@
 use Rattle.std.proofs.Common.{rules}
-use Rattle.fisca_inputs.proofs.Numbered.{set_absent, set_here, set_keeps_numbers, set_keeps_once}
+use Rattle.fisca_inputs.proofs.Numbered.{set_absent, set_here, set_keeps_numbers, set_keeps_occupied, set_keeps_once}
 use Rattle.fisca_inputs.proofs.table.Table.set.Goals as goal
 
 pub invariant_of-self : goal.invariant_of-self
@@ -9,6 +9,8 @@ invariant_of-self c =
     record {
       once = set_keeps_once es c.args.key.now c.args.value c.in-Some.place c.index_mut.result.now t.once c.in-Some.ensures c.index_mut.ensures.value;
       notes = search rules;
+      slots = t.slots;
+      own_slots = set_keeps_occupied es c.args.key.now c.args.value c.in-Some.place c.index_mut.result.now t.once c.in-Some.ensures c.index_mut.ensures.value t.occupied t.own_slots;
       few = search rules;
       numbered = set_keeps_numbers es c.args.key.now c.args.value c.in-Some.place c.index_mut.result.now t.once c.in-Some.ensures c.index_mut.ensures.value t.pages.entries t.numbered;
     }

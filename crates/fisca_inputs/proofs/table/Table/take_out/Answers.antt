@@ -1,6 +1,6 @@
-use Rattle.std.proofs.Common.{ℕ, Bool, not, arith}
+use Rattle.std.proofs.Common.{not, arith}
 use Rattle.fisca_inputs.specs.Inputs.{is_marked}
-use Rattle.fisca_inputs.proofs.Numbered.{left_fewer, left_free, left_noted, left_numbered, left_once}
+use Rattle.fisca_inputs.proofs.Numbered.{left_fewer, left_free, left_noted, left_numbered, left_occupied, left_once}
 use Rattle.fisca_inputs.proofs.table.Table.take_out.Goals as goal
 
 pub renumber_all-requires-clause-once : goal.renumber_all-requires-clause-once
@@ -26,6 +26,8 @@ invariant_of-self c =
     record {
       once = left_once (λ x. not (is_marked c.args.marks.now x)) t.entries.items c.leave_unmarked.new.entries.items c.leave_unmarked.ensures t.once;
       notes = t.notes;
+      slots = t.slots;
+      own_slots = left_occupied (λ x. not (is_marked c.args.marks.now x)) t.entries.items c.leave_unmarked.new.entries.items c.leave_unmarked.ensures t.occupied t.own_slots;
       few = omega (arith, left_fewer (λ x. not (is_marked c.args.marks.now x)) t.entries.items c.leave_unmarked.new.entries.items c.leave_unmarked.ensures, t.few);
       numbered = rw c.as_slice.ensures.value at c.renumber_all.ensures;
     }
@@ -36,6 +38,8 @@ invariant_of-self-else-len-count c =
     record {
       once = left_once (λ x. not (is_marked c.args.marks.now x)) t.entries.items c.leave_unmarked.new.entries.items c.leave_unmarked.ensures t.once;
       notes = t.notes;
+      slots = t.slots;
+      own_slots = left_occupied (λ x. not (is_marked c.args.marks.now x)) t.entries.items c.leave_unmarked.new.entries.items c.leave_unmarked.ensures t.occupied t.own_slots;
       few = omega (arith, left_fewer (λ x. not (is_marked c.args.marks.now x)) t.entries.items c.leave_unmarked.new.entries.items c.leave_unmarked.ensures, t.few);
       numbered = left_numbered (λ x. not (is_marked c.args.marks.now x)) t.entries.items c.leave_unmarked.new.entries.items t.pages.entries c.leave_unmarked_pages.new.pages.entries c.leave_unmarked.ensures
           (omega (arith, c.len-count.ensures, c.len.ensures, c.if-len-count.false))

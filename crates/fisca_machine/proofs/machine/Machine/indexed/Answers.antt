@@ -1,4 +1,4 @@
-use Rattle.std.proofs.Common.{refl, sym}
+use Rattle.std.proofs.Common.{sym}
 use Rattle.fisca_machine.proofs.machine.Machine.indexed.Goals as goal
 
 pub returns-in-Some-chosen_behind-clause-same : goal.returns-in-Some-chosen_behind-clause-same

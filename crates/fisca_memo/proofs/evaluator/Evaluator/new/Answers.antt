@@ -11,7 +11,7 @@ returns-clause-memory g c =
     let marks = marks_of c.args.wheels.now in
     let src = sources (record { rules = rule_set c.args.rules.now; situation = situation c.args.situation; neutral = c.args.neutral.now }) in
     let entries = g.R.Recall.find c.args.recall in
-    subst (λ counts. IsMemory marks src entries counts.free) (sym c.new-3.ensures) (empty_memory marks src entries c.requires.empty)
+    rw (c.new.ensures.rules, c.new.ensures.neutral) (subst (λ counts. IsMemory marks src entries counts.free) (sym c.new-4.ensures) (empty_memory marks src entries c.requires.empty))
 
 pub returns-clause-ready : goal.returns-clause-ready
-returns-clause-ready g c ready = record { ready = ready; memory = returns-clause-memory g c }
+returns-clause-ready g c ready = record { ready = rw (c.new.ensures.rules, c.new.ensures.neutral) ready; memory = returns-clause-memory g c }

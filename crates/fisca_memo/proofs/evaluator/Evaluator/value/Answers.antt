@@ -6,6 +6,7 @@ use Rattle.fisca_inputs.specs.Seen.{key_seen, value_seen}
 use Rattle.fisca_eval.specs.Simulations.{normal_key, sources}
 use Rattle.fisca_eval.specs.Faults.{IsTold, told}
 use Rattle.fisca_memo.specs.Evaluators.{simulation_of}
+use Rattle.fisca_memo.proofs.Outcomes.{unless_memory}
 use Rattle.fisca_memo.proofs.evaluator.Evaluator.value.Goals as goal
 
 pub returns-in_err-known-clause-answer : goal.returns-in_err-known-clause-answer
@@ -16,9 +17,30 @@ returns-in_err-known-clause-answer g c =
     let h = rw (c.clear-2.ensures.items, c.scene_of-scene.ensures.seen, c.own_key-own.ensures) at c.in_err-known.ensures.fault in
     rw (p.1, p.2) (subst (IsTold (told c.in_err-known.field-0.0)) (sym (answer_alone (sources m) k)) h)
 
-pub returns-clause-answer : goal.returns-clause-answer
-returns-clause-answer g c =
+pub returns-in_err-known-clause-work : goal.returns-in_err-known-clause-work
+returns-in_err-known-clause-work g c =
+    let p = err_from_is_err_and c.from_residual.result c.from_residual.ensures.1 in
+    let h = rw (c.clear-2.ensures.items, c.scene_of-scene.ensures.seen, c.own_key-own.ensures) at c.in_err-known.ensures.stopped in
+    rw (p.1, p.2) (λ away. unless_memory c.in_err-known.field-0.0 _ h away)
+
+pub returns-in-Some-clause-answer : goal.returns-in-Some-clause-answer
+returns-in-Some-clause-answer g c =
     let m = simulation_of c.args.self.now in
     let k = normal_key m.rules (key_seen c.args.key) in
     let h = rw (c.clear-2.ensures.items, c.scene_of-scene.ensures.seen, c.own_key-own.ensures) at c.in_ok-known.ensures.known in
     answer_alone (sources m) k ∙ known_answer (sources m) [] k (value_seen c.in_ok-known.known.value) c.in_ok-known.known.height h
+
+pub returns-in_err-known-2-clause-answer : goal.returns-in_err-known-2-clause-answer
+returns-in_err-known-2-clause-answer g c =
+    let m = simulation_of c.args.self.now in
+    let k = normal_key m.rules (key_seen c.args.key) in
+    let p = err_from_is_err_and c.from_residual-in_err-known-2.result c.from_residual-in_err-known-2.ensures.1 in
+    let h = rw (c.clear-2.ensures.items, c.scene_of-scene.ensures.seen, c.own_key-own.ensures) at c.in_err-known-2.ensures.fault in
+    rw (p.1, p.2) (subst (IsTold (told c.in_err-known-2.field-0.0)) (sym (answer_alone (sources m) k)) h)
+
+pub returns-clause-answer : goal.returns-clause-answer
+returns-clause-answer g c =
+    let m = simulation_of c.args.self.now in
+    let k = normal_key m.rules (key_seen c.args.key) in
+    let h = rw (c.clear-2.ensures.items, c.scene_of-scene.ensures.seen, c.own_key-own.ensures) at c.in_ok-known-2.ensures.known in
+    answer_alone (sources m) k ∙ known_answer (sources m) [] k (value_seen c.in_ok-known-2.known.value) c.in_ok-known-2.known.height h

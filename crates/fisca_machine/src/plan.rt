@@ -1,0 +1,164 @@
+//! Formulas that are made of known values and of the values of keys, one after another.
+
+ghost use Rattle.std.specs.Bool.{OnTrue};
+ghost use Rattle.std.specs.Prelude.{◌≡◌, [], List, None, false, map, IfOk, IfSome};
+ghost use Rattle.fisca_meaning.specs.Dialogues.{bool};
+ghost use Rattle.fisca_meaning.specs.Meaning.{formula_means};
+ghost use Rattle.fisca_meaning.specs.Questions.{Groups};
+ghost use Rattle.fisca_nodes.specs.Views.{node};
+ghost use Rattle.fisca_nodes.specs.declared.node.Node.{Node as Held};
+ghost use Rattle.fisca_tables.specs.Known.{tables as known};
+ghost use Rattle.fisca_machine.specs.Plans.{plays, then_operand, then_steps};
+ghost use Rattle.fisca_machine.specs.Running.{After, Locals, before, parametric, point, says};
+ghost use Rattle.fisca_typing.specs.Nodes.{ask as asks_node, parameter};
+ghost use Rattle.fisca_values.specs.Casts.{cast};
+
+use crate::found::{type_of, variable_at};
+use crate::pending::{Frame, Operation};
+use fisca_inputs::{Key, Value};
+use fisca_nodes::{Ask, Node, Parameter};
+use fisca_tables::{DeclaredType, Tables};
+use fisca_typing::{Asking, Whom};
+use fisca_values::{moved_all, parameter_at, plain_key};
+use std::alloc::{AllocError, Global};
+
+/// An operand.
+#[derive(Clone, Copy)]
+pub(crate) enum Operand {
+    /// A value that is known.
+    Known(Value),
+    /// The value of this key.
+    Asked(Key),
+}
+
+/// A step: what is made of the value so far and of an operand.
+#[derive(Clone, Copy)]
+pub(crate) struct PlanStep {
+    /// The operation. Without one it is the operand itself.
+    pub(crate) operation: Option<Operation>,
+    /// The right operand.
+    pub(crate) right: Operand,
+}
+
+/// A formula of a variable for a member at a period, where it is made of known values and of the values of keys, one after another: what it
+/// names is looked up once.
+#[derive(Drop)]
+pub struct Plan {
+    /// The steps. The first has no operation.
+    pub(crate) steps: Vec<PlanStep>,
+    /// The type of the variable.
+    pub(crate) declared: DeclaredType,
+}
+
+/// The parameter that a node names, where none is chosen and it has a value.
+fn parameter_of(tables: &Tables<'_>, x: &Parameter, frame: &Frame) -> Option<Operand>
+    ensures { IfSome result (λ o. (g : Groups) (ls : Locals) (k : After) → says (known tables.now) g ls (parameter (parametric x.now).indices (parametric x.now).places (parametric x.now).moves) (point frame.now (record { person = None; visible = 0 })) k ≡ then_operand o k) }
+{
+    let ([], [place]) = (x.indices.as_slice(), x.places.as_slice()) else {
+        return None;
+    };
+    let day = moved_all(x.moves.as_slice(), frame.period).ok()?.start()?;
+    match parameter_at(&tables.parameters, *place, day) {
+        Ok(value) => Some(Operand::Known(value)),
+        Err(_) => None,
+    }
+}
+
+/// The key for which a node asks the formula's own member, as it stands.
+fn own_key(tables: &Tables<'_>, ask: &Ask, frame: &Frame) -> Option<Operand>
+    ensures { IfSome result (λ o. (g : Groups) (ls : Locals) (k : After) → says (known tables.now) g ls (asks_node ask.now.variable ask.now.whom ask.now.asking ask.now.moves.items) (point frame.now (record { person = None; visible = 0 })) k ≡ then_operand o k) }
+{
+    let (Asking::Plain, Whom::Own) = (ask.asking, ask.whom) else {
+        return None;
+    };
+    let variable = variable_at(tables, ask.variable)?;
+    type_of(variable.value_type)?;
+    let period = moved_all(ask.moves.as_slice(), frame.period).ok()?;
+    match plain_key(
+        ask.variable,
+        variable.definition_period,
+        frame.member,
+        period,
+    ) {
+        Ok(key) => Some(Operand::Asked(key)),
+        Err(_) => None,
+    }
+}
+
+/// The operand that a node is, where it is one.
+fn operand_of(tables: &Tables<'_>, e: &Node, frame: &Frame) -> Option<Operand>
+    ensures { IfSome result (λ o. (g : Groups) (ls : Locals) (k : After) → says (known tables.now) g ls (node e.now) (point frame.now (record { person = None; visible = 0 })) k ≡ then_operand o k) }
+{
+    match e {
+        Node::Literal(number) => Some(Operand::Known(Value::Number(*number))),
+        Node::Truth(truth) => Some(Operand::Known(Value::Bool(*truth))),
+        Node::Member(_, place) => Some(Operand::Known(Value::Member(*place))),
+        Node::Ask(ask) => own_key(tables, ask, frame),
+        Node::Parameter(x) => parameter_of(tables, x, frame),
+        Node::Local(_)
+        | Node::DatePart(..)
+        | Node::HasRole(..)
+        | Node::Count(_)
+        | Node::Total(..)
+        | Node::Negative(_)
+        | Node::Opposite(_)
+        | Node::Arithmetic(..)
+        | Node::Logic(..)
+        | Node::Comparison(..)
+        | Node::Same(_)
+        | Node::Choose(..)
+        | Node::ScaleSum(_) => None,
+    }
+}
+
+/// Puts the steps of a node whose left operands, one below another, are such nodes, and whose right ones are operands. Whether it is one.
+fn put_steps(
+    tables: &Tables<'_>,
+    e: &Node,
+    frame: &Frame,
+    steps: &mut Vec<PlanStep>,
+) -> Result<bool, AllocError>
+    requires { steps.old.items ≡ [] }
+    ensures { IfOk result (λ r. OnTrue r ((g : Groups) (ls : Locals) (k : After) → says (known tables.now) g ls (node e.now) (point frame.now (record { person = None; visible = 0 })) k ≡ then_steps steps.new.items k (bool false))) }
+{
+    let Node::Arithmetic(kind, pair) = e else {
+        let Some(right) = operand_of(tables, e, frame) else {
+            return Ok(false);
+        };
+        steps.push(PlanStep {
+            operation: None,
+            right,
+        })?;
+        return Ok(true);
+    };
+    if !put_steps(tables, &pair.left, frame, steps)? {
+        return Ok(false);
+    }
+    let Some(right) = operand_of(tables, &pair.right, frame) else {
+        return Ok(false);
+    };
+    steps.push(PlanStep {
+        operation: Some(Operation::Arithmetic(*kind)),
+        right,
+    })?;
+    Ok(true)
+}
+
+/// The plan of a formula of a variable of this type, by the node of its result. `None` where it is not made of known values and of the
+/// values of keys, one after another, or where something that it names has no value then. `Err` where no memory was given.
+pub fn plan_of(
+    alloc: Global,
+    tables: &Tables<'_>,
+    returned: &Node,
+    declared: DeclaredType,
+    frame: Frame,
+) -> Result<Option<Plan>, AllocError>
+    ensures { IfOk result (λ o. IfSome o (λ p. (ns : List Held) (g : Groups) → before (formula_means (known tables.now) g (record { values = map node ns; result = node returned.now }) (record { entity = frame.entity; member = frame.member; person = None; period = frame.period })) (cast declared) ≡ plays p)) }
+{
+    let mut steps = Vec::new(alloc);
+    if put_steps(tables, returned, &frame, &mut steps)? {
+        Ok(Some(Plan { steps, declared }))
+    } else {
+        Ok(None)
+    }
+}

@@ -1,10 +1,11 @@
 -- What a parameter in memory stands for, by its lists.
-use Rattle.std.proofs.Common.{rules, ◌≡◌, ℕ, zero, suc, ◌+◌, List, [], ◌∷◌, Some, None, refl, sym, ap, ◌∙◌, arith, slice_get}
+use Rattle.std.proofs.Common.{rules, ◌≡◌, ◌≤◌, ◌<◌, ℕ, zero, suc, ◌+◌, false, List, [], ◌∷◌, length, Some, None, refl, sym, ap, ◌∙◌, arith, slice_get, slice_index_or}
 use Rattle.fisca_nodes.specs.Views.{node, index_view, indices}
 use Rattle.fisca_nodes.specs.declared.node.Index.{Index}
 use Rattle.fisca_nodes.specs.declared.node.Node.{Node}
 use Rattle.fisca_nodes.specs.declared.node.Parameter.{Parameter, out-Parameter, the_lemmas}
 use Rattle.fisca_typing.specs.Nodes.{no_index, index}
+use Rattle.fisca_machine.specs.Plans.{is_alone}
 use Rattle.fisca_machine.specs.Running.{from, parametric}
 
 -- the whole
@@ -49,3 +50,27 @@ none_placed p n ps e h = ap (λ q. slice_get q.places n) (seen p) ∙ ap (λ qs.
 
 pub some_placed : (p : Parameter) (n : ℕ) (ps : List ℕ) (i : ℕ) → ps ≡ (out-Parameter p).places.items → slice_get ps n ≡ Some i → slice_get (parametric p).places n ≡ Some i
 some_placed p n ps i e h = ap (λ q. slice_get q.places n) (seen p) ∙ ap (λ qs. slice_get qs n) (sym e) ∙ h
+
+-- one place, and nothing that chooses
+
+some_choose : (is : List Index) (ps : List ℕ) → 1 ≤ length is → is_alone (indices is) ps ≡ false
+some_choose [] ps h = absurd (omega (arith, h))
+some_choose (i ∷ is) ps h = refl
+
+none_choose : (is : List Index) → length is < 1 → indices is ≡ no_index
+none_choose [] h = refl
+none_choose (i ∷ is) h = absurd (omega (arith, h))
+
+one_place : (ps : List ℕ) (place : ℕ) → 1 ≤ length ps → length ps < 2 → place ≡ slice_index_or ps 0 place → ps ≡ place ∷ []
+one_place [] place a b e = absurd (omega (arith, a))
+one_place (q ∷ []) place a b e = ap (λ x. x ∷ []) (sym e)
+one_place (q ∷ r ∷ qs) place a b e = absurd (omega (arith, b))
+
+pub not_alone : (p : Parameter) (is : List Index) → is ≡ (out-Parameter p).indices.items → 1 ≤ length is → is_alone (parametric p).indices (parametric p).places ≡ false
+not_alone p is e h = ap (λ q. is_alone q.indices q.places) (seen p) ∙ (λ i. is_alone (indices (sym e i)) (out-Parameter p).places.items) ∙ some_choose is (out-Parameter p).places.items h
+
+pub nothing_chooses : (p : Parameter) (is : List Index) → is ≡ (out-Parameter p).indices.items → length is < 1 → (parametric p).indices ≡ no_index
+nothing_chooses p is e h = indices_of p is e ∙ none_choose is h
+
+pub placed_alone : (p : Parameter) (ps : List ℕ) (place : ℕ) → ps ≡ (out-Parameter p).places.items → 1 ≤ length ps → length ps < 2 → place ≡ slice_index_or ps 0 place → (parametric p).places ≡ place ∷ []
+placed_alone p ps place e a b h = ap (λ q. q.places) (seen p) ∙ sym e ∙ one_place ps place a b h

@@ -1,5 +1,5 @@
 -- Steps that follow one another.
-use Rattle.std.proofs.Common.{◌≡◌, List, [], ◌∷◌, ◌++◌, Some, false, refl, sym, ap, ◌∙◌}
+use Rattle.std.proofs.Common.{◌≡◌, List, [], ◌∷◌, ◌++◌, Some, true, false, refl, sym, ap, ◌∙◌}
 use Rattle.fisca_meaning.specs.Answers.{arithmetic_of}
 use Rattle.fisca_meaning.specs.Dialogues.{bool, ◌>>=◌}
 use Rattle.fisca_meaning.specs.Questions.{Groups, Point}
@@ -10,7 +10,7 @@ use Rattle.fisca_typing.specs.declared.operations.Arithmetic.{Arithmetic}
 use Rattle.fisca_machine.specs.declared.pending.Operation.TheVariants as operation
 use Rattle.fisca_machine.specs.declared.plan.Operand.{Operand}
 use Rattle.fisca_machine.specs.declared.plan.PlanStep.{PlanStep}
-use Rattle.fisca_machine.specs.Plans.{made, then_operand, then_steps}
+use Rattle.fisca_machine.specs.Plans.{has_plan, is_operand, made, then_operand, then_steps}
 use Rattle.fisca_machine.specs.Running.{After, Locals, says}
 
 steps_behind : (ss : List PlanStep) (s : PlanStep) (k : After) → then_steps (ss ++ s ∷ []) k ≡ then_steps ss (then_steps (s ∷ []) k)
@@ -26,3 +26,9 @@ module _ (c : Tables) (g : Groups) (ls : Locals) (o : Arithmetic) (a b : Node) (
       ∙ ((λ i. then_steps ss (λ x. right_is (λ y. arithmetic_of o x y >>= k) i) (bool false))
       ∙ (ap (λ t. then_steps ss (then_steps (t ∷ []) k) (bool false)) (sym is)
       ∙ (λ i. sym (steps_behind ss s k) i (bool false))))
+
+-- an operand alone
+pub operand_has_plan : (c : Tables) (g : Groups) (ls : Locals) (n : Node) (p : Point) → true ≡ is_operand c g ls n p → true ≡ has_plan c g ls n p
+unfolding is_operand
+operand_has_plan c g ls (node.arithmetic o a b) p h = cc
+operand_has_plan c g ls n p h = h

@@ -1,10 +1,18 @@
 -- What is made of known values and of the values of keys, one after another.
-use Rattle.std.specs.Prelude.{◌≡◌, false, List, [], ◌∷◌, Option, Some, None}
+use Rattle.std.specs.Prelude.{◌≡◌, ℕ, Bool, true, false, ◌&&◌, List, [], ◌∷◌, Option, Some, None}
 use Rattle.fisca_inputs.specs.Seen.{key_seen, value_seen}
-use Rattle.fisca_meaning.specs.Dialogues.{Dialogue, Value, bool, gives, fails, asks, ◌>>=◌}
+use Rattle.fisca_meaning.specs.Dialogues.{Dialogue, Value, bool, gives, fails, stuck, asks, ◌>>=◌}
+use Rattle.fisca_meaning.specs.Questions.{Groups, Point}
+use Rattle.fisca_typing.specs.Nodes as node
+use Rattle.fisca_typing.specs.Nodes.{Node, Indices, no_index, index}
+use Rattle.fisca_typing.specs.Tables.{Tables}
+use Rattle.fisca_typing.specs.declared.asking.Asking.{Asking}
+use Rattle.fisca_typing.specs.declared.asking.Asking.TheVariants as asking
+use Rattle.fisca_typing.specs.declared.asking.Whom.{Whom}
+use Rattle.fisca_typing.specs.declared.asking.Whom.TheVariants as whom
 use Rattle.fisca_values.specs.Casts.{cast}
 use Rattle.fisca_values.specs.Ended.{fault_seen}
-use Rattle.fisca_machine.specs.Running.{After, applied}
+use Rattle.fisca_machine.specs.Running.{After, Locals, applied, says}
 use Rattle.fisca_machine.specs.declared.pending.Operation.{Operation}
 use Rattle.fisca_machine.specs.declared.plan.Operand.{Operand}
 use Rattle.fisca_machine.specs.declared.plan.Operand.TheVariants as operand
@@ -42,3 +50,56 @@ abbrev pub Stops : Stop → Dialogue → After → Type 0
 Stops (stop.Done v) d g = d ≡ gives (value_seen v)
 Stops (stop.Failed e) d g = d ≡ fails (fault_seen e)
 Stops (stop.Needs key) d g = d ≡ asks (key_seen key) g
+
+-- Which formulas have plans
+
+-- for the formula's own member, as it stands
+abbrev pub is_plain : Whom → Asking → Bool
+is_plain whom.Own asking.Plain = true
+is_plain whom.Own asking.Add = false
+is_plain whom.Own asking.Divide = false
+is_plain (whom.Group e) how = false
+is_plain whom.Person how = false
+is_plain (whom.Holder r) how = false
+
+abbrev pub is_alone : Indices → List ℕ → Bool
+is_alone no_index [] = false
+is_alone no_index (place ∷ []) = true
+is_alone no_index (a ∷ b ∷ places) = false
+is_alone (index n size is) places = false
+
+-- what is known, a parameter that is not chosen, or a variable as it stands
+abbrev pub is_simple : Node → Bool
+is_simple (node.literal n) = true
+is_simple (node.truth b) = true
+is_simple (node.member e i) = true
+is_simple (node.local i) = false
+is_simple (node.date_part d ms) = false
+is_simple (node.ask v w how ms) = is_plain w how
+is_simple (node.has_role e r) = false
+is_simple (node.count r) = false
+is_simple (node.total o r a) = false
+is_simple (node.negative a) = false
+is_simple (node.opposite a) = false
+is_simple (node.arithmetic o a b) = false
+is_simple (node.logic o a b) = false
+is_simple (node.comparison o a b) = false
+is_simple (node.same a b) = false
+is_simple (node.choose q a b) = false
+is_simple (node.parameter is places ms) = is_alone is places
+is_simple (node.scale_sum place ms a) = false
+
+-- at once a value, or a question
+abbrev pub is_at_hand : Dialogue → Bool
+is_at_hand (gives x) = true
+is_at_hand (fails e) = false
+is_at_hand stuck = false
+is_at_hand (asks key f) = true
+
+unfoldable pub is_operand : Tables → Groups → Locals → Node → Point → Bool
+is_operand c g ls n p = is_simple n && is_at_hand (says c g ls n p gives)
+
+-- an operand, or arithmetic on what has a plan and an operand
+abbrev pub has_plan : Tables → Groups → Locals → Node → Point → Bool
+has_plan c g ls (node.arithmetic o a b) p = has_plan c g ls a p && is_operand c g ls b p
+has_plan c g ls n p = is_operand c g ls n p

@@ -1,25 +1,26 @@
 //! Formulas that are made of known values and of the values of keys, one after another.
 
 ghost use Rattle.std.specs.Bool.{OnTrue};
-ghost use Rattle.std.specs.Prelude.{◌≡◌, [], List, None, false, map, IfOk, IfSome};
+ghost use Rattle.std.specs.Prelude.{◌≡◌, [], ◌∷◌, List, None, false, map, is_some, IfOk, IfSome};
 ghost use Rattle.fisca_meaning.specs.Dialogues.{bool};
 ghost use Rattle.fisca_meaning.specs.Meaning.{formula_means};
 ghost use Rattle.fisca_meaning.specs.Questions.{Groups};
 ghost use Rattle.fisca_nodes.specs.Views.{node};
 ghost use Rattle.fisca_nodes.specs.declared.node.Node.{Node as Held};
 ghost use Rattle.fisca_tables.specs.Known.{tables as known};
-ghost use Rattle.fisca_machine.specs.Plans.{plays, then_operand, then_steps};
+ghost use Rattle.fisca_machine.specs.Plans.{has_plan, is_alone, is_operand, plays, then_operand, then_steps};
 ghost use Rattle.fisca_machine.specs.Running.{After, Locals, before, parametric, point, says};
-ghost use Rattle.fisca_typing.specs.Nodes.{ask as asks_node, parameter};
+ghost use Rattle.fisca_typing.specs.Nodes.{ask as asks_node, no_index, parameter};
 ghost use Rattle.fisca_values.specs.Casts.{cast};
 
 use crate::found::{type_of, variable_at};
 use crate::pending::{Frame, Operation};
 use fisca_inputs::{Key, Value};
 use fisca_nodes::{Ask, Node, Parameter};
+use fisca_params::NodeId;
 use fisca_tables::{DeclaredType, Tables};
 use fisca_typing::{Asking, Whom};
-use fisca_values::{moved_all, parameter_at, plain_key};
+use fisca_values::{moved_all, parameter_at, plain_key, start_at};
 use std::alloc::{AllocError, Global};
 
 /// An operand.
@@ -50,23 +51,39 @@ pub struct Plan {
     pub(crate) declared: DeclaredType,
 }
 
-/// The parameter that a node names, where none is chosen and it has a value.
-fn parameter_of(tables: &Tables<'_>, x: &Parameter, frame: &Frame) -> Option<Operand>
-    ensures { IfSome result (λ o. (g : Groups) (ls : Locals) (k : After) → says (known tables.now) g ls (parameter (parametric x.now).indices (parametric x.now).places (parametric x.now).moves) (point frame.now (record { person = None; visible = 0 })) k ≡ then_operand o k) }
+/// The place of the parameter that a node names, where none is chosen.
+fn only_place(x: &Parameter) -> Option<NodeId>
+    ensures some { IfSome result (λ place. ((parametric x.now).indices ≡ no_index) × ((parametric x.now).places ≡ place ∷ [])) }
+    ensures only { is_some result ≡ is_alone (parametric x.now).indices (parametric x.now).places }
 {
-    let ([], [place]) = (x.indices.as_slice(), x.places.as_slice()) else {
+    let [] = x.indices.as_slice() else {
         return None;
     };
-    let day = moved_all(x.moves.as_slice(), frame.period).ok()?.start()?;
-    match parameter_at(&tables.parameters, *place, day) {
+    match x.places.as_slice() {
+        [place] => Some(*place),
+        _ => None,
+    }
+}
+
+/// The parameter that a node names, where none is chosen and it has a value.
+#[tactic(auto, unfolding(crate::specs::Plans::is_operand))]
+fn parameter_of(tables: &Tables<'_>, x: &Parameter, frame: &Frame) -> Option<Operand>
+    ensures some { IfSome result (λ o. (g : Groups) (ls : Locals) (k : After) → says (known tables.now) g ls (parameter (parametric x.now).indices (parametric x.now).places (parametric x.now).moves) (point frame.now (record { person = None; visible = 0 })) k ≡ then_operand o k) }
+    ensures only { (g : Groups) (ls : Locals) → is_some result ≡ is_operand (known tables.now) g ls (parameter (parametric x.now).indices (parametric x.now).places (parametric x.now).moves) (point frame.now (record { person = None; visible = 0 })) }
+{
+    let place = only_place(x)?;
+    let day = start_at(x.moves.as_slice(), frame.period).ok()?;
+    match parameter_at(&tables.parameters, place, day) {
         Ok(value) => Some(Operand::Known(value)),
         Err(_) => None,
     }
 }
 
 /// The key for which a node asks the formula's own member, as it stands.
+#[tactic(auto, unfolding(crate::specs::Plans::is_operand))]
 fn own_key(tables: &Tables<'_>, ask: &Ask, frame: &Frame) -> Option<Operand>
-    ensures { IfSome result (λ o. (g : Groups) (ls : Locals) (k : After) → says (known tables.now) g ls (asks_node ask.now.variable ask.now.whom ask.now.asking ask.now.moves.items) (point frame.now (record { person = None; visible = 0 })) k ≡ then_operand o k) }
+    ensures some { IfSome result (λ o. (g : Groups) (ls : Locals) (k : After) → says (known tables.now) g ls (asks_node ask.now.variable ask.now.whom ask.now.asking ask.now.moves.items) (point frame.now (record { person = None; visible = 0 })) k ≡ then_operand o k) }
+    ensures only { (g : Groups) (ls : Locals) → is_some result ≡ is_operand (known tables.now) g ls (asks_node ask.now.variable ask.now.whom ask.now.asking ask.now.moves.items) (point frame.now (record { person = None; visible = 0 })) }
 {
     let (Asking::Plain, Whom::Own) = (ask.asking, ask.whom) else {
         return None;
@@ -86,8 +103,10 @@ fn own_key(tables: &Tables<'_>, ask: &Ask, frame: &Frame) -> Option<Operand>
 }
 
 /// The operand that a node is, where it is one.
+#[tactic(auto, unfolding(crate::specs::Plans::is_operand))]
 fn operand_of(tables: &Tables<'_>, e: &Node, frame: &Frame) -> Option<Operand>
-    ensures { IfSome result (λ o. (g : Groups) (ls : Locals) (k : After) → says (known tables.now) g ls (node e.now) (point frame.now (record { person = None; visible = 0 })) k ≡ then_operand o k) }
+    ensures some { IfSome result (λ o. (g : Groups) (ls : Locals) (k : After) → says (known tables.now) g ls (node e.now) (point frame.now (record { person = None; visible = 0 })) k ≡ then_operand o k) }
+    ensures only { (g : Groups) (ls : Locals) → is_some result ≡ is_operand (known tables.now) g ls (node e.now) (point frame.now (record { person = None; visible = 0 })) }
 {
     match e {
         Node::Literal(number) => Some(Operand::Known(Value::Number(*number))),
@@ -111,7 +130,7 @@ fn operand_of(tables: &Tables<'_>, e: &Node, frame: &Frame) -> Option<Operand>
     }
 }
 
-/// Puts the steps of a node whose left operands, one below another, are such nodes, and whose right ones are operands. Whether it is one.
+/// Puts the steps of a node that is an operand, or arithmetic on such a node and on an operand. Whether it is one.
 fn put_steps(
     tables: &Tables<'_>,
     e: &Node,
@@ -119,33 +138,54 @@ fn put_steps(
     steps: &mut Vec<PlanStep>,
 ) -> Result<bool, AllocError>
     requires { steps.old.items ≡ [] }
-    ensures { IfOk result (λ r. OnTrue r ((g : Groups) (ls : Locals) (k : After) → says (known tables.now) g ls (node e.now) (point frame.now (record { person = None; visible = 0 })) k ≡ then_steps steps.new.items k (bool false))) }
+    ensures steps { IfOk result (λ r. OnTrue r ((g : Groups) (ls : Locals) (k : After) → says (known tables.now) g ls (node e.now) (point frame.now (record { person = None; visible = 0 })) k ≡ then_steps steps.new.items k (bool false))) }
+    ensures only { IfOk result (λ r. (g : Groups) (ls : Locals) → r ≡ has_plan (known tables.now) g ls (node e.now) (point frame.now (record { person = None; visible = 0 }))) }
 {
-    let Node::Arithmetic(kind, pair) = e else {
-        let Some(right) = operand_of(tables, e, frame) else {
-            return Ok(false);
-        };
+    if let Some(right) = operand_of(tables, e, frame) {
         steps.push(PlanStep {
             operation: None,
             right,
         })?;
         return Ok(true);
-    };
-    if !put_steps(tables, &pair.left, frame, steps)? {
-        return Ok(false);
     }
-    let Some(right) = operand_of(tables, &pair.right, frame) else {
-        return Ok(false);
-    };
-    steps.push(PlanStep {
-        operation: Some(Operation::Arithmetic(*kind)),
-        right,
-    })?;
-    Ok(true)
+    match e {
+        Node::Arithmetic(kind, pair) => {
+            if !put_steps(tables, &pair.left, frame, steps)? {
+                return Ok(false);
+            }
+            let Some(right) = operand_of(tables, &pair.right, frame) else {
+                return Ok(false);
+            };
+            steps.push(PlanStep {
+                operation: Some(Operation::Arithmetic(*kind)),
+                right,
+            })?;
+            Ok(true)
+        }
+        Node::Literal(_)
+        | Node::Truth(_)
+        | Node::Member(..)
+        | Node::Local(_)
+        | Node::DatePart(..)
+        | Node::Ask(_)
+        | Node::HasRole(..)
+        | Node::Count(_)
+        | Node::Total(..)
+        | Node::Negative(_)
+        | Node::Opposite(_)
+        | Node::Logic(..)
+        | Node::Comparison(..)
+        | Node::Same(_)
+        | Node::Choose(..)
+        | Node::Parameter(_)
+        | Node::ScaleSum(_) => Ok(false),
+    }
 }
 
-/// The plan of a formula of a variable of this type, by the node of its result. `None` where it is not made of known values and of the
-/// values of keys, one after another, or where something that it names has no value then. `Err` where no memory was given.
+/// The plan of a formula of a variable of this type, for a member at a period, by the node of its result. `None` exactly where the node is no operand
+/// and no arithmetic from left to right on operands. An operand is a literal, a parameter that is not chosen or a variable of the formula's own
+/// member as it stands, where it has a value or a key then: no period is out of range, the parameter has a value on the day, and the period fits
+/// the variable. `Err` only where memory was refused. This project's own rule.
 pub fn plan_of(
     alloc: Global,
     tables: &Tables<'_>,
@@ -153,7 +193,8 @@ pub fn plan_of(
     declared: DeclaredType,
     frame: Frame,
 ) -> Result<Option<Plan>, AllocError>
-    ensures { IfOk result (λ o. IfSome o (λ p. (ns : List Held) (g : Groups) → before (formula_means (known tables.now) g (record { values = map node ns; result = node returned.now }) (record { entity = frame.entity; member = frame.member; person = None; period = frame.period })) (cast declared) ≡ plays p)) }
+    ensures plays { IfOk result (λ o. IfSome o (λ p. (ns : List Held) (g : Groups) → before (formula_means (known tables.now) g (record { values = map node ns; result = node returned.now }) (record { entity = frame.entity; member = frame.member; person = None; period = frame.period })) (cast declared) ≡ plays p)) }
+    ensures only { IfOk result (λ o. (g : Groups) (ls : Locals) → is_some o ≡ has_plan (known tables.now) g ls (node returned.now) (point frame (record { person = None; visible = 0 }))) }
 {
     let mut steps = Vec::new(alloc);
     if put_steps(tables, returned, &frame, &mut steps)? {

@@ -50,7 +50,7 @@ fn made(operation: Option<Operation>, left: Value, right: Value) -> Result<Value
 }
 
 impl Plan {
-    /// The plan from its beginning on, which waits for an operand that its first step has no need of: any, say `False`.
+    /// The plan from its beginning on, which waits for an operand that its first step has no need of: any, say `False`. This project's own rule.
     #[inline(always)]
     pub fn begin(&self) -> Progress<'_>
         ensures { behind_operand result (bool false) ≡ plays self.now }
@@ -65,7 +65,9 @@ impl Plan {
 }
 
 impl Progress<'_> {
-    /// Goes on with the operand that was waited for, until the plan stops.
+    /// Goes on with the operand that was waited for, until the plan stops: `Done` with the value that the variable takes, `Failed` with the fault
+    /// where a step or the variable's type has no value, or `Needs` with the key of the next operand, which then is waited for. This project's own
+    /// rule.
     #[inline(always)]
     pub fn go_on(&mut self, operand: Value) -> Stop
         requires moving { IsMoving (behind_operand self.old (value_seen operand)) }

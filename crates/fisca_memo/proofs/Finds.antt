@@ -16,7 +16,8 @@ use Rattle.fisca_inputs.specs.contracts.key.KeyEq.TheImpl.Laws.{laws-law}
 use Rattle.fisca_inputs.specs.declared.key.Key.{Key}
 use Rattle.fisca_meaning.specs.Dialogues as meaning
 use Rattle.fisca_time.specs.Period.{is_period}
-use Rattle.fisca_memo.specs.Found.{AreOnce, entry_seen, found_by, place_from, unless}
+use Rattle.fisca_inputs.specs.Places.{AreOnce}
+use Rattle.fisca_memo.specs.Found.{entry_seen, found_by, place_from, unless}
 use Rattle.fisca_memo.specs.declared.known.Known.{Known}
 
 abbrev Pairs : Type 0

@@ -1,7 +1,6 @@
 -- What is found of keys in a list of pairs.
 use Rattle.std.specs.Prelude.{ℕ, suc, Bool, List, [], ◌∷◌, Option, None, Some, option_map, if◌then◌else◌}
-use Rattle.std.specs.List.{IsDistinct}
-use Rattle.std.specs.Map.{keys_of, lookup}
+use Rattle.std.specs.Map.{lookup}
 use Rattle.fisca_heights.specs.Entries.{Entry}
 use Rattle.fisca_inputs.specs.Entries.{same_key}
 use Rattle.fisca_inputs.specs.Seen.{key_of, value_seen}
@@ -20,10 +19,6 @@ found_by at k = if is_period k.period then option_map entry_seen (at (key_of k))
 -- the first pair of the key
 abbrev pub found : List (Key × Known) → meaning.Key → Option Entry
 found pairs = found_by (λ k. lookup (same_key k) pairs)
-
--- each key stands in one pair at most
-abbrev pub AreOnce : {X : Type 0} → List (Key × X) → Type 0
-AreOnce pairs = IsDistinct same_key (keys_of pairs)
 
 -- what is there, unless it passes the test
 abbrev pub unless : {X : Type 0} → (X → Bool) → Option X → Option X

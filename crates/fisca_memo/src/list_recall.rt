@@ -7,7 +7,8 @@ ghost use Rattle.fisca_heights.specs.Reads.{reads_wheel};
 ghost use Rattle.fisca_inputs.specs.Entries.{same_key};
 ghost use Rattle.fisca_inputs.specs.declared.key.Key as declared;
 ghost use Rattle.fisca_meaning.specs.Dialogues as meaning;
-ghost use Rattle.fisca_memo.specs.Found.{AreOnce, found, place_from, unless};
+ghost use Rattle.fisca_inputs.specs.Places.{AreOnce};
+ghost use Rattle.fisca_memo.specs.Found.{found, place_from, unless};
 
 use crate::known::Known;
 use crate::recall::Recall;

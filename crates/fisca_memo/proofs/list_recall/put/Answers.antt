@@ -1,7 +1,8 @@
 use Rattle.std.proofs.Common.{◌∙◌, sym, subst, ap, arith}
 use Rattle.std.specs.Map.{lookup}
 use Rattle.fisca_inputs.specs.Entries.{same_key}
-use Rattle.fisca_memo.specs.Found.{AreOnce, place_from}
+use Rattle.fisca_inputs.specs.Places.{AreOnce}
+use Rattle.fisca_memo.specs.Found.{place_from}
 use Rattle.fisca_memo.proofs.Finds.{placed_within, placed_put, placed_once, last_put, last_once}
 use Rattle.fisca_memo.proofs.list_recall.put.Goals as goal
 

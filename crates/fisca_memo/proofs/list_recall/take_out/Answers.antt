@@ -4,7 +4,7 @@ use Rattle.std.proofs.lemmas.Fn.{filter_same}
 use Rattle.std.proofs.lemmas.Map.Made.{IsDistinct-keys_filter}
 use Rattle.fisca_heights.specs.Reads.{reads_wheel}
 use Rattle.fisca_inputs.specs.Entries.{same_key}
-use Rattle.fisca_memo.specs.Found.{AreOnce}
+use Rattle.fisca_inputs.specs.Places.{AreOnce}
 use Rattle.fisca_memo.proofs.Finds.{left_of}
 use Rattle.fisca_memo.proofs.list_recall.take_out.Goals as goal
 

@@ -13,5 +13,5 @@ returns-in-Ok c =
     let k = key_seen c.args.key.now in
     let v = c.in_ok-variable.variable.now in
     let f = c.in_ok-formula.formula.now in
-    IfSome_then c.in-Ok.plan c.in-Ok.ensures
+    IfSome_then c.in-Ok.plan c.in-Ok.ensures.plays
     (λ p says. plan_found (rule_set r) c.args.simulation.neutral.now k p (written v) (formula_view f) (sym c.in_ok-variable.ensures) (sym c.in_ok-formula.ensures) (plan_says r v f k p says))

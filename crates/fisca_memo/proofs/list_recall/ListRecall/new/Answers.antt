@@ -1,5 +1,5 @@
 use Rattle.std.proofs.Common.{sym, subst}
-use Rattle.fisca_memo.specs.Found.{AreOnce}
+use Rattle.fisca_inputs.specs.Places.{AreOnce}
 use Rattle.fisca_memo.proofs.Finds.{none_once}
 use Rattle.fisca_memo.proofs.list_recall.ListRecall.new.Goals as goal
 

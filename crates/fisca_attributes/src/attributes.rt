@@ -103,7 +103,7 @@ pub fn period_value(value: &Expr<'_>) -> Result<Unit, Kind>
 {
     match bare(value) {
         Expr::Name(name) => period_named(name.as_bytes()),
-        Expr::Attribute(left, name) => unit_of(name.as_bytes(), name_value(&**left)),
+        Expr::Attribute(access) => unit_of(access.name.as_bytes(), name_value(&access.front)),
         _ => Err(Kind::BadAttribute),
     }
 }

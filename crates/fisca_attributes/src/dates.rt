@@ -40,9 +40,9 @@ pub fn dotted_value<'a>(value: &Expr<'a>) -> Result<Dotted<'a>, Kind>
     ensures { Gives (λ d. d) (spec.dotted_value (tree value.now)) result }
 {
     match bare(value) {
-        Expr::Attribute(left, name) => Ok(Dotted {
-            left: name_value(&**left)?,
-            right: Text::borrowed(name.as_bytes()),
+        Expr::Attribute(access) => Ok(Dotted {
+            left: name_value(&access.front)?,
+            right: Text::borrowed(access.name.as_bytes()),
         }),
         _ => Err(Kind::BadAttribute),
     }
@@ -94,11 +94,14 @@ pub fn date_value(alloc: Global, value: &Expr<'_>) -> Result<Instant, Kind>
     ensures { Gives (λ d. d) (spec.date_value (tree value.now)) result }
 {
     match bare(value) {
-        Expr::Applied(Suffix::Call, called, inside) => {
-            if !is_date(&**called) {
+        Expr::Applied(Suffix::Call, call) => {
+            if !is_date(&call.front) {
                 return Err(Kind::BadAttribute);
             }
-            let numbers = each_whole(alloc, parted(inside.items.as_slice(), inside.comma))?;
+            let numbers = each_whole(
+                alloc,
+                parted(call.behind.items.as_slice(), call.behind.comma),
+            )?;
             date_of_numbers(numbers.as_slice())
         }
         _ => Err(Kind::BadAttribute),

@@ -174,7 +174,7 @@ fn arguments_of<'e, 'a>(value: &'e Expr<'a>) -> &'e [Argument<'a>]
     ensures { map argument_view result.now ≡ spec.arguments_of (bare_tree (tree value.now)) }
 {
     match bare(value) {
-        Expr::Applied(_, _, inside) => parted(inside.items.as_slice(), inside.comma),
+        Expr::Applied(_, call) => parted(call.behind.items.as_slice(), call.behind.comma),
         _ => &[],
     }
 }

@@ -138,19 +138,19 @@ fn expression(expr: &Expr<'_>) -> u64 {
     match expr {
         Expr::Name(slice) | Expr::Number(slice) | Expr::Text(slice) => length(slice),
         Expr::Bracketed(_, inside) => arguments(inside).wrapping_add(1),
-        Expr::Attribute(inside, name) => expression(inside)
+        Expr::Attribute(access) => expression(&access.front)
             .wrapping_add(1)
-            .wrapping_add(length(name)),
-        Expr::Applied(_, inside, behind) => {
-            expression(inside)
+            .wrapping_add(length(&access.name)),
+        Expr::Applied(_, application) => {
+            expression(&application.front)
                 .wrapping_add(1)
-                .wrapping_add(arguments(behind))
+                .wrapping_add(arguments(&application.behind))
         }
         Expr::Prefixed(_, inside) => expression(inside).wrapping_add(1),
-        Expr::Binary(_, left, right) | Expr::Compare(_, left, right) => {
-            expression(left)
+        Expr::Binary(_, operands) | Expr::Compare(_, operands) => {
+            expression(&operands.left)
                 .wrapping_add(1)
-                .wrapping_add(expression(right))
+                .wrapping_add(expression(&operands.right))
         }
     }
 }

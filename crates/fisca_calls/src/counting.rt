@@ -19,19 +19,19 @@ pub fn size_of(tree: &Expr, locals: &Locals) -> Size
         Expr::Name(name) => locals.size_named(name.as_bytes()),
         Expr::Number(_) | Expr::Text(_) => one(),
         Expr::Bracketed(_, inside) => above(size_all(inside.items.as_slice(), locals)),
-        Expr::Attribute(inside, _) => above(size_of(inside, locals)),
-        Expr::Applied(_, front, behind) => {
-            let first = size_of(front, locals);
-            above(beside(first, size_all(behind.items.as_slice(), locals)))
+        Expr::Attribute(access) => above(size_of(&access.front, locals)),
+        Expr::Applied(_, application) => {
+            let first = size_of(&application.front, locals);
+            above(beside(first, size_all(application.behind.items.as_slice(), locals)))
         }
         Expr::Prefixed(_, inside) => above(size_of(inside, locals)),
-        Expr::Binary(_, left, right) => {
-            let first = size_of(left, locals);
-            above(beside(first, size_of(right, locals)))
+        Expr::Binary(_, operands) => {
+            let first = size_of(&operands.left, locals);
+            above(beside(first, size_of(&operands.right, locals)))
         }
-        Expr::Compare(_, left, right) => {
-            let first = size_of(left, locals);
-            above(beside(first, size_of(right, locals)))
+        Expr::Compare(_, operands) => {
+            let first = size_of(&operands.left, locals);
+            above(beside(first, size_of(&operands.right, locals)))
         }
     }
 }

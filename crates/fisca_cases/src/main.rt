@@ -10,6 +10,7 @@
 ghost use Rattle.fisca_eval.specs.Sound.{IsSafeRules};
 ghost use Rattle.fisca_rules.specs.Views.{rule_set};
 
+mod axes;
 mod columns;
 mod fault;
 mod refusals;

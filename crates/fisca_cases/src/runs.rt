@@ -12,17 +12,19 @@ ghost use Rattle.fisca_run_file.specs.Views.{run_file as run_file_view};
 ghost use Rattle.fisca_situations.specs.Views.{situation as situation_view};
 ghost use Rattle.fisca_memo.specs.Marks.{wheels_of};
 ghost use Rattle.fisca_memo.specs.Slots.{slots_of};
-ghost use Rattle.fisca_memo.specs.Views.{slot_list};
+ghost use Rattle.fisca_situations.specs.Views.{slot_list};
 ghost use Rattle.fisca_yaml.specs.Views.{node};
 
+use crate::axes::are_put_in;
 use crate::fault::{Fault, malformed, no_memory};
 use fisca_commands::{RunStart, evaluator_of, run_anew, run_grid, run_with, start};
 use fisca_eval::EvalFault;
 use fisca_layer_cases::{Written, limit, number, three};
 use fisca_lines::{MemorySink, RunEnd, RunFault};
-use fisca_memo::{Counts, Evaluator, ListRecall, Recall, Slot};
+use fisca_memo::{Counts, Evaluator, ListRecall, Recall};
 use fisca_rules::RuleSet;
 use fisca_run_file::RunFile;
+use fisca_situations::Slot;
 use fisca_yaml::{Tree, read};
 use std::alloc::Global;
 
@@ -47,7 +49,8 @@ pub fn answer(
     }
 }
 
-/// Whether the run, with one situation and one evaluator, writes and answers the same as that which begins anew at each position.
+/// Whether the run, with one situation and one evaluator, writes and answers the same as that which begins anew at each position, and the axes of the file,
+/// put into its situation one by one, leave what a run begins with.
 fn anew(
     alloc: Global,
     rules: &RuleSet<'_>,
@@ -58,7 +61,8 @@ fn anew(
 ) -> Result<String, Fault>
     requires { IsAsked rules.now (node tree.now) (run_file_view run.now) }
 {
-    let is_same = are_the_same(alloc, rules, tree, run, from, rows);
+    let is_same = are_the_same(alloc, rules, tree, run, from, rows)
+        && are_put_in(alloc, rules, tree, run);
     Ok(String::from_str(alloc, if is_same { "the same" } else { "differs" })?)
 }
 

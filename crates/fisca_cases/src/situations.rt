@@ -1,5 +1,6 @@
 //! Situations.
 
+use crate::axes;
 use crate::fault::{Fault, malformed};
 use fisca_inputs::{Key, Value};
 use fisca_layer_cases::{Written, number, two};
@@ -23,6 +24,7 @@ pub fn answer(
         "members" => members(alloc, rules, words),
         "input" => input(alloc, rules, words),
         "neutralized" => neutralized(alloc, rules, words),
+        "axis" => axes::axis(alloc, rules, words),
         _ => Err(malformed()),
     }
 }
@@ -34,12 +36,16 @@ pub fn situation(
     default: &str,
     text: &str,
 ) -> Result<Situation, Fault> {
-    let default = match default {
-        "-" => None,
-        word => Some(Period::read(word)?),
-    };
     let tree = read(alloc, text)?;
-    Ok(Situation::read(alloc, &rules.tables, default, 1, &tree)?)
+    Ok(Situation::read(alloc, &rules.tables, read_period(default)?, 1, &tree)?)
+}
+
+/// A default period, or `-` for none.
+pub fn read_period(default: &str) -> Result<Option<Period>, Fault> {
+    match default {
+        "-" => Ok(None),
+        word => Ok(Some(Period::read(word)?)),
+    }
 }
 
 /// A line for each entity: its members, and behind a bar for each person the group, and the role with its subrole.
@@ -128,6 +134,16 @@ pub fn key_of(
         member: number(member)?,
         period: Period::read(period)?,
     })
+}
+
+/// What stands at a key, behind what is written.
+pub fn push_input(
+    alloc: Global,
+    written: &mut Written,
+    value: &Option<Value>,
+) -> Result<(), Fault> {
+    written.push(shown(alloc, value)?.as_str());
+    Ok(())
 }
 
 fn shown(alloc: Global, value: &Option<Value>) -> Result<String, Fault> {

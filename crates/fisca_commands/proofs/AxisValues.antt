@@ -8,10 +8,11 @@ use Rattle.fisca_grid.specs.AxesRow.{values_of}
 use Rattle.fisca_grid.specs.declared.axes.AxisSpec.{AxisSpec}
 use Rattle.fisca_inputs.specs.Entries.{Entries}
 use Rattle.fisca_num.specs.Number.{Number}
-use Rattle.fisca_memo.specs.Slots as slots
-use Rattle.fisca_memo.specs.Slots.{turned, turned_below}
-use Rattle.fisca_memo.specs.Views.{slot as slot_view}
-use Rattle.fisca_memo.specs.declared.slot.Slot.{Slot}
+use Rattle.fisca_situations.specs.Slots as slots
+use Rattle.fisca_memo.specs.Slots.{turned_below}
+use Rattle.fisca_situations.specs.Slots.{turned}
+use Rattle.fisca_situations.specs.Views.{slot as slot_view}
+use Rattle.fisca_situations.specs.declared.slot.Slot.{Slot}
 
 -- the value of an axis is among those of all
 pub value_there : (axes : List (AxisSpec × ℕ)) (i : ℕ) (v : Number) (vs : List Number) → i < length axes → ForSome (slice_get axes i) (λ at. step_of at.0 at.1 ≡ Ok v)

@@ -14,8 +14,8 @@ use Rattle.fisca_memo.proofs.Marked.{has_all}
 use Rattle.fisca_memo.proofs.Within.{all_within}
 use Rattle.fisca_memo.specs.Marks.{has_mark, wheels_of}
 use Rattle.fisca_memo.specs.Slots.{slots_of}
-use Rattle.fisca_memo.specs.Views.{slot as slot_view, slot_list}
-use Rattle.fisca_memo.specs.declared.slot.Slot.{Slot}
+use Rattle.fisca_situations.specs.Views.{slot as slot_view, slot_list}
+use Rattle.fisca_situations.specs.declared.slot.Slot.{Slot}
 use Rattle.fisca_eval.specs.Simulations.{Simulation}
 
 seen_there : (ss : List Slot) (i : ℕ) (s : Slot) → slice_get ss i ≡ Some s → slice_get (slot_list ss) i ≡ Some (slot_view s)

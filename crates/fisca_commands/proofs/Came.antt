@@ -22,7 +22,7 @@ use Rattle.fisca_commands.specs.Runs.{positions}
 use Rattle.fisca_commands.specs.declared.kept_rows.KeptRows.{KeptRows}
 use Rattle.fisca_run_file.specs.RunFiles.{RunFile}
 use Rattle.fisca_run_file.specs.Views.{run_file}
-use Rattle.fisca_memo.specs.declared.slot.Slot.{Slot}
+use Rattle.fisca_situations.specs.declared.slot.Slot.{Slot}
 use Rattle.fisca_eval.specs.Simulations.{Simulation}
 use Rattle.fisca_tables.specs.declared.tables.Tables.{Tables}
 

@@ -34,8 +34,8 @@ use Rattle.fisca_commands.specs.Runs.{positions}
 use Rattle.fisca_run_file.specs.RunFiles.{RunFile}
 use Rattle.fisca_memo.proofs.OfFiles.{length-wheels, many_wheels}
 use Rattle.fisca_memo.specs.Slots.{slots_with, turned_below, wheels_from}
-use Rattle.fisca_memo.specs.Views.{slot as slot_view}
-use Rattle.fisca_memo.specs.declared.slot.Slot.{Slot}
+use Rattle.fisca_situations.specs.Views.{slot as slot_view}
+use Rattle.fisca_situations.specs.declared.slot.Slot.{Slot}
 use Rattle.fisca_eval.specs.Simulations.{Simulation, sources}
 use Rattle.fisca_tables.specs.declared.tables.Tables.{Tables}
 

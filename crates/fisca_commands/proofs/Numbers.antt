@@ -16,7 +16,9 @@ use Rattle.fisca_rosters.specs.Lookup.{count_at}
 use Rattle.fisca_rosters.specs.declared.entity_members.EntityMembers.{EntityMembers}
 use Rattle.fisca_num.specs.Number.{Number}
 use Rattle.fisca_commands.proofs.Givens.{known_type}
-use Rattle.fisca_run_file.specs.Moved.{has_numbers, if_numbers, moved_at, moved_by, moved_of, moved_or_fault, period_moved, put_all_in, put_in, variable_moved, with_moved}
+use Rattle.fisca_run_file.specs.Moved.{if_numbers, moved_at, moved_by, moved_of, moved_or_fault, period_moved, put_all_in, variable_moved, with_moved}
+use Rattle.fisca_situations.specs.Slots.{has_numbers}
+use Rattle.fisca_situations.specs.Axes.{put_in}
 use Rattle.fisca_run_file.specs.Positions.{cut_by, with_values}
 use Rattle.fisca_run_file.specs.SaidAxes.{SaidAxis}
 use Rattle.fisca_situations.specs.Reading.{variable_of}

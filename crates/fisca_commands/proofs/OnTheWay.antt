@@ -16,9 +16,10 @@ use Rattle.fisca_commands.proofs.AxisValues.{one_more, one_passed, value_there}
 use Rattle.fisca_commands.proofs.Passing.{just_for, just_none, just_on, turned_just}
 use Rattle.fisca_commands.specs.Kept.{with_inputs}
 use Rattle.fisca_commands.specs.Remembered.{AreJust}
-use Rattle.fisca_memo.specs.Slots.{turned, turned_below}
-use Rattle.fisca_memo.specs.Views.{slot as slot_view}
-use Rattle.fisca_memo.specs.declared.slot.Slot.{Slot}
+use Rattle.fisca_memo.specs.Slots.{turned_below}
+use Rattle.fisca_situations.specs.Slots.{turned}
+use Rattle.fisca_situations.specs.Views.{slot as slot_view}
+use Rattle.fisca_situations.specs.declared.slot.Slot.{Slot}
 use Rattle.fisca_eval.specs.Simulations.{Simulation}
 
 module _ {R : Type 0} (find : R → Entries) (t : ℕ) (slots : List Slot) (axes : List (AxisSpec × ℕ)) where

@@ -11,8 +11,8 @@ use Rattle.fisca_run_file.specs.Positions.{moved_at, situation_with}
 use Rattle.fisca_run_file.specs.RunFiles.{RunFile}
 use Rattle.fisca_situations.specs.Situations.{Situation}
 use Rattle.fisca_memo.specs.Slots.{slots_of}
-use Rattle.fisca_memo.specs.Views.{slot as slot_view, slot_list}
-use Rattle.fisca_memo.specs.declared.slot.Slot.{Slot}
+use Rattle.fisca_situations.specs.Views.{slot as slot_view, slot_list}
+use Rattle.fisca_situations.specs.declared.slot.Slot.{Slot}
 use Rattle.fisca_eval.specs.Simulations.{Simulation}
 use Rattle.fisca_tables.specs.declared.tables.Tables.{Tables}
 use Rattle.fisca_yaml.specs.Node.{Node}

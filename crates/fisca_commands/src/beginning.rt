@@ -11,12 +11,12 @@ ghost use Rattle.fisca_run_file.specs.Views.{run_file as run_file_view};
 ghost use Rattle.fisca_situations.specs.Views.{situation as situation_view};
 ghost use Rattle.fisca_memo.specs.Marks.{wheels_of};
 ghost use Rattle.fisca_memo.specs.Slots.{slots_of};
-ghost use Rattle.fisca_memo.specs.Views.{slot_list};
+ghost use Rattle.fisca_situations.specs.Views.{slot_list};
 
-use fisca_memo::{Evaluator, Recall, Slot};
+use fisca_memo::{Evaluator, Recall};
 use fisca_rules::RuleSet;
 use fisca_run_file::RunFile;
-use fisca_situations::Situation;
+use fisca_situations::{Situation, Slot};
 use std::alloc::Global;
 
 /// An evaluator that can be handed in to [`run_with`](crate::run_with), with a memory that holds nothing: its situation is that of the file, where the

@@ -12,7 +12,7 @@ ghost use Rattle.fisca_run_file.specs.Views.{run_file as run_file_view};
 ghost use Rattle.fisca_situations.specs.Views.{situation as situation_view};
 ghost use Rattle.fisca_memo.specs.Marks.{wheels_of};
 ghost use Rattle.fisca_memo.specs.Slots.{slots_of};
-ghost use Rattle.fisca_memo.specs.Views.{slot_list};
+ghost use Rattle.fisca_situations.specs.Views.{slot_list};
 ghost use Rattle.fisca_yaml.specs.Views.{node};
 
 use crate::beginning::evaluator_of;

@@ -12,9 +12,10 @@ ghost use Rattle.fisca_run_file.specs.Views.{run_file as run_file_view};
 use crate::kept_rows::{KeptRows, Room};
 use fisca_eval::EvalFault;
 use fisca_lines::{RowSink, RunEnd, RunFault, write_lines};
-use fisca_memo::{Evaluator, Recall, Slot};
+use fisca_memo::{Evaluator, Recall};
 use fisca_rules::RuleSet;
 use fisca_run_file::RunFile;
+use fisca_situations::Slot;
 use std::alloc::Global;
 
 /// Writes the lines of rows whose values are kept. The rows hold the evaluator all along, so that what it is then is known where they were made.

@@ -17,10 +17,11 @@ use crate::turning::turn_slots;
 use fisca_eval::EvalFault;
 use fisca_inputs::Given;
 use fisca_lines::{Groups, RowFault, Rows, Selection};
-use fisca_memo::{Evaluator, Recall, Slot};
+use fisca_memo::{Evaluator, Recall};
 use fisca_num::Fraction;
 use fisca_rules::RuleSet;
 use fisca_run_file::RunFile;
+use fisca_situations::Slot;
 use std::alloc::Global;
 
 /// A run file under a rule set, and an evaluator whose situation is that of the position that was worked out last or, before there is one, that with

@@ -8,10 +8,11 @@ ghost use Rattle.fisca_num.specs.Number.{Number};
 ghost use Rattle.fisca_commands.specs.Kept.{AllMarked, with_inputs};
 ghost use Rattle.fisca_commands.specs.Remembered.{AreJust};
 ghost use Rattle.fisca_memo.specs.Slots.{turned_below};
-ghost use Rattle.fisca_memo.specs.Views.{slot as slot_view};
+ghost use Rattle.fisca_situations.specs.Views.{slot as slot_view};
 
 use fisca_grid::Axes;
-use fisca_memo::{Evaluator, Recall, Slot};
+use fisca_memo::{Evaluator, Recall};
+use fisca_situations::Slot;
 
 /// Turns the slots of the first `turned` wheels to the values that their axes have at a position, and forgets what reads one of these. It takes no
 /// memory.

@@ -8,7 +8,7 @@ use Rattle.fisca_tokens.specs.declared.token.Token.{Token}
 use Rattle.fisca_expressions.specs.Signs.{signs}
 use Rattle.fisca_expressions.specs.declared.tree.Mode.{Mode}
 use Rattle.fisca_expressions.specs.declared.tree.Expr.{Expr, fold-Expr}
-use Rattle.fisca_expressions.specs.declared.tree.Argument.TheOpen.{Expr-F, Arguments-F, Argument-F}
+use Rattle.fisca_expressions.specs.declared.tree.Argument.TheOpen.{Expr-F, Access-F, Application-F, Arguments-F, Argument-F, Operands-F}
 use Rattle.fisca_expressions.specs.declared.tree.Arguments.{Arguments, fold-Arguments}
 use Rattle.fisca_expressions.specs.declared.tree.Argument.{Argument as Given, fold-Argument}
 use Rattle.fisca_expressions.specs.Tree.{Tree, Series, Argument, name, number, text, bracketed, attribute, applied, prefixed, binary, compare, nothing, last, next, positional, keyword, entry}
@@ -24,33 +24,56 @@ series_of comma [] = nothing
 series_of comma (a ∷ []) = if comma then next a nothing else last a
 series_of comma (a ∷ b ∷ xs) = next a (series_of comma (b ∷ xs))
 
-abbrev pub expr_step : Expr-F Argument Tree Series → Tree
+-- an expression, and the name behind it
+pub record Accessed : Type 0 where
+  pub front : Tree
+  pub name : List ℕ
+
+-- an expression, and what stands in brackets behind it
+pub record Called : Type 0 where
+  pub front : Tree
+  pub behind : Series
+
+pub record Paired : Type 0 where
+  pub left : Tree
+  pub right : Tree
+
+abbrev pub expr_step : Expr-F Argument Tree Accessed Called Series Paired → Tree
 expr_step (Expr-F.Name t) = name t
 expr_step (Expr-F.Number t) = number t
 expr_step (Expr-F.Text t) = text t
-expr_step (Expr-F.Bracketed b xs) = bracketed b xs
-expr_step (Expr-F.Attribute e t) = attribute e.value t
-expr_step (Expr-F.Applied s e xs) = applied s e.value xs
+expr_step (Expr-F.Bracketed b xs) = bracketed b xs.value
+expr_step (Expr-F.Attribute x) = attribute x.value.front x.value.name
+expr_step (Expr-F.Applied s x) = applied s x.value.front x.value.behind
 expr_step (Expr-F.Prefixed p e) = prefixed p e.value
-expr_step (Expr-F.Binary o a b) = binary o a.value b.value
-expr_step (Expr-F.Compare o a b) = compare o a.value b.value
+expr_step (Expr-F.Binary o x) = binary o x.value.left x.value.right
+expr_step (Expr-F.Compare o x) = compare o x.value.left x.value.right
 
-abbrev pub arguments_step : Arguments-F Argument Tree Series → Series
+abbrev pub access_step : Access-F Argument Tree Accessed Called Series Paired → Accessed
+access_step x = record { front = x.front; name = x.name }
+
+abbrev pub application_step : Application-F Argument Tree Accessed Called Series Paired → Called
+application_step x = record { front = x.front; behind = x.behind }
+
+abbrev pub arguments_step : Arguments-F Argument Tree Accessed Called Series Paired → Series
 arguments_step xs = series_of xs.comma xs.items.items
 
-abbrev pub argument_step : Argument-F Argument Tree Series → Argument
+abbrev pub operands_step : Operands-F Argument Tree Accessed Called Series Paired → Paired
+operands_step x = record { left = x.left; right = x.right }
+
+abbrev pub argument_step : Argument-F Argument Tree Accessed Called Series Paired → Argument
 argument_step (Argument-F.Positional e) = positional e
 argument_step (Argument-F.Keyword k e) = keyword k e.value
 argument_step (Argument-F.Entry k e) = entry k.value e.value
 
 abbrev pub tree : Expr → Tree
-tree = fold-Expr Argument Tree Series argument_step expr_step arguments_step
+tree = fold-Expr Argument Tree Accessed Called Series Paired argument_step expr_step access_step application_step arguments_step operands_step
 
 abbrev pub series_view : Arguments → Series
-series_view = fold-Arguments Argument Tree Series argument_step expr_step arguments_step
+series_view = fold-Arguments Argument Tree Accessed Called Series Paired argument_step expr_step access_step application_step arguments_step operands_step
 
 abbrev pub argument_view : Given → Argument
-argument_view = fold-Argument Argument Tree Series argument_step expr_step arguments_step
+argument_view = fold-Argument Argument Tree Accessed Called Series Paired argument_step expr_step access_step application_step arguments_step operands_step
 
 -- arguments, each with a comma behind it, and then more
 abbrev pub before : List Given → Series → Series

@@ -21,6 +21,7 @@ pub use reader::{read_all, read_expression};
 pub use refusal::Refusal;
 pub use sign::{Sign, Slice};
 pub use tree::{
-    Argument, Arguments, Bracket, Comparison, Expr, Mode, Operator, Place, Prefix, Suffix,
+    Access, Application, Argument, Arguments, Bracket, Comparison, Expr, Mode, Operands, Operator,
+    Place, Prefix, Suffix,
 };
 pub use words::is_name;

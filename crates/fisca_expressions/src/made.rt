@@ -7,7 +7,10 @@ ghost use Rattle.fisca_expressions.specs.Views.{tree, series_view, argument_view
 
 use crate::measured::{Measured, MeasuredArgument, MeasuredArguments};
 use crate::sign::Slice;
-use crate::tree::{Argument, Arguments, Bracket, Comparison, Expr, Operator, Prefix, Suffix};
+use crate::tree::{
+    Access, Application, Argument, Arguments, Bracket, Comparison, Expr, Operands, Operator,
+    Prefix, Suffix,
+};
 use std::alloc::{AllocError, Global};
 
 /// An expression, a point and a name.
@@ -23,7 +26,13 @@ pub(crate) fn attribute<'a>(
     ensures low { IfOk result (λ m. m.height ≤ limit) }
 {
     Ok(Measured {
-        expr: Expr::Attribute(Box::new(alloc, left.expr)?, name),
+        expr: Expr::Attribute(Box::new(
+            alloc,
+            Access {
+                front: left.expr,
+                name,
+            },
+        )?),
         height: left.height + 1,
     })
 }
@@ -44,9 +53,29 @@ pub(crate) fn applied<'a>(
 {
     let height = left.height.max(inside.height) + 1;
     Ok(Measured {
-        expr: Expr::Applied(suffix, Box::new(alloc, left.expr)?, inside.arguments),
+        expr: Expr::Applied(
+            suffix,
+            Box::new(
+                alloc,
+                Application {
+                    front: left.expr,
+                    behind: inside.arguments,
+                },
+            )?,
+        ),
         height,
     })
+}
+
+/// Two operands side by side.
+fn operands<'a>(
+    alloc: Global,
+    left: Expr<'a>,
+    right: Expr<'a>,
+) -> Result<Box<Operands<'a>>, AllocError>
+    ensures { IfOk result (λ o. (tree o.value.left ≡ tree left.entry) × (tree o.value.right ≡ tree right.entry)) }
+{
+    Ok(Box::new(alloc, Operands { left, right })?)
 }
 
 /// Two operands.
@@ -65,11 +94,7 @@ pub(crate) fn binary<'a>(
 {
     let height = left.height.max(right.height) + 1;
     Ok(Measured {
-        expr: Expr::Binary(
-            operator,
-            Box::new(alloc, left.expr)?,
-            Box::new(alloc, right.expr)?,
-        ),
+        expr: Expr::Binary(operator, operands(alloc, left.expr, right.expr)?),
         height,
     })
 }
@@ -89,11 +114,7 @@ pub(crate) fn compare<'a>(
 {
     let height = left.height.max(right.height) + 1;
     Ok(Measured {
-        expr: Expr::Compare(
-            comparison,
-            Box::new(alloc, left.expr)?,
-            Box::new(alloc, right.expr)?,
-        ),
+        expr: Expr::Compare(comparison, operands(alloc, left.expr, right.expr)?),
         height,
     })
 }
@@ -117,18 +138,19 @@ pub(crate) fn prefixed<'a>(
 
 /// What stands in brackets.
 pub(crate) fn bracketed<'a>(
+    alloc: Global,
     bracket: Bracket,
     inside: MeasuredArguments<'a>,
     limit: usize,
-) -> Measured<'a>
+) -> Result<Measured<'a>, AllocError>
     requires { inside.height < limit }
-    ensures value { tree result.expr ≡ spec.bracketed bracket (series_view inside.entry.arguments) }
-    ensures low { result.height ≤ limit }
+    ensures value { IfOk result (λ m. tree m.expr ≡ spec.bracketed bracket (series_view inside.entry.arguments)) }
+    ensures low { IfOk result (λ m. m.height ≤ limit) }
 {
-    Measured {
-        expr: Expr::Bracketed(bracket, inside.arguments),
+    Ok(Measured {
+        expr: Expr::Bracketed(bracket, Box::new(alloc, inside.arguments)?),
         height: inside.height + 1,
-    }
+    })
 }
 
 /// A name.

@@ -86,7 +86,7 @@ fn read_opened<'a>(
             let place = place_in(mode, bracket);
             let end = closing_mark(bracket);
             let inside = read_enclosed(alloc, cursor, mode, limit - 1, place, end)?;
-            Ok(bracketed(bracket, inside, limit))
+            Ok(bracketed(alloc, bracket, inside, limit)?)
         }
         Beginning::Sign(prefix) => {
             cursor.advance();

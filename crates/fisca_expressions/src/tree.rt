@@ -76,7 +76,7 @@ pub enum Mode {
     Formula,
 }
 
-/// An expression as it is written.
+/// An expression as it is written. What has parts holds them in one box, so that an expression takes little room.
 #[cycle(tree)]
 #[derive(Drop)]
 pub enum Expr<'a> {
@@ -87,17 +87,47 @@ pub enum Expr<'a> {
     /// Texts in quotes, side by side.
     Text(Slice<'a>),
     /// What stands in brackets.
-    Bracketed(Bracket, Arguments<'a>),
+    Bracketed(Bracket, Box<Arguments<'a>>),
     /// An expression, a point and a name.
-    Attribute(Box<Expr<'a>>, Slice<'a>),
+    Attribute(Box<Access<'a>>),
     /// An expression, and what stands in brackets behind it.
-    Applied(Suffix, Box<Expr<'a>>, Arguments<'a>),
+    Applied(Suffix, Box<Application<'a>>),
     /// A prefix and its operand.
     Prefixed(Prefix, Box<Expr<'a>>),
     /// Two operands.
-    Binary(Operator, Box<Expr<'a>>, Box<Expr<'a>>),
+    Binary(Operator, Box<Operands<'a>>),
     /// A comparison.
-    Compare(Comparison, Box<Expr<'a>>, Box<Expr<'a>>),
+    Compare(Comparison, Box<Operands<'a>>),
+}
+
+/// An expression, and the name behind it.
+#[cycle(tree)]
+#[derive(Drop)]
+pub struct Access<'a> {
+    /// The expression.
+    pub front: Expr<'a>,
+    /// The name.
+    pub name: Slice<'a>,
+}
+
+/// An expression, and what stands in brackets behind it.
+#[cycle(tree)]
+#[derive(Drop)]
+pub struct Application<'a> {
+    /// The expression.
+    pub front: Expr<'a>,
+    /// What stands in brackets.
+    pub behind: Arguments<'a>,
+}
+
+/// Two operands.
+#[cycle(tree)]
+#[derive(Drop)]
+pub struct Operands<'a> {
+    /// The left one.
+    pub left: Expr<'a>,
+    /// The right one.
+    pub right: Expr<'a>,
 }
 
 /// What stands between brackets: each of the first is followed by a comma.

@@ -36,19 +36,24 @@ pub fn thing_of<'a, 't>(alloc: Global, tree: &'t Expr<'a>, names: &Names) -> Res
         Expr::Bracketed(bracket, inside) => {
             bracketed(alloc, names, *bracket, inside.items.as_slice())
         }
-        Expr::Attribute(front, name) => attribute(alloc, names, front, name.as_bytes()),
-        Expr::Applied(suffix, front, behind) => {
-            let before = thing_of(alloc, front, names);
-            applied(alloc, names, *suffix, before, behind.items.as_slice())
+        Expr::Attribute(access) => {
+            attribute(alloc, names, &access.front, access.name.as_bytes())
+        }
+        Expr::Applied(suffix, application) => {
+            let before = thing_of(alloc, &application.front, names);
+            let behind = application.behind.items.as_slice();
+            applied(alloc, names, *suffix, before, behind)
         }
         Expr::Prefixed(prefix, operand) => prefixed(alloc, names, *prefix, operand),
-        Expr::Binary(operator, left, right) => {
-            let first = thing_of(alloc, left, names);
-            of_two(alloc, names, Dyadic::Operator(*operator), first, right)
+        Expr::Binary(operator, operands) => {
+            let first = thing_of(alloc, &operands.left, names);
+            let dyadic = Dyadic::Operator(*operator);
+            of_two(alloc, names, dyadic, first, &operands.right)
         }
-        Expr::Compare(comparison, left, right) => {
-            let first = thing_of(alloc, left, names);
-            of_two(alloc, names, Dyadic::Comparison(*comparison), first, right)
+        Expr::Compare(comparison, operands) => {
+            let first = thing_of(alloc, &operands.left, names);
+            let dyadic = Dyadic::Comparison(*comparison);
+            of_two(alloc, names, dyadic, first, &operands.right)
         }
     }
 }

@@ -42,33 +42,33 @@ fn show(shown: &mut Written, expr: &Expr<'_>) {
             show_arguments(shown, inside);
             shown.push(">");
         }
-        Expr::Attribute(value, name) => {
-            show(shown, value);
+        Expr::Attribute(access) => {
+            show(shown, &access.front);
             shown.push(".");
-            push(shown, name);
+            push(shown, &access.name);
         }
-        Expr::Applied(suffix, value, inside) => {
-            show(shown, value);
+        Expr::Applied(suffix, application) => {
+            show(shown, &application.front);
             shown.push(opening(*suffix));
-            show_arguments(shown, inside);
+            show_arguments(shown, &application.behind);
             shown.push(closing(*suffix));
         }
         Expr::Prefixed(prefix, value) => {
             shown.push(prefix_name(*prefix));
             show(shown, value);
         }
-        Expr::Binary(operator, left, right) => {
+        Expr::Binary(operator, operands) => {
             shown.push("(");
-            show(shown, left);
+            show(shown, &operands.left);
             shown.push(operator_name(*operator));
-            show(shown, right);
+            show(shown, &operands.right);
             shown.push(")");
         }
-        Expr::Compare(comparison, left, right) => {
+        Expr::Compare(comparison, operands) => {
             shown.push("(");
-            show(shown, left);
+            show(shown, &operands.left);
             shown.push(comparison_name(*comparison));
-            show(shown, right);
+            show(shown, &operands.right);
             shown.push(")");
         }
     }

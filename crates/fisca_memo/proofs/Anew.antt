@@ -22,7 +22,7 @@ use Rattle.fisca_num.specs.declared.faults.NumFault.{NumFault}
 use Rattle.fisca_num.specs.declared.faults.NumFault.TheVariants.{ZeroDivisor}
 use Rattle.fisca_params.specs.Results.{and_then}
 use Rattle.fisca_memo.proofs.Both.{At, HasParts, Moving, behind, count_alike, keys, keys_of, length_parts, rest_alike, same_has, shared_both, some_count, spread_all, value_here}
-use Rattle.fisca_memo.specs.Slots.{divides, is_divided, share_by}
+use Rattle.fisca_situations.specs.Slots.{divides, is_divided, share_by}
 use Rattle.fisca_tables.specs.declared.variable.SetInput.{SetInput}
 use Rattle.fisca_tables.specs.declared.variable.SetInput.TheVariants.{DivideByPeriod, DispatchByPeriod}
 use Rattle.fisca_time.specs.Period.{subs}

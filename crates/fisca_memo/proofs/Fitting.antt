@@ -17,7 +17,7 @@ use Rattle.fisca_memo.proofs.Anew.{looked_set}
 use Rattle.fisca_memo.proofs.Parts.{in_parts}
 use Rattle.fisca_memo.proofs.Turned.{stand, stand_even}
 use Rattle.fisca_memo.proofs.TurnedSlots.{turned_is}
-use Rattle.fisca_memo.specs.Slots.{Slot, keys_of, share_in, turned}
+use Rattle.fisca_situations.specs.Slots.{Slot, keys_of, share_in, turned}
 use Rattle.fisca_eval.specs.Simulations.{Simulation}
 use Rattle.fisca_eval.specs.Sound.{InputsFit}
 use Rattle.fisca_typing.specs.Tables.{Tables}

@@ -1,5 +1,5 @@
 -- The places of groups of axes, one after another.
-use Rattle.std.proofs.Common.{◌≡◌, ℕ, zero, suc, ◌+◌, ◌≤◌, List, [], ◌∷◌, ◌++◌, map, length, drop, take, Some, slice_get, add-one, refl, ap, ap₂, arith}
+use Rattle.std.proofs.Common.{◌≡◌, ℕ, zero, suc, ◌+◌, ◌≤◌, List, [], ◌∷◌, ◌++◌, map, length, drop, add-one, refl, ap, ap₂, arith}
 use Rattle.fisca_grid.specs.declared.axes.AxisSpec.{AxisSpec}
 use Rattle.fisca_inputs.specs.declared.given.Given.{Given}
 use Rattle.fisca_memo.specs.Groups.{so_many, wheels_by}
@@ -13,15 +13,6 @@ once_later (suc n) wheel = ap (λ ws. wheel ∷ ws) (once_later n wheel)
 
 pub once_more : (n wheel : ℕ) → so_many (n + 1) wheel ≡ so_many n wheel ++ wheel ∷ []
 once_more n wheel = rw add-one (once_later n wheel)
-
-next_later : {X : Type 0} (xs : List X) (i : ℕ) (x : X) → slice_get xs i ≡ Some x → take (suc i) xs ≡ take i xs ++ x ∷ []
-next_later [] zero x h = cc
-next_later [] (suc i) x h = cc
-next_later (y ∷ ys) zero x h = let same : y ≡ x = cc in ap (λ z. z ∷ []) same
-next_later (y ∷ ys) (suc i) x h = ap (λ zs. y ∷ zs) (next_later ys i x h)
-
-pub next_taken : {X : Type 0} (xs : List X) (i : ℕ) (x : X) → slice_get xs i ≡ Some x → take (i + 1) xs ≡ take i xs ++ x ∷ []
-next_taken xs i x h = rw add-one (next_later xs i x h)
 
 -- each axis of a group has its place
 pub wheels_are : (wheel : ℕ) (groups : List (List AxisSpec)) → wheels_by wheel (map length groups) ≡ wheels_from wheel groups

@@ -24,7 +24,6 @@ pub mod Remembering
 pub mod Risen
 pub mod Said
 pub mod SameWheels
-pub mod Sets
 pub mod Shared
 pub mod Situated
 pub mod Stamped

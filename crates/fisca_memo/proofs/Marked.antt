@@ -7,7 +7,7 @@ use Rattle.std.specs.Option.{unwrap_or}
 use Rattle.std.proofs.lemmas.Bool.{and_from, and_parts, cases_lt, eqb-true, eq-eqb, lt-ltb, or_left, or_right, true≢false}
 use Rattle.std.proofs.lemmas.Nat.Bits.{bit_at_or, bit_at-lt, bit_at-pow_other, bit_at-pow_same, bit_at-zero}
 use Rattle.fisca_memo.specs.Marks.{IsMoved, has_mark, mark_of, marks_of, wheels_of}
-use Rattle.fisca_memo.specs.Slots.{Slot}
+use Rattle.fisca_situations.specs.Slots.{Slot}
 
 abbrev has : ℕ → ℕ → Bool
 has bits wheel = bit_at bits wheel == 1

@@ -15,7 +15,8 @@ use Rattle.fisca_inputs.specs.declared.given.Given.{Given}
 use Rattle.fisca_meaning.specs.Questions.{is_eternity, key_period}
 use Rattle.fisca_rosters.specs.Lookup.{count_at}
 use Rattle.fisca_rosters.specs.declared.entity_members.EntityMembers.{EntityMembers}
-use Rattle.fisca_run_file.specs.Moved.{if_numbers, has_numbers, moved_at, moved_by, moved_of, moved_or_fault, period_moved, variable_moved, with_moved}
+use Rattle.fisca_run_file.specs.Moved.{if_numbers, moved_at, moved_by, moved_of, moved_or_fault, period_moved, variable_moved, with_moved}
+use Rattle.fisca_situations.specs.Slots.{has_numbers}
 use Rattle.fisca_run_file.specs.SaidAxes.{SaidAxis}
 use Rattle.fisca_situations.specs.Reading.{variable_of}
 use Rattle.fisca_memo.proofs.Reading.{IsKept}

@@ -17,7 +17,8 @@ use Rattle.fisca_rosters.specs.Lookup.{counts_of as member_counts}
 use Rattle.fisca_num.specs.Number.{Number}
 use Rattle.fisca_params.specs.Results.{and_then}
 use Rattle.fisca_run_file.specs.Moved.{put_all_in}
-use Rattle.fisca_run_file.specs.Positions.{cut_by, cut_for, inputs_with, moved_at, with_values}
+use Rattle.fisca_run_file.specs.Positions.{cut_by, inputs_with, moved_at, with_values}
+use Rattle.fisca_situations.specs.Cuts.{cut_for}
 use Rattle.fisca_run_file.specs.RunFiles.{RunFile, run_file_of}
 use Rattle.fisca_memo.proofs.Anew.{Anew, set, share_for}
 use Rattle.fisca_grid.specs.declared.axes.AxisSpec.{AxisSpec}
@@ -38,8 +39,10 @@ use Rattle.fisca_memo.proofs.Situated.{AreGiven}
 use Rattle.fisca_memo.proofs.Standing.{Among}
 use Rattle.fisca_memo.proofs.Steps.{AllPart, axes_grouped, values_at}
 use Rattle.fisca_memo.proofs.Turned.{IsMoved, IsPlaced, KeysApart, axis, inputs_turned, keys_of_zs, stand, stand_out, to_of}
-use Rattle.fisca_memo.proofs.TurnedSlots.{set_none, set_twice, turned_is}
-use Rattle.fisca_memo.specs.Slots.{is_divided, periods_of, share_by, slot_by, slot_of, slots_of, slots_with, turned, turned_below, wheels_from}
+use Rattle.fisca_memo.proofs.TurnedSlots.{set_twice, turned_is}
+use Rattle.fisca_situations.proofs.Sets.{set_none}
+use Rattle.fisca_memo.specs.Slots.{slots_of, slots_with, turned_below, wheels_from}
+use Rattle.fisca_situations.specs.Slots.{is_divided, periods_of, share_by, slot_by, slot_of, turned}
 use Rattle.fisca_tables.specs.declared.tables.Tables.{Tables}
 use Rattle.fisca_tables.specs.declared.variable.Variable.{Variable}
 use Rattle.fisca_time.specs.Period.{subs}

@@ -15,7 +15,8 @@ use Rattle.fisca_meaning.specs.Questions.{fits, key_period}
 use Rattle.fisca_num.specs.Number.{Number, zero_number}
 use Rattle.fisca_num.specs.Operations.{number_of}
 use Rattle.fisca_num.specs.declared.faults.NumFault.TheVariants.{ZeroDivisor}
-use Rattle.fisca_run_file.specs.Positions.{cut_by, cut_for, inputs_with, moved_at}
+use Rattle.fisca_run_file.specs.Positions.{cut_by, inputs_with, moved_at}
+use Rattle.fisca_situations.specs.Cuts.{cut_for}
 use Rattle.fisca_run_file.specs.RunFiles.{RunFile, run_file_of}
 use Rattle.fisca_memo.proofs.Both.{Moving, keys_of as input_keys}
 use Rattle.fisca_memo.proofs.Normal.{rule_at}
@@ -27,7 +28,8 @@ use Rattle.fisca_memo.proofs.Steps.{AllPart, CanPart, most_parts}
 use Rattle.fisca_memo.proofs.Turned.{IsPlaced, KeysApart}
 use Rattle.fisca_memo.proofs.TurnedSlots.{AreApart, AreBelow, CanStand, IsLong, NoneAt, is_at, still_there, turned_again, wheels_in}
 use Rattle.fisca_memo.proofs.SameWheels.{Same, same_for, same_from, values_at_places}
-use Rattle.fisca_memo.specs.Slots.{AreSamePlaces, IsSamePlace, is_divided, periods_of, places_of, share_by, share_in, slot_by, slot_of, slots_of, slots_with, turned_below, wheels_from}
+use Rattle.fisca_memo.specs.Slots.{AreSamePlaces, IsSamePlace, places_of, slots_of, slots_with, turned_below, wheels_from}
+use Rattle.fisca_situations.specs.Slots.{is_divided, periods_of, share_by, share_in, slot_by, slot_of}
 use Rattle.fisca_tables.specs.declared.tables.Tables.{Tables}
 use Rattle.fisca_tables.specs.declared.variable.Variable.{Variable}
 use Rattle.fisca_time.specs.Period.{Span, is_period, subs}

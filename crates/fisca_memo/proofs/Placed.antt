@@ -14,7 +14,8 @@ use Rattle.fisca_inputs.specs.declared.given.Given.{Given}
 use Rattle.fisca_inputs.specs.declared.key.Key.{Key}
 use Rattle.fisca_memo.proofs.Both.{Moving, here}
 use Rattle.fisca_memo.proofs.Shared.{Each, Pairwise, given_of}
-use Rattle.fisca_run_file.specs.Moved.{is_overlap, put_in, put_all_in}
+use Rattle.fisca_run_file.specs.Moved.{is_overlap, put_all_in}
+use Rattle.fisca_situations.specs.Axes.{put_in}
 use Rattle.fisca_inputs.specs.Overlaps.{is_across, is_other, meets, overlaps, shares_day, starts_before}
 use Rattle.fisca_time.specs.Period.{Span, span_cmp}
 

@@ -38,7 +38,8 @@ use Rattle.fisca_memo.proofs.Situated.{AreGiven, inputs_there}
 use Rattle.fisca_memo.proofs.Steps.{AllPart, CanPart, values_at, whole_parts}
 use Rattle.fisca_run_file.specs.Grids.{grid_of, grid_unless, specs_of}
 use Rattle.fisca_run_file.specs.Moved.{apart_from, is_overlap, moved_at as moved_input, moved_by, moved_of, moved_or_fault, period_moved, put_all_in, shared_or_fault, sharing_checked, variable_moved, with_moved}
-use Rattle.fisca_run_file.specs.Positions.{cut_by, cut_for, moved_at, situation_with, size_whole, with_values}
+use Rattle.fisca_run_file.specs.Positions.{cut_by, moved_at, situation_with, with_values}
+use Rattle.fisca_situations.specs.Cuts.{cut_for, size_whole}
 use Rattle.fisca_run_file.specs.RunFiles.{RunFile, run_file_of}
 use Rattle.fisca_run_file.specs.SaidAxes.{SaidAxes, SaidAxis}
 use Rattle.fisca_situations.specs.Situations.{Situation}

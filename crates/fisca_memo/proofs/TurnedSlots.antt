@@ -12,13 +12,11 @@ use Rattle.fisca_memo.proofs.Anew.{Anew, IsEven, looked_set, same_there, set}
 use Rattle.fisca_memo.proofs.Parts.{in_parts}
 use Rattle.fisca_memo.proofs.Turned.{stand, stand_even, stand_out}
 use Rattle.fisca_memo.proofs.SameWheels.{Same}
-use Rattle.fisca_memo.specs.Slots.{AreSamePlaces, IsSamePlace, Slot, keys_of, set_share, share_in, turned, turned_below}
+use Rattle.fisca_situations.proofs.Sets.{set_none}
+use Rattle.fisca_memo.specs.Slots.{AreSamePlaces, IsSamePlace, turned_below}
+use Rattle.fisca_situations.specs.Slots.{Slot, keys_of, set_share, share_in, turned}
 
 -- One after another
-
-pub set_none : (es : Entries) → map (λ e. (e.0, e.1)) es ≡ es
-set_none [] = refl
-set_none (e ∷ es) = ap (λ fs. e ∷ fs) (set_none es)
 
 pub set_twice : (to over : Anew) (es : Entries) → set over (set to es) ≡ set (λ k x. over k (to k x)) es
 set_twice to over [] = refl

@@ -6,8 +6,8 @@ use Rattle.fisca_inputs.specs.declared.given.Value.{Value}
 use Rattle.fisca_meaning.specs.Dialogues.{Key}
 use Rattle.fisca_num.specs.Number.{Number}
 use Rattle.fisca_memo.proofs.TurnedSlots.{turned_other}
-use Rattle.fisca_memo.specs.Slots as slots
-use Rattle.fisca_memo.specs.Slots.{Slot}
+use Rattle.fisca_situations.specs.Slots as slots
+use Rattle.fisca_situations.specs.Slots.{Slot}
 use Rattle.fisca_eval.specs.Simulations.{Simulation, computed, formula_of, given_or_computed, source_of, sources, variable_of}
 use Rattle.fisca_typing.specs.Formulas.{Formula}
 use Rattle.fisca_variables.specs.VariableForms.{Written}

@@ -30,7 +30,8 @@ use Rattle.fisca_memo.proofs.OfFiles.{AllBelow, below_all, wheel_is}
 use Rattle.fisca_memo.proofs.Positions.{grid_parts, length_specs}
 use Rattle.fisca_memo.proofs.Said.{said_whole}
 use Rattle.fisca_memo.specs.Marks.{AreWithin}
-use Rattle.fisca_memo.specs.Slots.{Slot, slot_by, slot_of, slots_of, slots_with, wheels_from}
+use Rattle.fisca_memo.specs.Slots.{slots_of, slots_with, wheels_from}
+use Rattle.fisca_situations.specs.Slots.{Slot, slot_by, slot_of}
 use Rattle.fisca_tables.specs.declared.tables.Tables.{Tables}
 use Rattle.fisca_tables.specs.declared.variable.Variable.{Variable}
 use Rattle.fisca_time.specs.Period.{Span}

@@ -13,7 +13,7 @@ use Rattle.fisca_meaning.specs.Dialogues as meaning
 use Rattle.fisca_num.specs.Number.{Number}
 use Rattle.fisca_rules.specs.Views.{rule_set}
 use Rattle.fisca_situations.specs.Views.{situation}
-use Rattle.fisca_memo.specs.Slots.{Slot, turned}
+use Rattle.fisca_situations.specs.Slots.{Slot, turned}
 use Rattle.fisca_eval.specs.Simulations.{Simulation, normal_key, sources}
 use Rattle.fisca_memo.specs.Recalled.{IsMemory, marks_of}
 use Rattle.fisca_memo.specs.declared.evaluator.Evaluator.{Evaluator}

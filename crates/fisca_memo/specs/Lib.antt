@@ -10,7 +10,5 @@ pub mod Plans
 pub mod Readings
 pub mod Recalled
 pub mod Scenes
-pub mod Sets
 pub mod Slots
 pub mod Stamps
-pub mod Views

@@ -4,7 +4,7 @@ use Rattle.std.specs.Int.{bit_at}
 use Rattle.std.specs.Int.Bits.{bit_or}
 use Rattle.std.specs.List.{range_with_len}
 use Rattle.std.specs.Option.{unwrap_or}
-use Rattle.fisca_memo.specs.Slots.{Slot}
+use Rattle.fisca_situations.specs.Slots.{Slot}
 
 -- the wheel of a slot as a bit, where the slot moves the variable; there are 16 wheels
 abbrev pub mark_of : Slot → ℕ → ℕ

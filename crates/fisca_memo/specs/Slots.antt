@@ -1,76 +1,13 @@
--- What the axes of a run file move: the keys of their inputs, and what stands at these where the axes have values. To turn a slot is to set the inputs of
--- its keys anew, where all others stay.
-use Rattle.std.specs.Prelude.{◌≡◌, ⊤, ℕ, suc, ◌==◌, nat_lt, List, [], ◌∷◌, ◌++◌, length, map, Bool, true, false, if◌then◌else◌, Option, Some, None, Result, Ok, Err, slice_get}
+-- What the axes of a run file move, and what stands at these keys where the axes have values.
+use Rattle.std.specs.Prelude.{◌≡◌, ⊤, ℕ, suc, nat_lt, List, [], ◌∷◌, ◌++◌, map, Bool, if◌then◌else◌, slice_get}
 use Rattle.fisca_grid.specs.Grid.{counts_of}
 use Rattle.fisca_lines.specs.Odometer.{places_at}
-use Rattle.fisca_inputs.specs.Anew.{set_keys}
-use Rattle.fisca_inputs.specs.Entries.{Entries, key}
-use Rattle.fisca_inputs.specs.Inputs.{is_marked}
-use Rattle.fisca_inputs.specs.Rules.{Rule, rule_of}
-use Rattle.fisca_inputs.specs.Sharing.{part_ratio}
+use Rattle.fisca_inputs.specs.Entries.{Entries}
 use Rattle.fisca_inputs.specs.declared.given.Given.{Given}
-use Rattle.fisca_inputs.specs.declared.given.Value.TheVariants as value
-use Rattle.fisca_inputs.specs.declared.key.Key.{Key}
-use Rattle.fisca_meaning.specs.Questions.{fits, key_period}
 use Rattle.fisca_num.specs.Number.{Number}
-use Rattle.fisca_num.specs.Operations.{number_of}
-use Rattle.fisca_num.specs.declared.faults.NumFault.{NumFault}
-use Rattle.fisca_num.specs.declared.faults.NumFault.TheVariants.{ZeroDivisor}
-use Rattle.fisca_tables.specs.declared.tables.Tables.{Tables}
-use Rattle.fisca_tables.specs.declared.variable.DeclaredType.{DeclaredType}
-use Rattle.fisca_tables.specs.declared.variable.DeclaredType.TheVariants.{Float}
-use Rattle.fisca_tables.specs.declared.variable.SetInput.{SetInput}
-use Rattle.fisca_tables.specs.declared.variable.SetInput.TheVariants.{DivideByPeriod, DispatchByPeriod}
-use Rattle.fisca_tables.specs.declared.variable.Variable.{Variable}
-use Rattle.fisca_time.specs.Period.{Span, subs}
-use Rattle.fisca_run_file.specs.Positions.{cut_for}
 use Rattle.fisca_run_file.specs.RunFiles.{RunFile}
-
--- What an axis moves: the inputs of a member for these periods. The wheel is the place of the axis's group, all axes of which turn together.
-pub record Slot : Type 0 where
-  pub variable : ℕ
-  pub member : ℕ
-  pub wheel : ℕ
-  pub value_type : DeclaredType
-  pub is_divided : Bool
-  pub periods : List Span
-
-abbrev pub keys_of : Slot → List Key
-keys_of s = map (λ p. key s.variable s.member p) s.periods
-
--- The slots of a run file
-
--- the period itself where it is of the definition period, and else its parts
-abbrev pub periods_of : Rule → Given → List Span
-periods_of r g = if fits r.unit g.period then key_period r.unit g.period ∷ [] else subs g.period r.unit
-
-abbrev pub divides : Option SetInput → Bool
-divides None = false
-divides (Some DivideByPeriod) = true
-divides (Some DispatchByPeriod) = false
-
--- the parts of its period get equal shares of the value, and not each the whole
-abbrev pub is_divided : Rule → Given → Bool
-is_divided r g = if fits r.unit g.period then false else divides r.set_input
-
-abbrev pub slot_with : ℕ → Given → DeclaredType → Bool → List Span → Slot
-slot_with wheel g t divided periods = record {
-  variable = g.variable;
-  member = g.member;
-  wheel = wheel;
-  value_type = t;
-  is_divided = divided;
-  periods = periods;
-}
-
--- a neutralised variable has no inputs
-abbrev pub slot_by : Bool → Option Variable → ℕ → Given → Slot
-slot_by neutral None wheel g = slot_with wheel g Float false []
-slot_by true (Some x) wheel g = slot_with wheel g x.value_type false []
-slot_by false (Some x) wheel g = slot_with wheel g x.value_type (is_divided (rule_of x) g) (periods_of (rule_of x) g)
-
-abbrev pub slot_of : Tables → List Bool → ℕ → Given → Slot
-slot_of c neutral wheel g = slot_by (is_marked neutral g.variable) (slice_get c.variables g.variable) wheel g
+use Rattle.fisca_situations.specs.Slots.{Slot, slot_of, turned}
+use Rattle.fisca_tables.specs.declared.tables.Tables.{Tables}
 
 -- for each axis of these groups the place of its group, where the first group has this one
 abbrev pub wheels_from : {X : Type 0} → ℕ → List (List X) → List ℕ
@@ -87,26 +24,6 @@ abbrev pub slots_of : Tables → RunFile → List Slot
 slots_of c f = slots_with c f.neutral (wheels_from 0 f.groups) f.moved
 
 -- Turning
-
-abbrev pub part_of : ℕ → Number → Result Number NumFault
-part_of count v = if count == 0 then Err ZeroDivisor else number_of (part_ratio v count)
-
-abbrev pub share_by : Bool → ℕ → Number → Result Number NumFault
-share_by true count v = part_of count v
-share_by false count v = Ok v
-
--- what each key gets of a value of the axis, which is cut where the variable has whole numbers
-abbrev pub share_in : Slot → Number → Result Number NumFault
-share_in s v = share_by s.is_divided (length s.periods) (cut_for s.value_type v)
-
-abbrev pub set_share : List Key → Result Number NumFault → Entries → Entries
-set_share ks (Ok n) es = set_keys ks (value.Number n) es
-set_share ks (Err f) es = es
-
--- The inputs, where those of a slot are set anew. A share that is too wide sets none: no value of an axis of an accepted
--- file has one, since its inputs can be shared at each position (`positions_have_situations` of `fisca_commands`).
-abbrev pub turned : Slot → Number → Entries → Entries
-turned s v es = set_share (keys_of s) (share_in s v) es
 
 -- the inputs, where the slots of the wheels before this one are turned to their values
 abbrev pub turned_below : ℕ → List Slot → List Number → Entries → Entries

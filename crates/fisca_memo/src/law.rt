@@ -10,7 +10,7 @@ ghost use Rattle.fisca_memo.specs.Counting.{IsCounted};
 ghost use Rattle.fisca_memo.specs.Evaluators.{IsStill, IsTurned, turned_by};
 ghost use Rattle.fisca_num.specs.Number.{Number};
 ghost use Rattle.fisca_memo.specs.declared.counts.Counts.{Counts};
-ghost use Rattle.fisca_memo.specs.Slots.{Slot};
+ghost use Rattle.fisca_situations.specs.Slots.{Slot};
 ghost use Rattle.fisca_eval.specs.Simulations.{Simulation};
 ghost use Rattle.fisca_eval.specs.Sound.{InputsFit};
 

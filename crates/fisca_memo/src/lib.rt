@@ -17,7 +17,6 @@ mod played;
 mod recall;
 mod recalled;
 mod scene;
-mod slot;
 mod slot_laws;
 mod slots;
 mod store;
@@ -33,7 +32,6 @@ pub use law::{counts_rise_by_what_is_added, inputs_fit_when_turned, turned_situa
 pub use list_recall::ListRecall;
 pub use marks::wheels_of;
 pub use recall::Recall;
-pub use slot::Slot;
 pub use slot_laws::{
     marks_are_of_slots, other_variables_stay, slots_are_within, slots_turn_between_positions,
     slots_turn_from_the_start, turning_keeps_other_variables,

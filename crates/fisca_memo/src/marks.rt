@@ -2,9 +2,9 @@
 
 ghost use Rattle.std.specs.Prelude.{◌≡◌, IfOk, OnOk, ◌++◌, ◌∷◌, []};
 ghost use Rattle.fisca_memo.specs.Marks as spec;
-ghost use Rattle.fisca_memo.specs.Views.{slot as slot_view, slot_list};
+ghost use Rattle.fisca_situations.specs.Views.{slot as slot_view, slot_list};
 
-use crate::slot::Slot;
+use fisca_situations::Slot;
 use std::alloc::{AllocError, Global};
 
 /// The wheel of a slot as a bit, where the slot moves the variable.

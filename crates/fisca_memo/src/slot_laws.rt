@@ -10,7 +10,8 @@ ghost use Rattle.fisca_num.specs.Number.{Number};
 ghost use Rattle.fisca_run_file.specs.Positions.{inputs_with, moved_at};
 ghost use Rattle.fisca_run_file.specs.RunFiles.{RunFile, run_file_of};
 ghost use Rattle.fisca_memo.specs.Marks.{AreWithin, IsMoved, has_mark, wheels_of};
-ghost use Rattle.fisca_memo.specs.Slots.{AreSamePlaces, Slot, places_of, slots_of, turned, turned_below};
+ghost use Rattle.fisca_memo.specs.Slots.{AreSamePlaces, places_of, slots_of, turned_below};
+ghost use Rattle.fisca_situations.specs.Slots.{Slot, turned};
 ghost use Rattle.fisca_tables.specs.declared.tables.Tables.{Tables};
 ghost use Rattle.fisca_yaml.specs.Node.{Node};
 

@@ -4,11 +4,12 @@ ghost use Rattle.std.specs.Prelude.{◌≡◌, ◌<◌};
 ghost use Rattle.fisca_heights.specs.Reads.{unless_moved};
 ghost use Rattle.fisca_meaning.specs.Dialogues as meaning;
 ghost use Rattle.fisca_memo.specs.Evaluators as spec;
-ghost use Rattle.fisca_memo.specs.Views.{slot as slot_view};
+ghost use Rattle.fisca_situations.specs.Views.{slot as slot_view};
 
+use crate::Recall;
 use crate::evaluator::Evaluator;
-use crate::{Recall, Slot};
 use fisca_num::Fraction;
+use fisca_situations::Slot;
 
 impl<'r, 't, R: Recall> Evaluator<'r, 't, R> {
     /// An axis takes another value: what reads its slot's wheel is forgotten, and the inputs of the slot's keys become what that value gives

@@ -109,7 +109,7 @@ fn formulas_by<'n, 'a>(
 ) -> Result<Vec<Dated>, BuildFault>
     ensures { Tells (λ fs. map dated fs.items) (spec.formulas_by (known tables.now) (written variable.now) (Some value_type)) result }
 {
-    let mut made = Vec::new(alloc);
+    let mut made = Vec::with_capacity(alloc, variable.formulas.as_slice().len())?;
     for formula in variable.formulas.as_slice() {
         made.push(dated_of(alloc, tables, variable, value_type, formula)?)?;
     }

@@ -1,11 +1,11 @@
 -- The inputs that axes move: of which variable, member and period each is.
-use Rattle.std.specs.Prelude.{ℕ, List, [], ◌∷◌, ◌++◌, map, Bool, true, false, ◌||◌, nat_lt, if◌then◌else◌, Option, Some, None, option_and_then, Result, Ok, Err, slice_get}
+use Rattle.std.specs.Prelude.{ℕ, List, [], ◌∷◌, ◌++◌, map, Bool, ◌||◌, nat_lt, if◌then◌else◌, Option, Some, None, option_and_then, Result, Ok, Err, slice_get}
 use Rattle.fisca_calc.specs.Faults.{fault_at}
 use Rattle.fisca_calc.specs.declared.fault.RunFileFault.{RunFileFault}
 use Rattle.fisca_calc.specs.declared.fault.RunFileKind.TheVariants as kind
 use Rattle.fisca_grid.specs.declared.axes.AxesFault.TheVariants.{UnknownVariable, BadIndex, AxisOverlap, PeriodMismatch}
-use Rattle.fisca_inputs.specs.Entries.{Entries, same_key}
-use Rattle.fisca_inputs.specs.Inputs.{inputs_of, key_given}
+use Rattle.fisca_inputs.specs.Entries.{Entries}
+use Rattle.fisca_inputs.specs.Inputs.{inputs_of}
 use Rattle.fisca_inputs.specs.Rules.{rule_of, is_accepted}
 use Rattle.fisca_inputs.specs.declared.fault.SituationFault.{SituationFault}
 use Rattle.fisca_inputs.specs.declared.given.Given.{Given}
@@ -16,10 +16,10 @@ use Rattle.fisca_rosters.specs.Lookup.{count_at, counts_of}
 use Rattle.fisca_rosters.specs.declared.entity_members.EntityMembers.{EntityMembers}
 use Rattle.fisca_num.specs.Number.{zero_number}
 use Rattle.fisca_params.specs.Results.{and_then}
+use Rattle.fisca_situations.specs.Axes.{put_in}
 use Rattle.fisca_situations.specs.Reading.{variable_of}
+use Rattle.fisca_situations.specs.Slots.{has_numbers}
 use Rattle.fisca_tables.specs.declared.tables.Tables.{Tables}
-use Rattle.fisca_tables.specs.declared.variable.DeclaredType.{DeclaredType}
-use Rattle.fisca_tables.specs.declared.variable.DeclaredType.TheVariants as type
 use Rattle.fisca_tables.specs.declared.variable.Variable.{Variable}
 use Rattle.fisca_time.specs.Period.{Span, eternity}
 use Rattle.fisca_typing.specs.Tables.{otherwise}
@@ -27,14 +27,6 @@ use Rattle.fisca_inputs.specs.Overlaps.{meets, overlaps}
 use Rattle.fisca_run_file.specs.SaidAxes.{SaidAxis}
 
 -- What an axis moves
-
-abbrev pub has_numbers : DeclaredType → Bool
-has_numbers type.Float = true
-has_numbers type.Int = true
-has_numbers type.Bool = false
-has_numbers type.Date = false
-has_numbers type.Text = false
-has_numbers (type.Enum e) = false
 
 abbrev pub if_numbers : ℕ → Variable → Option (ℕ × Variable)
 if_numbers place x = if has_numbers x.value_type then Some (place, x) else None
@@ -85,11 +77,7 @@ apart_from given before (g ∷ gs) =
 
 -- The inputs with those of axes
 
--- one input put in, or in the place of that of just this variable, member and period
-abbrev pub put_in : List Given → Given → List Given
-put_in [] g = g ∷ []
-put_in (h ∷ hs) g = if same_key (key_given h) (key_given g) then g ∷ hs else h ∷ put_in hs g
-
+-- each put in, or in the place of that of just its variable, member and period
 abbrev pub put_all_in : List Given → List Given → List Given
 put_all_in given [] = given
 put_all_in given (g ∷ gs) = put_all_in (put_in given g) gs

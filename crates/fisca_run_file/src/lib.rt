@@ -22,4 +22,3 @@ pub use conditions::Conditions;
 pub use file::RunFile;
 pub use fisca_inputs::overlaps;
 pub use moved::MovedInputs;
-pub use positions::cut_for;

@@ -1,6 +1,6 @@
 //! The inputs that axes move.
 
-ghost use Rattle.std.specs.Prelude.{◌≡◌, [], ◌∷◌, ◌++◌, OnOk, option_map};
+ghost use Rattle.std.specs.Prelude.{◌≡◌, [], option_map};
 ghost use Rattle.fisca_calc.specs.Outcomes.{Answers, Tells};
 ghost use Rattle.fisca_run_file.specs.Moved as spec;
 ghost use Rattle.fisca_run_file.specs.Views.{said_axis as said_axis_view, said_list};
@@ -12,10 +12,10 @@ use fisca_calc::{RunFileFault, RunFileKind};
 use fisca_grid::AxesFault;
 use fisca_inputs::{Given, Value, key_period, meets, overlaps, takes};
 use fisca_num::Fraction;
-use fisca_situations::Situation;
-use fisca_tables::{DeclaredType, Tables, Variable};
+use fisca_situations::{Situation, has_numbers, push_input};
+use fisca_tables::{Tables, Variable};
 use fisca_time::{Period, Unit};
-use std::alloc::{AllocError, Global};
+use std::alloc::Global;
 use std::marker::Model;
 
 /// The inputs that axes move, in the order of the axes, seen as a list. Each has the variable, the member and the period of its axis, and 0 in
@@ -40,39 +40,6 @@ impl MovedInputs {
         ensures { result.now ≡ self.now }
     {
         self.items.as_slice()
-    }
-}
-
-/// Puts an input behind these.
-pub(crate) fn push_input(items: &mut Vec<Given>, input: Given) -> Result<(), AllocError>
-    ensures { OnOk result (items.new.items ≡ items.old.items ++ input ∷ []) }
-{
-    let Given {
-        variable,
-        member,
-        period,
-        value,
-        line,
-    } = input;
-    items
-        .push(Given {
-            variable,
-            member,
-            period,
-            value,
-            line,
-        })
-        .map_err(AllocError::from)
-}
-
-/// Whether values of this type are numbers.
-fn has_numbers(value_type: DeclaredType) -> bool
-    ensures { result ≡ spec.has_numbers value_type }
-{
-    match value_type {
-        DeclaredType::Float | DeclaredType::Int => true,
-        DeclaredType::Bool | DeclaredType::Date | DeclaredType::Text | DeclaredType::Enum(_) =>
-            false,
     }
 }
 

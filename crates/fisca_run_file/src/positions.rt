@@ -9,41 +9,16 @@ ghost use Rattle.fisca_run_file.specs.Views.{run_file as run_file_view};
 ghost use Rattle.fisca_situations.specs.Views.{situation as situation_view};
 
 use crate::file::RunFile;
-use crate::moved::push_input;
 use crate::sharing::put_all_in;
 use fisca_grid::Axes;
 use fisca_inputs::{Given, Inputs, SituationFault, Value};
 use fisca_members::Members;
 use fisca_num::Fraction;
-use fisca_situations::Situation;
-use fisca_tables::{DeclaredType, Tables};
+use fisca_situations::{Situation, cut_for, push_input};
+use fisca_tables::Tables;
 use std::alloc::{AllocError, Global};
 
-/// A number cut towards zero.
-fn whole_part(value: Fraction) -> Fraction
-    ensures { result ≡ spec.whole_part value }
-{
-    match Fraction::new(value.trunc(), 1) {
-        Ok(whole) => whole,
-        Err(_) => unreachable!(),
-    }
-}
-
-/// The value of an axis for a variable of this type: whole numbers are cut towards zero. This project's own rule.
-pub fn cut_for(value_type: DeclaredType, value: Fraction) -> Fraction
-    ensures { result ≡ spec.cut_for value_type value }
-{
-    match value_type {
-        DeclaredType::Int => whole_part(value),
-        DeclaredType::Float
-        | DeclaredType::Bool
-        | DeclaredType::Date
-        | DeclaredType::Text
-        | DeclaredType::Enum(_) => value,
-    }
-}
-
-/// The same for the variable at a place.
+/// A value of an axis for the variable at a place.
 fn cut_by(tables: &Tables<'_>, variable: usize, value: Fraction) -> Fraction
     ensures { result ≡ spec.cut_by (slice_get tables.now.variables variable) value }
 {

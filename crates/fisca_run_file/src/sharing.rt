@@ -1,38 +1,15 @@
 //! Inputs with those that axes move.
 
-ghost use Rattle.std.specs.Prelude.{◌≡◌, [], IfOk, OnOk};
+ghost use Rattle.std.specs.Prelude.{◌≡◌, [], IfOk};
 ghost use Rattle.fisca_calc.specs.Outcomes.{Tells};
-ghost use Rattle.fisca_inputs.specs.Entries.{same_key};
-ghost use Rattle.fisca_inputs.specs.Inputs.{key_given};
 ghost use Rattle.fisca_run_file.specs.Moved as spec;
 ghost use Rattle.fisca_situations.specs.Views.{situation as situation_view};
 
-use crate::moved::push_input;
 use fisca_calc::{RunFileFault, RunFileKind};
 use fisca_inputs::{Given, Inputs, SituationKind};
-use fisca_situations::Situation;
+use fisca_situations::{Situation, put_in};
 use fisca_tables::Tables;
 use std::alloc::{AllocError, Global};
-
-/// Whether two inputs are of one variable, member and period.
-fn is_same(ours: &Given, theirs: &Given) -> bool
-    ensures { result ≡ same_key (key_given ours.now) (key_given theirs.now) }
-{
-    ours.variable == theirs.variable && ours.member == theirs.member && ours.period == theirs.period
-}
-
-/// Puts an input in, or in the place of that of just this variable, member and period.
-fn put_in(given: &mut Vec<Given>, input: Given) -> Result<(), AllocError>
-    ensures { OnOk result (given.new.items ≡ spec.put_in given.old.items input) }
-{
-    for i in 0..given.len() {
-        if is_same(&given[i], &input) {
-            given[i] = input;
-            return Ok(());
-        }
-    }
-    push_input(given, input)
-}
 
 /// The inputs with these put in.
 pub(crate) fn put_all_in(

@@ -1,4 +1,8 @@
+pub mod Axes
+pub mod Cuts
 pub mod Reading
+pub mod Sets
 pub mod Situations
+pub mod Slots
 pub mod Values
 pub mod Views

@@ -30,7 +30,7 @@ formula_view f = record { line = f.line; start = f.start; signature = f.signatur
 
 abbrev pub item : Part → Item
 item (part.Attribute a) = attribute (assigned a)
-item (part.Formula f) = formula (formula_view f)
+item (part.Formula f) = formula (formula_view f.value)
 
 abbrev pub statement : Declaration → Statement
 statement (declaration.Entity a) = entity (assigned a)

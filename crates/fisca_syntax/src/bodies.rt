@@ -224,7 +224,10 @@ fn read_item<'a>(
             }
             Ok(Some(Item::Attribute(attribute)))
         }
-        Shape::Definition => Ok(Some(Item::Formula(read_formula(alloc, text, end, line, lines)?))),
+        Shape::Definition => {
+            let formula = read_formula(alloc, text, end, line, lines)?;
+            Ok(Some(Item::Formula(Box::new(alloc, formula)?)))
+        }
         Shape::Import | Shape::Class | Shape::Return => Err(line.refuse(Kind::Unsupported)),
         Shape::Other(kind) => Err(line.refuse(kind)),
     }

@@ -18,11 +18,11 @@ fn is_the_name(word: &[u8], value: &Expr) -> bool
         Expr::Number(_)
         | Expr::Text(_)
         | Expr::Bracketed(_, _)
-        | Expr::Attribute(_, _)
-        | Expr::Applied(_, _, _)
+        | Expr::Attribute(_)
+        | Expr::Applied(_, _)
         | Expr::Prefixed(_, _)
-        | Expr::Binary(_, _, _)
-        | Expr::Compare(_, _, _) => false,
+        | Expr::Binary(_, _)
+        | Expr::Compare(_, _) => false,
     }
 }
 
@@ -31,8 +31,8 @@ fn is_entity(value: &Expr) -> bool
     ensures { result ≡ spec.is_entity (tree value.now) }
 {
     match bare(value) {
-        Expr::Applied(Suffix::Call, callee, _) => {
-            is_the_name(b"build_entity".as_slice(), &**callee)
+        Expr::Applied(Suffix::Call, call) => {
+            is_the_name(b"build_entity".as_slice(), &call.front)
         }
         _ => false,
     }
@@ -101,8 +101,8 @@ fn is_week_unit(value: &Expr) -> bool
 {
     match bare(value) {
         Expr::Name(name) => is_week(name.as_bytes()),
-        Expr::Attribute(left, name) => {
-            is_the_name(b"DateUnit".as_slice(), &**left) && is_week(name.as_bytes())
+        Expr::Attribute(access) => {
+            is_the_name(b"DateUnit".as_slice(), &access.front) && is_week(access.name.as_bytes())
         }
         _ => false,
     }

@@ -77,7 +77,7 @@ pub enum Item<'a> {
     /// An attribute.
     Attribute(Assignment<'a>),
     /// A formula.
-    Formula(Formula<'a>),
+    Formula(Box<Formula<'a>>),
 }
 
 /// `class NAME(Variable):`

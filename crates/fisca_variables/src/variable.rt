@@ -97,7 +97,13 @@ fn with_formula<'a>(
     match line {
         Item::Attribute(_) => Ok(found),
         Item::Formula(formula) => {
-            found.push(formula).map_err(AllocError::from)?;
+            if found.is_empty() {
+                // most variables have one formula
+                found.reserve_exact(1).map_err(AllocError::from)?;
+            }
+            found
+                .push(Box::into_inner(formula))
+                .map_err(AllocError::from)?;
             Ok(found)
         }
     }

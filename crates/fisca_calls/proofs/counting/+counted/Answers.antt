@@ -21,10 +21,11 @@ size_all-returns t c =
 pub size_of-returns-in-Applied : goal.size_of-returns-in-Applied
 size_of-returns-in-Applied t c =
     let ls = sizes c.args.locals.now in
-    let front : size c.size_of-first.result ≡ capped (size_of ls (tree c.in-Applied.front.value)) = search rules in
-    let behind : size c.size_all-in-Applied.result ≡ capped (size_all ls (series_of c.in-Applied.behind.comma (map argument_view c.in-Applied.behind.items.items))) = search rules in
+    let x = c.in-Applied.application.value in
+    let front : size c.size_of-first.result ≡ capped (size_of ls (tree x.front)) = search rules in
+    let behind : size c.size_all-in-Applied.result ≡ capped (size_all ls (series_of x.behind.comma (map argument_view x.behind.items.items))) = search rules in
     let both = beside_of _ _ _ _ _ c.beside.ensures front behind in
     let whole = above_of _ _ _ c.above-in-Applied.ensures both in
-    let seen : tree c.args.tree.now ≡ applied c.in-Applied.field-0 (tree c.in-Applied.front.value) (series_of c.in-Applied.behind.comma (map argument_view c.in-Applied.behind.items.items)) =
+    let seen : tree c.args.tree.now ≡ applied c.in-Applied.field-0 (tree x.front) (series_of x.behind.comma (map argument_view x.behind.items.items)) =
     ap tree c.in-Applied.is ∙ search (all_lemmas, rules) in
     whole ∙ ap (λ e. capped (size_of ls e)) (sym seen)

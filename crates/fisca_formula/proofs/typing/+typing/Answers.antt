@@ -41,43 +41,48 @@ given_of-returns-in_ok-if_known-in-Keyword t c =
 pub thing_of-returns-in-Bracketed : goal.thing_of-returns-in-Bracketed
 thing_of-returns-in-Bracketed t c =
     let n = names c.args.names.now in
-    let inside = c.in-Bracketed.inside in
+    let inside = c.in-Bracketed.inside.value in
     let seen : tree c.args.tree.now ≡ bracketed c.in-Bracketed.bracket (series_of inside.comma (map argument_view inside.items.items)) = ap tree c.in-Bracketed.is ∙ search (all_lemmas, rules) in
+    let items = sym (c.as_slice.ensures.value ∙ ap (λ x. x.items.items) c.deref.ensures) in
     gives_same thing _ _ _ (c.bracketed.ensures inside.comma)
-    (ap (thing_of n) seen ∙ ap (λ xs. in_brackets c.in-Bracketed.bracket (all_given n (series_of inside.comma (map argument_view xs)))) (sym c.as_slice.ensures.value))
+    (ap (thing_of n) seen ∙ ap (λ xs. in_brackets c.in-Bracketed.bracket (all_given n (series_of inside.comma (map argument_view xs)))) items)
 
 pub thing_of-returns-in-Attribute : goal.thing_of-returns-in-Attribute
 thing_of-returns-in-Attribute t c =
     let n = names c.args.names.now in
-    let seen : tree c.args.tree.now ≡ attribute (tree c.in-Attribute.front.value) c.in-Attribute.name = ap tree c.in-Attribute.is ∙ search (all_lemmas, rules) in
-    let front = sym c.deref.ensures in
-    let name = sym c.as_bytes-in-Attribute.ensures in
+    let x = c.in-Attribute.access.value in
+    let seen : tree c.args.tree.now ≡ attribute (tree x.front) x.name = ap tree c.in-Attribute.is ∙ search (all_lemmas, rules) in
+    let front = ap (λ y. y.front) (sym c.deref-in-Attribute.ensures) in
+    let name = sym (c.as_bytes-in-Attribute.ensures ∙ ap (λ y. y.name) c.deref-in-Attribute-2.ensures) in
     gives_same thing _ _ _ c.attribute.ensures (ap (thing_of n) seen ∙ (λ i. and_then (thing_of n (tree (front i))) (attribute_of n (name i))))
 
 pub thing_of-returns-in-Applied : goal.thing_of-returns-in-Applied
 thing_of-returns-in-Applied t c =
     let n = names c.args.names.now in
-    let behind = c.in-Applied.behind in
-    let seen : tree c.args.tree.now ≡ applied c.in-Applied.suffix (tree c.in-Applied.front.value) (series_of behind.comma (map argument_view behind.items.items)) = ap tree c.in-Applied.is ∙ search (all_lemmas, rules) in
-    let front = sym c.deref-in-Applied.ensures in
-    let items = sym c.as_slice-in-Applied.ensures.value in
+    let x = c.in-Applied.application.value in
+    let behind = x.behind in
+    let seen : tree c.args.tree.now ≡ applied c.in-Applied.suffix (tree x.front) (series_of behind.comma (map argument_view behind.items.items)) = ap tree c.in-Applied.is ∙ search (all_lemmas, rules) in
+    let front = ap (λ y. y.front) (sym c.deref-in-Applied.ensures) in
+    let items = sym (c.as_slice-behind.ensures.value ∙ ap (λ y. y.behind.items.items) c.deref-in-Applied-2.ensures) in
     gives_same thing _ _ _ (c.applied.ensures behind.comma _ c.thing_of-before.ensures)
     (ap (thing_of n) seen ∙ (λ i. and_then (thing_of n (tree (front i))) (λ g. with_suffix n c.in-Applied.suffix g (all_given n (series_of behind.comma (map argument_view (items i)))))))
 
 pub thing_of-returns-in-Binary : goal.thing_of-returns-in-Binary
 thing_of-returns-in-Binary t c =
     let n = names c.args.names.now in
-    let seen : tree c.args.tree.now ≡ binary c.in-Binary.operator (tree c.in-Binary.left.value) (tree c.in-Binary.right.value) = ap tree c.in-Binary.is ∙ search (all_lemmas, rules) in
-    let left = sym c.deref-in-Binary.ensures in
-    let right = sym c.deref-in-Binary-2.ensures in
+    let x = c.in-Binary.operands.value in
+    let seen : tree c.args.tree.now ≡ binary c.in-Binary.operator (tree x.left) (tree x.right) = ap tree c.in-Binary.is ∙ search (all_lemmas, rules) in
+    let left = ap (λ y. y.left) (sym c.deref-in-Binary.ensures) in
+    let right = ap (λ y. y.right) (sym c.deref-in-Binary-2.ensures) in
     gives_same thing _ _ _ (c.of_two.ensures _ c.thing_of-first.ensures)
-    (ap (thing_of n) seen ∙ (λ i. and_then (thing_of n (tree (left i))) (λ x. and_then (thing_of n (tree (right i))) (operated (operation c.in-Binary.operator) x))))
+    (ap (thing_of n) seen ∙ (λ i. and_then (thing_of n (tree (left i))) (λ y. and_then (thing_of n (tree (right i))) (operated (operation c.in-Binary.operator) y))))
 
 pub thing_of-returns-in-Compare : goal.thing_of-returns-in-Compare
 thing_of-returns-in-Compare t c =
     let n = names c.args.names.now in
-    let seen : tree c.args.tree.now ≡ compare c.in-Compare.comparison (tree c.in-Compare.left.value) (tree c.in-Compare.right.value) = ap tree c.in-Compare.is ∙ search (all_lemmas, rules) in
-    let left = sym c.deref-in-Compare.ensures in
-    let right = sym c.deref-in-Compare-2.ensures in
+    let x = c.in-Compare.operands.value in
+    let seen : tree c.args.tree.now ≡ compare c.in-Compare.comparison (tree x.left) (tree x.right) = ap tree c.in-Compare.is ∙ search (all_lemmas, rules) in
+    let left = ap (λ y. y.left) (sym c.deref-in-Compare.ensures) in
+    let right = ap (λ y. y.right) (sym c.deref-in-Compare-2.ensures) in
     gives_same thing _ _ _ (c.of_two-in-Compare.ensures _ c.thing_of-first-in-Compare.ensures)
-    (ap (thing_of n) seen ∙ (λ i. and_then (thing_of n (tree (left i))) (λ x. and_then (thing_of n (tree (right i))) (operated (comparison_of c.in-Compare.comparison) x))))
+    (ap (thing_of n) seen ∙ (λ i. and_then (thing_of n (tree (left i))) (λ y. and_then (thing_of n (tree (right i))) (operated (comparison_of c.in-Compare.comparison) y))))

@@ -1,7 +1,7 @@
 use Rattle.std.proofs.Common.{◌++◌, ◌∷◌, [], sym, ap₂, ◌∙◌, arith}
 use Rattle.std.proofs.lemmas.List.FromFn.{map-range_with_len_more}
 use Rattle.fisca_memo.specs.Marks.{marks_of}
-use Rattle.fisca_memo.specs.Views.{slot_list}
+use Rattle.fisca_situations.specs.Views.{slot_list}
 use Rattle.fisca_memo.proofs.marks.wheels_of.Goals as goal
 
 pub loop-variable-preserved : goal.loop-variable-preserved

@@ -1,7 +1,7 @@
 use Rattle.std.proofs.Common.{◌≡◌, map}
 use Rattle.std.specs.List.{range_with_len}
 use Rattle.fisca_memo.specs.Marks.{marks_of}
-use Rattle.fisca_memo.specs.Views.{slot_list}
+use Rattle.fisca_situations.specs.Views.{slot_list}
 use Rattle.fisca_memo.proofs.marks.wheels_of.Given as goal
 
 -- those of the variables so far

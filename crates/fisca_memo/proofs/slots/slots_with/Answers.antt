@@ -1,6 +1,6 @@
 use Rattle.std.proofs.Common.{◌≤◌, ◌++◌, ◌∙◌, length, sym, ap, arith, append-nil}
 use Rattle.fisca_memo.proofs.Grouped.{slots_out}
-use Rattle.fisca_memo.specs.Views.{slot_list}
+use Rattle.fisca_situations.specs.Views.{slot_list}
 use Rattle.fisca_memo.proofs.slots.slots_with.Goals as goal
 
 pub returns-then-i-moved : goal.returns-then-i-moved

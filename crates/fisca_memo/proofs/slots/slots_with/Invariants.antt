@@ -1,6 +1,6 @@
 use Rattle.std.proofs.Common.{◌≡◌, ◌++◌, drop}
 use Rattle.fisca_memo.specs.Slots.{slots_with}
-use Rattle.fisca_memo.specs.Views.{slot_list}
+use Rattle.fisca_situations.specs.Views.{slot_list}
 use Rattle.fisca_memo.proofs.slots.slots_with.Given as goal
 
 -- those so far, and those that are left

@@ -11,7 +11,7 @@ pub returns-in_err-dated_of : goal.returns-in_err-dated_of
 returns-in_err-dated_of c =
     let l = c.loop-formula in
     let items = c.as_slice-formula-items.result.now in
-    let told = err_from_is_err_and c.from_residual.result c.from_residual.ensures.1 in
+    let told = err_from_is_err_and c.from_residual-in_err-dated_of.result c.from_residual-in_err-dated_of.ensures.1 in
     let inside : l.formula-index < length items = omega (arith, c.loop-formula-test.true, l.auto.formula-index-end) in
     let cut = drop-cons items l.formula-index c.formula-item.result inside ∙ ap (λ a. a ∷ drop (suc l.formula-index) items) (sym c.formula-item.is) in
     rw (told.1, told.2) (λ h. behind_fault formula_view (dated_of (known c.args.tables.now) c.args.variable.now.module c.args.variable.now.entity c.args.value_type)

@@ -1,4 +1,4 @@
-use Rattle.fisca_memo.specs.Views.{slot as slot_view}
+use Rattle.fisca_situations.specs.Views.{slot as slot_view}
 use Rattle.fisca_memo.proofs.Turning.{slot_still}
 use Rattle.fisca_memo.specs.Evaluators.{marks_in, simulation_of}
 use Rattle.fisca_memo.proofs.evaluator.Evaluator.turn.Goals as goal

@@ -1,9 +1,0 @@
-use Rattle.std.proofs.Common.{◌++◌, ◌∷◌, [], sym, ap, ◌∙◌}
-use Rattle.fisca_time.specs.Period.{subs}
-use Rattle.fisca_memo.proofs.Grouped.{next_taken}
-use Rattle.fisca_memo.proofs.slots.parts_of.Goals as goal
-
-pub loop-i-preserved : goal.loop-i-preserved
-loop-i-preserved c =
-    c.in_ok-push_period.ensures
-    ∙ (ap (λ ps. ps ++ c.sub.result ∷ []) c.loop-i.invariant ∙ sym (next_taken (subs c.args.period c.args.unit) c.loop-i.i c.sub.result c.sub.ensures))

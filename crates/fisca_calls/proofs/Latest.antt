@@ -1,6 +1,6 @@
 -- The latest local of a name, by its place.
 use Rattle.std.proofs.Common.{◌≡◌, ◌∙◌, sym, ℕ, zero, suc, ◌<◌, ◌++◌, List, [], ◌∷◌, length, map, reverse, Bool, true, false, Option, Some, None, option_map, slice_get, refl, ap, arith, if◌then◌else◌}
-use Rattle.std.proofs.lemmas.List.{length-reverse, reverse-append, reverse-reverse}
+use Rattle.std.proofs.lemmas.List.{append-nil, append_assoc, length-reverse, reverse-append, reverse-reverse}
 use Rattle.std.specs.Str.{bytes_eq}
 use Rattle.fisca_typing.specs.Names.{local_named}
 use Rattle.fisca_typing.specs.Sizes.{Size, capped, one, size_named}
@@ -61,6 +61,43 @@ found_none t ls e = none-there t (reverse ls) e
 -- one local more
 pub one_more : (t : List ℕ) (ls : List Local) (l : Local) → latest_place t (reverse (ls ++ l ∷ [])) ≡ (if bytes_eq l.name t then Some (length ls) else latest_place t (reverse ls))
 one_more t ls l = ap (latest_place t) (reverse-append ls (l ∷ [])) ∙ ap (λ n. if bytes_eq l.name t then Some n else latest_place t (reverse ls)) (length-reverse ls)
+
+-- Locals behind others
+
+first-behind : (t : List ℕ) (ls ms : List Local) (l : Local) → first_named ls t ≡ Some l → first_named (ls ++ ms) t ≡ Some l
+first-behind t [] ms l e = cc
+first-behind t (m ∷ ls) ms l e = by (bytes_eq m.name t) (first-behind t ls ms l) e
+  where
+    by : (b : Bool) → (first_named ls t ≡ Some l → first_named (ls ++ ms) t ≡ Some l) → (if b then Some m else first_named ls t) ≡ Some l
+        → (if b then Some m else first_named (ls ++ ms) t) ≡ Some l
+    by true more e = e
+    by false more e = more e
+
+first-before : (t : List ℕ) (ls ms : List Local) → first_named ls t ≡ None → first_named (ls ++ ms) t ≡ first_named ms t
+first-before t [] ms e = refl
+first-before t (m ∷ ls) ms e = by (bytes_eq m.name t) (first-before t ls ms) e
+  where
+    by : (b : Bool) → (first_named ls t ≡ None → first_named (ls ++ ms) t ≡ first_named ms t) → (if b then Some m else first_named ls t) ≡ None
+        → (if b then Some m else first_named (ls ++ ms) t) ≡ first_named ms t
+    by true more e = cc
+    by false more e = more e
+
+pub named_behind : (t : List ℕ) (ls ms : List Local) (l : Local) → first_named (reverse ms) t ≡ Some l → first_named (reverse (ls ++ ms)) t ≡ Some l
+named_behind t ls ms l e = ap (λ (xs : List Local). first_named xs t) (reverse-append ls ms) ∙ first-behind t (reverse ms) (reverse ls) l e
+
+pub named_before : (t : List ℕ) (ls ms : List Local) → first_named (reverse ms) t ≡ None → first_named (reverse (ls ++ ms)) t ≡ first_named (reverse ls) t
+named_before t ls ms e = ap (λ (xs : List Local). first_named xs t) (reverse-append ls ms) ∙ first-before t (reverse ms) (reverse ls) e
+
+-- the last of these is the latest
+pub named_last : (t : List ℕ) (ls : List Local) (l : Local) → first_named (reverse (ls ++ l ∷ [])) t ≡ (if bytes_eq l.name t then Some l else first_named (reverse ls) t)
+named_last t ls l = ap (λ (xs : List Local). first_named xs t) (reverse-append ls (l ∷ []))
+
+pub more_first : (ls ms : List Local) (l : Local) → ms ≡ [] → (ls ++ l ∷ []) ++ ms ≡ (ls ++ ms) ++ l ∷ []
+more_first ls ms l e =
+    ap (λ (xs : List Local). (ls ++ l ∷ []) ++ xs) e ∙ (append-nil (ls ++ l ∷ []) ∙ ap (λ (xs : List Local). xs ++ l ∷ []) (sym (ap (λ (xs : List Local). ls ++ xs) e ∙ append-nil ls)))
+
+pub more_behind : (ls ms : List Local) (l : Local) → ls ++ (ms ++ l ∷ []) ≡ (ls ++ ms) ++ l ∷ []
+more_behind ls ms l = sym (append_assoc ls ms (l ∷ []))
 
 -- What it stands for
 

@@ -10,6 +10,7 @@ mod locals;
 mod name;
 mod parameters;
 mod size;
+mod table;
 
 pub use arguments::{Given, Positions, Settled, alone, positions_of, settle, single};
 pub use calls::{calculation_by, function_by, offset_of, reader_by};

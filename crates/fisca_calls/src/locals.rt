@@ -1,30 +1,31 @@
 //! The locals of a formula so far.
 ghost use Rattle.std.specs.Prelude.{◌≡◌, ◌++◌, ◌∷◌, [], IfOk, option_map, reverse};
 ghost use Rattle.fisca_calls.specs.Counts.{size as size_of};
-ghost use Rattle.fisca_calls.specs.Locals.{first_named, latest_place, locals, sizes};
+ghost use Rattle.fisca_calls.specs.Locals.{first_named, locals, sizes};
 ghost use Rattle.fisca_nodes.specs.Views.{thing};
 ghost use Rattle.fisca_typing.specs.Names.{local_named};
 ghost use Rattle.fisca_typing.specs.Sizes.{capped, size_named};
 
 use crate::local::Local;
-use crate::name::Name;
 use crate::size::{Size, one};
+use crate::table::Table;
 use fisca_nodes::Thing;
-use indexmap::IndexMap;
 use std::alloc::{AllocError, Global};
 use std::marker::Model;
 
-/// Locals in the order in which they are assigned, seen as a list. The latest of each name is found by it.
+/// So many locals are looked through one by one, which costs less than a table where there are few.
+const FEW: usize = 8;
+
+/// Locals in the order in which they are assigned, seen as a list: the first few, and those that a table finds.
 #[derive(Drop)]
 pub struct Locals<'a> {
-    items: Vec<Local<'a>>,
-    places: IndexMap<Name<'a>, usize>,
+    first: Vec<Local<'a>>,
+    more: Table<'a>,
 }
 
 impl<'a> Model for Locals<'a> {
-    ghost use Rattle.std.specs.Prelude.{List};
+    ghost use Rattle.std.specs.Prelude.{List, ◌++◌};
     ghost use Rattle.fisca_calls.specs.declared.local.Local.{Local};
-    ghost use Rattle.fisca_calls.specs.Locals.{AreFound};
     ghost use Rattle.fisca_nodes.specs.contracts.node.Node as n;
     ghost use Rattle.std.specs.Coded.{codes};
 
@@ -32,9 +33,24 @@ impl<'a> Model for Locals<'a> {
 
     ghost coded = { Prim.hlevel (codes, n.the_row.coded) };
 
-    ghost view = { λ l. l.items.items };
+    ghost view = { λ l. l.first.items ++ l.more };
+}
 
-    ghost invariant = { λ l. AreFound l.items.items l.places };
+/// The latest of these locals that has this name.
+#[tactic(auto, using(crate::proofs::Latest::named_last))]
+fn latest_of<'l, 'a>(locals: &'l [Local<'a>], name: &[u8]) -> Option<&'l Local<'a>>
+    ensures { option_map (λ l. l.now) result ≡ first_named (reverse locals.now) name.now }
+{
+    match locals {
+        [] => None,
+        [before @ .., local] => {
+            if local.name.as_bytes() == name {
+                Some(local)
+            } else {
+                latest_of(before, name)
+            }
+        }
+    }
 }
 
 impl<'a> Locals<'a> {
@@ -43,43 +59,36 @@ impl<'a> Locals<'a> {
         ensures { result ≡ [] }
     {
         Locals {
-            items: Vec::new(alloc),
-            places: IndexMap::new(alloc),
+            first: Vec::new(alloc),
+            more: Table::new(alloc),
         }
     }
 
     /// One local more, which stands before earlier ones of its name.
+    #[tactic(auto, using(crate::proofs::Latest::more_first, crate::proofs::Latest::more_behind))]
     pub fn with(self, local: Local<'a>) -> Result<Locals<'a>, AllocError>
         ensures { IfOk result (λ l. l ≡ self.entry ++ local.entry ∷ []) }
     {
-        let Locals {
-            mut items,
-            mut places,
-        } = self;
-        let name = Name::new(local.name.as_bytes());
-        places.insert(name, items.len()).map_err(AllocError::from)?;
-        items.push(local)?;
-        Ok(Locals { items, places })
-    }
-
-    /// Where the latest local of this name stands.
-    fn place_of(&self, name: &[u8]) -> Option<usize>
-        ensures { result ≡ latest_place name.now (reverse self.now) }
-    {
-        self.places.get(&Name::new(name)).copied()
+        let Locals { mut first, more } = self;
+        if more.is_empty() && first.len() < FEW {
+            first.push(local)?;
+            return Ok(Locals { first, more });
+        }
+        let more = more.with(local)?;
+        Ok(Locals { first, more })
     }
 
     /// The latest local of this name.
-    #[tactic(auto, using(crate::proofs::Latest::found_none))]
+    #[tactic(auto, using(crate::proofs::Latest::named_behind, crate::proofs::Latest::named_before))]
     fn of_name(&self, name: &[u8]) -> Option<&Local<'a>>
         ensures { option_map (λ l. l.now) result ≡ first_named (reverse self.now) name.now }
     {
-        match self.place_of(name) {
-            Some(place) => match self.items.get(place) {
-                Some(local) => Some(local),
-                None => None,
-            },
-            None => None,
+        if self.more.is_empty() {
+            return latest_of(self.first.as_slice(), name);
+        }
+        match self.more.of_name(name) {
+            Some(local) => Some(local),
+            None => latest_of(self.first.as_slice(), name),
         }
     }
 

@@ -2,7 +2,7 @@ use Rattle.std.proofs.Common.{List, Some, slice_get, sym, ◌∙◌, ap}
 use Rattle.std.proofs.lemmas.Option.{slice_get-get_or, slice_get_past}
 use Rattle.fisca_calls.proofs.Latest.{found_at}
 use Rattle.fisca_calls.specs.declared.local.Local.{Local}
-use Rattle.fisca_calls.proofs.locals.Locals.of_name.Goals as goal
+use Rattle.fisca_calls.proofs.table.Table.of_name.Goals as goal
 
 pub returns-in-Some-get : goal.returns-in-Some-get
 returns-in-Some-get c =

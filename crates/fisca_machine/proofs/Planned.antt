@@ -1,5 +1,6 @@
 -- Steps that follow one another.
-use Rattle.std.proofs.Common.{◌≡◌, List, [], ◌∷◌, ◌++◌, Some, true, false, refl, sym, ap, ◌∙◌}
+use Rattle.std.proofs.Common.{◌≡◌, List, [], ◌∷◌, ◌++◌, Some, Bool, true, false, ◌&&◌, refl, sym, ap, ◌∙◌}
+use Rattle.std.specs.List.{list_all}
 use Rattle.fisca_meaning.specs.Answers.{arithmetic_of}
 use Rattle.fisca_meaning.specs.Dialogues.{bool, ◌>>=◌}
 use Rattle.fisca_meaning.specs.Questions.{Groups, Point}
@@ -10,7 +11,7 @@ use Rattle.fisca_typing.specs.declared.operations.Arithmetic.{Arithmetic}
 use Rattle.fisca_machine.specs.declared.pending.Operation.TheVariants as operation
 use Rattle.fisca_machine.specs.declared.plan.Operand.{Operand}
 use Rattle.fisca_machine.specs.declared.plan.PlanStep.{PlanStep}
-use Rattle.fisca_machine.specs.Plans.{has_plan, is_operand, made, then_operand, then_steps}
+use Rattle.fisca_machine.specs.Plans.{has_plan, is_operand, made, operands, then_operand, then_steps}
 use Rattle.fisca_machine.specs.Running.{After, Locals, says}
 
 steps_behind : (ss : List PlanStep) (s : PlanStep) (k : After) → then_steps (ss ++ s ∷ []) k ≡ then_steps ss (then_steps (s ∷ []) k)
@@ -32,3 +33,22 @@ pub operand_has_plan : (c : Tables) (g : Groups) (ls : Locals) (n : Node) (p : P
 unfolding is_operand
 operand_has_plan c g ls (node.arithmetic o a b) p h = cc
 operand_has_plan c g ls n p h = h
+
+-- All of some nodes, of which one stands behind the others
+
+and_true : (b : Bool) → b ≡ (b && true)
+and_true true = refl
+and_true false = refl
+
+and_more : (b c d : Bool) → (b && (c && d)) ≡ ((b && c) && d)
+and_more true c d = refl
+and_more false c d = refl
+
+all_behind : (f : Node → Bool) (es : List Node) (e : Node) → (list_all f es && f e) ≡ list_all f (es ++ e ∷ [])
+all_behind f [] e = and_true (f e)
+all_behind f (d ∷ es) e = sym (and_more (f d) (list_all f es) (f e)) ∙ ap (λ b. f d && b) (all_behind f es e)
+
+pub plan_of_operands : (c : Tables) (g : Groups) (ls : Locals) (n : Node) (p : Point) → has_plan c g ls n p ≡ list_all (λ e. is_operand c g ls e p) (operands n)
+plan_of_operands c g ls (node.arithmetic o a b) p =
+    ap (λ h. h && is_operand c g ls b p) (plan_of_operands c g ls a p) ∙ all_behind (λ e. is_operand c g ls e p) (operands a) b
+plan_of_operands c g ls n p = and_true (is_operand c g ls n p)

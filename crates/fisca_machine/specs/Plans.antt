@@ -1,5 +1,5 @@
 -- What is made of known values and of the values of keys, one after another.
-use Rattle.std.specs.Prelude.{◌≡◌, ℕ, Bool, true, false, ◌&&◌, List, [], ◌∷◌, Option, Some, None}
+use Rattle.std.specs.Prelude.{◌≡◌, ℕ, Bool, true, false, ◌&&◌, List, [], ◌∷◌, ◌++◌, Option, Some, None}
 use Rattle.fisca_inputs.specs.Seen.{key_seen, value_seen}
 use Rattle.fisca_meaning.specs.Dialogues.{Dialogue, Value, bool, gives, fails, stuck, asks, ◌>>=◌}
 use Rattle.fisca_meaning.specs.Questions.{Groups, Point}
@@ -99,7 +99,12 @@ is_at_hand (asks key f) = true
 unfoldable pub is_operand : Tables → Groups → Locals → Node → Point → Bool
 is_operand c g ls n p = is_simple n && is_at_hand (says c g ls n p gives)
 
--- an operand, or arithmetic on what has a plan and an operand
+-- the operands of arithmetic from left to right; all else is one alone
+abbrev pub operands : Node → List Node
+operands (node.arithmetic o a b) = operands a ++ b ∷ []
+operands n = n ∷ []
+
+-- an operand, or arithmetic on what has a plan and an operand (in other words: each of the operands is one, a law of `src/law.rt`)
 abbrev pub has_plan : Tables → Groups → Locals → Node → Point → Bool
 has_plan c g ls (node.arithmetic o a b) p = has_plan c g ls a p && is_operand c g ls b p
 has_plan c g ls n p = is_operand c g ls n p

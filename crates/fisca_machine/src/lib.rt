@@ -5,6 +5,7 @@ mod ascend;
 mod asks;
 mod descend;
 mod found;
+mod law;
 mod machine;
 mod parameters;
 mod pending;
@@ -14,6 +15,7 @@ mod stack;
 mod totals;
 mod world;
 
+pub use law::plans_are_of_operands;
 pub use machine::{Control, Machine, Step};
 pub use pending::{At, Frame};
 pub use plan::{Plan, plan_of};

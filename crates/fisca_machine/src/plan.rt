@@ -10,7 +10,7 @@ ghost use Rattle.fisca_nodes.specs.declared.node.Node.{Node as Held};
 ghost use Rattle.fisca_tables.specs.Known.{tables as known};
 ghost use Rattle.fisca_machine.specs.Plans.{has_plan, is_alone, is_operand, plays, then_operand, then_steps};
 ghost use Rattle.fisca_machine.specs.Running.{After, Locals, before, parametric, point, says};
-ghost use Rattle.fisca_typing.specs.Nodes.{ask as asks_node, no_index, parameter};
+ghost use Rattle.fisca_typing.specs.Nodes.{arithmetic, ask as asks_node, no_index, parameter};
 ghost use Rattle.fisca_values.specs.Casts.{cast};
 
 use crate::found::{type_of, variable_at};
@@ -19,7 +19,7 @@ use fisca_inputs::{Key, Value};
 use fisca_nodes::{Ask, Node, Parameter};
 use fisca_params::NodeId;
 use fisca_tables::{DeclaredType, Tables};
-use fisca_typing::{Asking, Whom};
+use fisca_typing::{Arithmetic, Asking, Whom};
 use fisca_values::{moved_all, parameter_at, plain_key, start_at};
 use std::alloc::{AllocError, Global};
 
@@ -130,7 +130,35 @@ fn operand_of(tables: &Tables<'_>, e: &Node, frame: &Frame) -> Option<Operand>
     }
 }
 
+/// Puts the steps of arithmetic on two nodes, where the left one has a plan and the right one is an operand. Whether they are so.
+#[cycle(steps)]
+fn put_arithmetic(
+    tables: &Tables<'_>,
+    kind: Arithmetic,
+    left: &Node,
+    right: &Node,
+    frame: &Frame,
+    steps: &mut Vec<PlanStep>,
+) -> Result<bool, AllocError>
+    requires { steps.old.items ≡ [] }
+    ensures steps { IfOk result (λ r. OnTrue r ((g : Groups) (ls : Locals) (k : After) → says (known tables.now) g ls (arithmetic kind (node left.now) (node right.now)) (point frame.now (record { person = None; visible = 0 })) k ≡ then_steps steps.new.items k (bool false))) }
+    ensures only { IfOk result (λ r. (g : Groups) (ls : Locals) → r ≡ has_plan (known tables.now) g ls (arithmetic kind (node left.now) (node right.now)) (point frame.now (record { person = None; visible = 0 }))) }
+{
+    if !put_steps(tables, left, frame, steps)? {
+        return Ok(false);
+    }
+    let Some(operand) = operand_of(tables, right, frame) else {
+        return Ok(false);
+    };
+    steps.push(PlanStep {
+        operation: Some(Operation::Arithmetic(kind)),
+        right: operand,
+    })?;
+    Ok(true)
+}
+
 /// Puts the steps of a node that is an operand, or arithmetic on such a node and on an operand. Whether it is one.
+#[cycle(steps)]
 fn put_steps(
     tables: &Tables<'_>,
     e: &Node,
@@ -150,17 +178,7 @@ fn put_steps(
     }
     match e {
         Node::Arithmetic(kind, pair) => {
-            if !put_steps(tables, &pair.left, frame, steps)? {
-                return Ok(false);
-            }
-            let Some(right) = operand_of(tables, &pair.right, frame) else {
-                return Ok(false);
-            };
-            steps.push(PlanStep {
-                operation: Some(Operation::Arithmetic(*kind)),
-                right,
-            })?;
-            Ok(true)
+            put_arithmetic(tables, *kind, &pair.left, &pair.right, frame, steps)
         }
         Node::Literal(_)
         | Node::Truth(_)

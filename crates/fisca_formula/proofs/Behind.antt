@@ -1,5 +1,5 @@
 -- One local more.
-use Rattle.std.proofs.Common.{ℕ, suc, ◌+◌, add-one, ◌≡◌, ◌∙◌, sym, ap, List, [], ◌∷◌, ◌++◌, map, reverse, Bool, true, false, if◌then◌else◌, Some, None, Result, Ok, Err, refl}
+use Rattle.std.proofs.Common.{ℕ, suc, ◌+◌, add-one, ◌≡◌, ◌∙◌, ap, List, [], ◌∷◌, ◌++◌, map, Bool, true, false, if◌then◌else◌, Some, None, Result, Ok, Err, refl}
 use Rattle.std.proofs.lemmas.List.{reverse-append}
 use Rattle.fisca_calls.specs.Locals.{local, locals, sized, sizes}
 use Rattle.fisca_calls.specs.declared.local.Local.{Local}

@@ -3,7 +3,6 @@ use Rattle.std.specs.Prelude.{◌≡◌, ◌≢◌, map, Result, Ok, Err}
 use Rattle.fisca_expressions.specs.Views.{tree}
 use Rattle.fisca_calls.specs.Locals.{sizes}
 use Rattle.fisca_nodes.specs.Views.{node}
-use Rattle.fisca_nodes.specs.declared.node.Node.{Node as Held}
 use Rattle.fisca_params.specs.Results.{and_then}
 use Rattle.fisca_syntax.specs.declared.module.Assignment.{Assignment}
 use Rattle.fisca_tokens.specs.declared.fault.Kind.{Kind}

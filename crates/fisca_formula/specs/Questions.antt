@@ -1,6 +1,6 @@
 -- Questions for variables, by their arguments.
 use Rattle.std.specs.Borrow.{Bor}
-use Rattle.std.specs.Prelude.{ℕ, List, [], ◌∷◌, Option, Some, None, option_map, Result, Ok, if◌then◌else◌}
+use Rattle.std.specs.Prelude.{ℕ, List, Option, Some, None, option_map, Result, Ok, if◌then◌else◌}
 use Rattle.fisca_calls.specs.Arguments.{given}
 use Rattle.fisca_calls.specs.declared.arguments.Given.{Given as Held}
 use Rattle.fisca_nodes.specs.Views.{thing}

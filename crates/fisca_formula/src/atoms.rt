@@ -16,6 +16,7 @@ use fisca_typing::{Level, ValueType};
 use std::alloc::{AllocError, Global};
 
 /// A number as it is written; no module has one that is none.
+#[inline(never)]
 pub fn number_thing(digits: &[u8]) -> Result<Thing, Kind>
     ensures { Gives thing_of (spec.number_thing (number_of_literal digits.now)) result }
 {
@@ -30,6 +31,7 @@ pub fn number_thing(digits: &[u8]) -> Result<Thing, Kind>
 }
 
 /// A text in quotes.
+#[inline(never)]
 pub fn text_thing(alloc: Global, source: &[u8]) -> Result<Thing, Kind>
     ensures { Gives thing_of (text_said source.now) result }
 {

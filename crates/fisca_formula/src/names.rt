@@ -120,6 +120,7 @@ fn other_named(alloc: Global, names: &Names, name: &[u8]) -> Option<Thing>
 
 /// What a name stands for, or `UnknownName`: the latest local, else an argument, else a word of the language, else an
 /// Enum or an entity.
+#[inline(never)]
 pub fn named(alloc: Global, names: &Names, name: &[u8]) -> Result<Thing, Kind>
     ensures { Gives thing (spec.named (names_of names.now) name.now) result }
 {

@@ -1,5 +1,5 @@
 //! What expressions stand for: functions that call one another, each of which only matches and calls.
-ghost use Rattle.std.specs.Prelude.{◌≡◌, Bool, IfOk, Result, map};
+ghost use Rattle.std.specs.Prelude.{◌≡◌, ◌∷◌, [], Bool, IfOk, Result, map};
 ghost use Rattle.fisca_calls.specs.Arguments.{all_given as given_list, given as given_view};
 ghost use Rattle.fisca_expressions.specs.Views.{argument_view, series_of, tree as tree_of};
 ghost use Rattle.fisca_formula.specs.Views.{names as names_of};
@@ -60,6 +60,7 @@ pub fn thing_of<'a, 't>(alloc: Global, tree: &'t Expr<'a>, names: &Names) -> Res
 
 /// What brackets stand for, or the first fault of what stands in them.
 #[cycle(typing)]
+#[inline(never)]
 fn bracketed<'a, 't>(
     alloc: Global,
     names: &Names,
@@ -68,12 +69,32 @@ fn bracketed<'a, 't>(
 ) -> Result<Thing, Kind>
     ensures { (comma : Bool) → Gives thing (spec.in_brackets bracket (spec.all_given (names_of names.now) (series_of comma (map argument_view inside.now)))) result }
 {
-    let arguments = all_given(alloc, inside, names)?;
-    in_brackets(alloc, bracket, arguments)
+    match (bracket, inside) {
+        (Bracket::Round, [only]) => parenthesised(alloc, names, only),
+        (Bracket::Round | Bracket::Square | Bracket::Curly, _) => {
+            in_brackets(alloc, bracket, all_given(alloc, inside, names)?)
+        }
+    }
+}
+
+/// What stands alone in parentheses, or its first fault; `BadType` behind a keyword. It needs no list.
+#[cycle(typing)]
+fn parenthesised<'a, 't>(
+    alloc: Global,
+    names: &Names,
+    only: &'t Argument<'a>,
+) -> Result<Thing, Kind>
+    ensures { Gives thing (spec.only (spec.given_of (names_of names.now) (argument_view only.now) ∷ [])) result }
+{
+    match only {
+        Argument::Positional(value) => thing_of(alloc, value, names),
+        Argument::Keyword(..) | Argument::Entry(..) => Err(Kind::BadType),
+    }
 }
 
 /// What a name behind an expression stands for, or the first fault.
 #[cycle(typing)]
+#[inline(never)]
 fn attribute<'a, 't>(
     alloc: Global,
     names: &Names,
@@ -88,6 +109,7 @@ fn attribute<'a, 't>(
 
 /// What brackets behind what was found stand for, or the first fault.
 #[cycle(typing)]
+#[inline(never)]
 fn applied<'a, 't>(
     alloc: Global,
     names: &Names,
@@ -104,6 +126,7 @@ fn applied<'a, 't>(
 
 /// What a prefix and its operand stand for, or the first fault.
 #[cycle(typing)]
+#[inline(never)]
 fn prefixed<'a, 't>(
     alloc: Global,
     names: &Names,
@@ -142,7 +165,7 @@ fn all_given<'a, 't>(
 ) -> Result<Vec<Given<'a, 't>>, AllocError>
     ensures { IfOk result (λ gs. (comma : Bool) → given_list gs.items ≡ spec.all_given (names_of names.now) (series_of comma (map argument_view items.now))) }
 {
-    let mut found = Vec::new(alloc);
+    let mut found = Vec::with_capacity(alloc, items.len())?;
     for item in items {
         found.push(given_of(alloc, item, names)?)?;
     }

@@ -1,4 +1,4 @@
-pub mod Days
+pub mod Came
 pub mod Formulas
 pub mod Named
 pub mod Steps

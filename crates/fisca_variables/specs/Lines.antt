@@ -1,5 +1,5 @@
 -- The lines of a variable, each beside what came before it.
-use Rattle.std.specs.Prelude.{ℕ, List, [], ◌∷◌, ◌++◌, Bool, not, ◌&&◌, if◌then◌else◌, Result, Ok}
+use Rattle.std.specs.Prelude.{ℕ, List, [], ◌∷◌, ◌++◌, Bool, not, ◌&&◌, if◌then◌else◌, Option, Some, None, Result, Ok}
 use Rattle.std.specs.List.{list_any}
 use Rattle.std.specs.Str.{bytes_eq}
 use Rattle.fisca_params.specs.Results.{and_then}
@@ -8,6 +8,7 @@ use Rattle.fisca_time.specs.Instant.{CivilDate}
 use Rattle.fisca_tokens.specs.declared.fault.Kind.{Kind}
 use Rattle.fisca_attributes.specs.Values.{bad_attribute}
 use Rattle.fisca_variables.specs.declared.before.Before.{Before as Held}
+use Rattle.fisca_variables.specs.declared.before.Days.{Days}
 use Rattle.fisca_variables.specs.declared.declared.Declared.{Declared}
 use Rattle.fisca_variables.specs.VariableForms.{attribute_fits, if_allowed, same_day}
 
@@ -16,8 +17,12 @@ pub record Before : Type 0 where
   pub names : List (List ℕ)
   pub days : List CivilDate
 
+abbrev pub days_of : Option Days → List CivilDate
+days_of None = []
+days_of (Some ds) = ds.first ∷ ds.more.keys
+
 abbrev pub before : Held → Before
-before b = record { names = b.names; days = b.days.keys }
+before b = record { names = b.names.items; days = days_of b.days }
 
 abbrev pub nothing_before : Before
 nothing_before = record { names = []; days = [] }
@@ -29,6 +34,10 @@ if_first b t fits = if list_any (λ k. bytes_eq k t) b.names then bad_attribute 
 abbrev pub behind_attribute : Declared → List Item → Before → Assigned → Result Before Kind
 behind_attribute c all b a =
     and_then (if_first b a.name (attribute_fits c all a.name a.value)) (λ _. Ok (record b { names = b.names ++ a.name ∷ [] }))
+
+-- the days with one more behind them, or nothing where it is one of them
+abbrev pub with_day : List CivilDate → CivilDate → Option (List CivilDate)
+with_day ds d = if list_any (λ e. same_day e d) ds then None else Some (ds ++ d ∷ [])
 
 -- what is known behind a formula, where there may be one and none starts on its day
 abbrev pub behind_formula : Bool → Before → Formula → Result Before Kind

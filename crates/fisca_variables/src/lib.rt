@@ -3,6 +3,7 @@
 
 mod basics;
 mod before;
+mod days;
 mod declared;
 mod defaults;
 mod fits;

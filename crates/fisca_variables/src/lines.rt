@@ -1,17 +1,19 @@
 //! The lines of a variable from top to bottom.
 
+ghost use Rattle.std.specs.List.{list_any};
 ghost use Rattle.std.specs.Prelude.{◌≡◌, map};
+ghost use Rattle.std.specs.Str.{bytes_eq};
 ghost use Rattle.fisca_nodes.specs.Outcomes.{Gives};
 ghost use Rattle.fisca_syntax.specs.Views.{assigned, formula_view, item};
 ghost use Rattle.fisca_variables.specs.Lines as spec;
 
 use crate::before::Before;
+use crate::days::with_day;
 use crate::declared::Declared;
 use crate::fits::attribute_fits;
+use fisca_expressions::Slice;
 use fisca_syntax::{Assignment, Formula, Item};
-use fisca_tables::{Names, Text};
 use fisca_tokens::Kind;
-use indexmap::IndexSet;
 use std::alloc::Global;
 
 impl<'a> Before<'a> {
@@ -23,10 +25,17 @@ impl<'a> Before<'a> {
         ensures { before result ≡ nothing_before }
     {
         Before {
-            names: Names::new(alloc),
-            days: IndexSet::new(alloc),
+            names: Vec::new(alloc),
+            days: None,
         }
     }
+}
+
+/// Whether a name is one of these.
+fn is_among(names: &[Slice<'_>], name: &[u8]) -> bool
+    ensures { result ≡ list_any (λ k. bytes_eq k name.now) names.now }
+{
+    names.iter().any(|known| known.as_bytes() == name)
 }
 
 /// What is known behind an attribute, which came for the first time and is right, or `BadAttribute` or `UnknownName`.
@@ -40,18 +49,19 @@ fn behind_attribute<'a>(
     ensures { Gives spec.before (spec.behind_attribute declared.now (map item items.now) (spec.before before.entry) (assigned attribute.now)) result }
 {
     let name = attribute.name.as_bytes();
-    if before.names.contains(name) {
+    if is_among(before.names.as_slice(), name) {
         return Err(Kind::BadAttribute);
     }
     attribute_fits(alloc, declared, items, name, &attribute.value)?;
-    Ok(Before {
-        names: before.names.with(alloc, Text::borrowed(name))?,
-        days: before.days,
-    })
+    let Before { mut names, days } = before;
+    names.push(Slice::new(name))?;
+    Ok(Before { names, days })
 }
 
 /// What is known behind a formula, where there may be one and none came before with the same start; or `BadAttribute`.
+#[tactic(auto, using(crate::proofs::Came::day_came, crate::proofs::Came::day_new))]
 fn behind_formula<'a>(
+    alloc: Global,
     formulas: bool,
     before: Before<'a>,
     formula: &Formula<'a>,
@@ -61,12 +71,14 @@ fn behind_formula<'a>(
     if !formulas {
         return Err(Kind::BadAttribute);
     }
-    let Before { names, mut days } = before;
-    let is_new = days.insert(formula.start)?;
-    if !is_new {
-        return Err(Kind::BadAttribute);
+    let Before { names, days } = before;
+    match with_day(alloc, days, formula.start)? {
+        Some(found) => Ok(Before {
+            names,
+            days: Some(found),
+        }),
+        None => Err(Kind::BadAttribute),
     }
-    Ok(Before { names, days })
 }
 
 /// What is known behind a line of a variable with these lines, which may have formulas or not; or the fault of the line.
@@ -84,6 +96,6 @@ pub fn behind_line<'a>(
         Item::Attribute(attribute) => {
             behind_attribute(alloc, declared, items, before, attribute)
         }
-        Item::Formula(formula) => behind_formula(formulas, before, formula),
+        Item::Formula(formula) => behind_formula(alloc, formulas, before, formula),
     }
 }

@@ -1,5 +1,5 @@
 use Rattle.std.proofs.Common.{Ok, None, ◌∙◌, ap}
-use Rattle.fisca_calls.specs.Arguments.{all_settled, positions as positions_view, single}
+use Rattle.fisca_calls.specs.Arguments.{all_settled, positions as positions_view}
 use Rattle.fisca_nodes.specs.Views.{thing}
 use Rattle.fisca_params.specs.Results.{and_then}
 use Rattle.fisca_typing.specs.Asks.{total_by, total_of}

@@ -1,6 +1,5 @@
-use Rattle.std.proofs.Common.{rules, arith, ◌≡◌, ◌∙◌, sym, ap, Some, None, Ok, take}
+use Rattle.std.proofs.Common.{rules, arith, ◌≡◌, ◌∙◌, sym, ap, Some, None, take}
 use Rattle.std.specs.Prelude.{map}
-use Rattle.fisca_calls.specs.Arguments.{all_given as given_list}
 use Rattle.fisca_expressions.specs.Tree.{applied, attribute, binary, bracketed, compare, keyword, positional}
 use Rattle.fisca_expressions.specs.Views.{argument_view, series_of, tree}
 use Rattle.fisca_expressions.specs.declared.tree.Arguments.{the_lemmas as all_lemmas}

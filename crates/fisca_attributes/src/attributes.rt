@@ -104,7 +104,13 @@ pub fn period_value(value: &Expr<'_>) -> Result<Unit, Kind>
     match bare(value) {
         Expr::Name(name) => period_named(name.as_bytes()),
         Expr::Attribute(access) => unit_of(access.name.as_bytes(), name_value(&access.front)),
-        _ => Err(Kind::BadAttribute),
+        Expr::Number(_)
+        | Expr::Text(_)
+        | Expr::Bracketed(_, _)
+        | Expr::Applied(_, _)
+        | Expr::Prefixed(_, _)
+        | Expr::Binary(_, _)
+        | Expr::Compare(_, _) => Err(Kind::BadAttribute),
     }
 }
 

@@ -9,7 +9,7 @@ ghost use Rattle.fisca_attributes.specs.Values as spec;
 ghost use Rattle.fisca_time.specs.Instant.{instant_of_text, instant_if_real};
 
 use crate::dotted::Dotted;
-use crate::lists::{parted, positional};
+use crate::lists::{items_of, positional};
 use crate::values::{name_value, text_value, whole_value};
 use fisca_expressions::{Argument, Expr, Suffix, bare};
 use fisca_tables::Text;
@@ -44,7 +44,14 @@ pub fn dotted_value<'a>(value: &Expr<'a>) -> Result<Dotted<'a>, Kind>
             left: name_value(&access.front)?,
             right: Text::borrowed(access.name.as_bytes()),
         }),
-        _ => Err(Kind::BadAttribute),
+        Expr::Name(_)
+        | Expr::Number(_)
+        | Expr::Text(_)
+        | Expr::Bracketed(_, _)
+        | Expr::Applied(_, _)
+        | Expr::Prefixed(_, _)
+        | Expr::Binary(_, _)
+        | Expr::Compare(_, _) => Err(Kind::BadAttribute),
     }
 }
 
@@ -85,7 +92,14 @@ fn is_date(called: &Expr<'_>) -> bool
 {
     match bare(called) {
         Expr::Name(word) => word.as_bytes() == b"date".as_slice(),
-        _ => false,
+        Expr::Number(_)
+        | Expr::Text(_)
+        | Expr::Bracketed(_, _)
+        | Expr::Attribute(_)
+        | Expr::Applied(_, _)
+        | Expr::Prefixed(_, _)
+        | Expr::Binary(_, _)
+        | Expr::Compare(_, _) => false,
     }
 }
 
@@ -98,12 +112,17 @@ pub fn date_value(alloc: Global, value: &Expr<'_>) -> Result<Instant, Kind>
             if !is_date(&call.front) {
                 return Err(Kind::BadAttribute);
             }
-            let numbers = each_whole(
-                alloc,
-                parted(call.behind.items.as_slice(), call.behind.comma),
-            )?;
+            let numbers = each_whole(alloc, items_of(&call.behind))?;
             date_of_numbers(numbers.as_slice())
         }
-        _ => Err(Kind::BadAttribute),
+        Expr::Applied(Suffix::Subscript, _)
+        | Expr::Name(_)
+        | Expr::Number(_)
+        | Expr::Text(_)
+        | Expr::Bracketed(_, _)
+        | Expr::Attribute(_)
+        | Expr::Prefixed(_, _)
+        | Expr::Binary(_, _)
+        | Expr::Compare(_, _) => Err(Kind::BadAttribute),
     }
 }

@@ -10,7 +10,7 @@ ghost use Rattle.fisca_nodes.specs.Outcomes.{Gives};
 ghost use Rattle.fisca_attributes.specs.Values.{each, needed, or_else, perhaps, text_value as text_said, truth_value as truth_said, count_value as count_said, texts_value as texts_said, list_value};
 
 use crate::fields::{Field, Form, read_fields, value_of};
-use crate::lists::{list_of, parted, positional, texts_value};
+use crate::lists::{items_of, list_of, positional, texts_value};
 use crate::values::{count_value, text_value, truth_value};
 use fisca_expressions::{Argument, Bracket, Expr, bare};
 use fisca_syntax::Assignment;
@@ -93,10 +93,16 @@ fn map_of<'e, 'a>(value: &'e Expr<'a>) -> Result<&'e [Argument<'a>], Kind>
     ensures { Gives (λ xs. map argument_view xs.now) (spec.mapped (tree value.now)) result }
 {
     match bare(value) {
-        Expr::Bracketed(Bracket::Curly, inside) => {
-            Ok(parted(inside.items.as_slice(), inside.comma))
-        }
-        _ => Err(Kind::BadAttribute),
+        Expr::Bracketed(Bracket::Curly, inside) => { Ok(items_of(inside)) }
+        Expr::Bracketed(Bracket::Round | Bracket::Square, _)
+        | Expr::Name(_)
+        | Expr::Number(_)
+        | Expr::Text(_)
+        | Expr::Attribute(_)
+        | Expr::Applied(_, _)
+        | Expr::Prefixed(_, _)
+        | Expr::Binary(_, _)
+        | Expr::Compare(_, _) => Err(Kind::BadAttribute),
     }
 }
 
@@ -174,8 +180,15 @@ fn arguments_of<'e, 'a>(value: &'e Expr<'a>) -> &'e [Argument<'a>]
     ensures { map argument_view result.now ≡ spec.arguments_of (bare_tree (tree value.now)) }
 {
     match bare(value) {
-        Expr::Applied(_, call) => parted(call.behind.items.as_slice(), call.behind.comma),
-        _ => &[],
+        Expr::Applied(_, call) => items_of(&call.behind),
+        Expr::Name(_)
+        | Expr::Number(_)
+        | Expr::Text(_)
+        | Expr::Bracketed(_, _)
+        | Expr::Attribute(_)
+        | Expr::Prefixed(_, _)
+        | Expr::Binary(_, _)
+        | Expr::Compare(_, _) => &[],
     }
 }
 

@@ -13,5 +13,5 @@ pub use attributes::{TypeName, period_value, sharing_value, type_value, value_at
 pub use dates::{date_value, dotted_value, instant_value};
 pub use dotted::Dotted;
 pub use entity_forms::{entity_of, perhaps_text};
-pub use lists::{list_of, parted, positional, references_value};
+pub use lists::{items_of, list_of, positional, references_value};
 pub use values::{name_value, number_value, text_value, truth_value};

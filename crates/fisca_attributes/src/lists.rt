@@ -1,22 +1,30 @@
 //! Lists of values, as they are written.
 
 ghost use Rattle.std.specs.Prelude.{◌≡◌, map};
-ghost use Rattle.fisca_expressions.specs.Views.{tree, argument_view, series_of};
+ghost use Rattle.fisca_expressions.specs.Views.{tree, argument_view, series_of, series_view};
 ghost use Rattle.fisca_nodes.specs.Outcomes.{Gives};
 ghost use Rattle.fisca_attributes.specs.Values as spec;
 
 use crate::values::text_value;
-use fisca_expressions::{Argument, Bracket, Expr, bare};
+use fisca_expressions::{Argument, Arguments, Bracket, Expr, bare};
 use fisca_tables::{Text, Texts};
 use fisca_tokens::Kind;
 use std::alloc::Global;
 
 /// What the commas part, whether one follows the last or not.
-pub fn parted<'e, 'a>(items: &'e [Argument<'a>], comma: bool) -> &'e [Argument<'a>]
+fn parted<'e, 'a>(items: &'e [Argument<'a>], comma: bool) -> &'e [Argument<'a>]
     ensures { map argument_view result.now ≡ spec.items (series_of comma (map argument_view items.now)) }
 {
     let _follows = comma;
     items
+}
+
+/// What stands between brackets, each apart.
+pub fn items_of<'e, 'a>(inside: &'e Arguments<'a>) -> &'e [Argument<'a>]
+    ensures { map argument_view result.now ≡ spec.items (series_view inside.now) }
+{
+    let (items, comma) = inside.parts();
+    parted(items, comma)
 }
 
 /// A value that stands without a label.
@@ -45,10 +53,16 @@ pub fn list_of<'e, 'a>(value: &'e Expr<'a>) -> Result<&'e [Argument<'a>], Kind>
     ensures { Gives (λ xs. map argument_view xs.now) (spec.listed (tree value.now)) result }
 {
     match bare(value) {
-        Expr::Bracketed(Bracket::Square, inside) => {
-            Ok(parted(inside.items.as_slice(), inside.comma))
-        }
-        _ => Err(Kind::BadAttribute),
+        Expr::Bracketed(Bracket::Square, inside) => { Ok(items_of(inside)) }
+        Expr::Bracketed(Bracket::Round | Bracket::Curly, _)
+        | Expr::Name(_)
+        | Expr::Number(_)
+        | Expr::Text(_)
+        | Expr::Attribute(_)
+        | Expr::Applied(_, _)
+        | Expr::Prefixed(_, _)
+        | Expr::Binary(_, _)
+        | Expr::Compare(_, _) => Err(Kind::BadAttribute),
     }
 }
 
@@ -74,9 +88,15 @@ pub fn references_value<'a>(alloc: Global, value: &Expr<'a>) -> Result<Texts<'a>
             Ok(Texts::new(texts))
         }
         Expr::Bracketed(Bracket::Square | Bracket::Round, inside) => {
-            let items = parted(inside.items.as_slice(), inside.comma);
-            Ok(Texts::new(each_text(alloc, items)?))
+            Ok(Texts::new(each_text(alloc, items_of(inside))?))
         }
-        _ => Err(Kind::BadAttribute),
+        Expr::Bracketed(Bracket::Curly, _)
+        | Expr::Name(_)
+        | Expr::Number(_)
+        | Expr::Attribute(_)
+        | Expr::Applied(_, _)
+        | Expr::Prefixed(_, _)
+        | Expr::Binary(_, _)
+        | Expr::Compare(_, _) => Err(Kind::BadAttribute),
     }
 }

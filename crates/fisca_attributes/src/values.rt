@@ -18,7 +18,14 @@ pub fn text_value<'a>(alloc: Global, value: &Expr<'a>) -> Result<Text<'a>, Kind>
 {
     match bare(value) {
         Expr::Text(source) => Ok(Text::owned(content(alloc, source.as_bytes())?)),
-        _ => Err(Kind::BadAttribute),
+        Expr::Name(_)
+        | Expr::Number(_)
+        | Expr::Bracketed(_, _)
+        | Expr::Attribute(_)
+        | Expr::Applied(_, _)
+        | Expr::Prefixed(_, _)
+        | Expr::Binary(_, _)
+        | Expr::Compare(_, _) => Err(Kind::BadAttribute),
     }
 }
 
@@ -41,7 +48,14 @@ pub fn truth_value(value: &Expr<'_>) -> Result<bool, Kind>
 {
     match bare(value) {
         Expr::Name(word) => truth_of(word.as_bytes()),
-        _ => Err(Kind::BadAttribute),
+        Expr::Number(_)
+        | Expr::Text(_)
+        | Expr::Bracketed(_, _)
+        | Expr::Attribute(_)
+        | Expr::Applied(_, _)
+        | Expr::Prefixed(_, _)
+        | Expr::Binary(_, _)
+        | Expr::Compare(_, _) => Err(Kind::BadAttribute),
     }
 }
 
@@ -57,7 +71,14 @@ pub fn name_value<'a>(value: &Expr<'a>) -> Result<Text<'a>, Kind>
                 Err(Kind::BadAttribute)
             }
         }
-        _ => Err(Kind::BadAttribute),
+        Expr::Number(_)
+        | Expr::Text(_)
+        | Expr::Bracketed(_, _)
+        | Expr::Attribute(_)
+        | Expr::Applied(_, _)
+        | Expr::Prefixed(_, _)
+        | Expr::Binary(_, _)
+        | Expr::Compare(_, _) => Err(Kind::BadAttribute),
     }
 }
 
@@ -76,7 +97,14 @@ fn unsigned_value(value: &Expr<'_>) -> Result<Fraction, Kind>
 {
     match bare(value) {
         Expr::Number(digits) => number_said(Fraction::from_literal(digits.as_bytes())),
-        _ => Err(Kind::BadAttribute),
+        Expr::Name(_)
+        | Expr::Text(_)
+        | Expr::Bracketed(_, _)
+        | Expr::Attribute(_)
+        | Expr::Applied(_, _)
+        | Expr::Prefixed(_, _)
+        | Expr::Binary(_, _)
+        | Expr::Compare(_, _) => Err(Kind::BadAttribute),
     }
 }
 
@@ -96,7 +124,13 @@ pub fn number_value(value: &Expr<'_>) -> Result<Fraction, Kind>
     match bare(value) {
         Expr::Number(digits) => number_said(Fraction::from_literal(digits.as_bytes())),
         Expr::Prefixed(prefix, operand) => with_prefix(*prefix, unsigned_value(&**operand)),
-        _ => Err(Kind::BadAttribute),
+        Expr::Name(_)
+        | Expr::Text(_)
+        | Expr::Bracketed(_, _)
+        | Expr::Attribute(_)
+        | Expr::Applied(_, _)
+        | Expr::Binary(_, _)
+        | Expr::Compare(_, _) => Err(Kind::BadAttribute),
     }
 }
 

@@ -157,7 +157,8 @@ fn expression(expr: &Expr<'_>) -> u64 {
 
 #[cycle(checksum)]
 fn arguments(inside: &Arguments<'_>) -> u64 {
-    arguments_of(&inside.items).wrapping_add(u64::from(inside.comma))
+    let (items, comma) = inside.parts();
+    arguments_of(items).wrapping_add(u64::from(comma))
 }
 
 #[cycle(checksum)]

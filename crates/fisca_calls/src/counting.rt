@@ -1,13 +1,13 @@
 //! Sizes of expressions, where the name of a local counts as the expression that the local stands for.
 ghost use Rattle.std.specs.Prelude.{◌≡◌, Bool, map, option_map, Some, None, if◌then◌else◌};
-ghost use Rattle.fisca_expressions.specs.Views.{argument_view, series_of, tree as tree_of};
+ghost use Rattle.fisca_expressions.specs.Views.{argument_view, series_of, series_view, tree as tree_of};
 ghost use Rattle.fisca_calls.specs.Counts.{size as size_view};
 ghost use Rattle.fisca_calls.specs.Locals.{sizes};
 ghost use Rattle.fisca_typing.specs.Sizes as spec;
 
 use crate::locals::Locals;
 use crate::size::{Size, above, beside, is_small, none, one};
-use fisca_expressions::{Argument, Expr};
+use fisca_expressions::{Argument, Arguments, Expr};
 
 /// The size of an expression, counted no further than one past the limits.
 #[cycle(counted)]
@@ -18,11 +18,11 @@ pub fn size_of(tree: &Expr, locals: &Locals) -> Size
     match tree {
         Expr::Name(name) => locals.size_named(name.as_bytes()),
         Expr::Number(_) | Expr::Text(_) => one(),
-        Expr::Bracketed(_, inside) => above(size_all(inside.items.as_slice(), locals)),
+        Expr::Bracketed(_, inside) => above(size_inside(inside, locals)),
         Expr::Attribute(access) => above(size_of(&access.front, locals)),
         Expr::Applied(_, application) => {
             let first = size_of(&application.front, locals);
-            above(beside(first, size_all(application.behind.items.as_slice(), locals)))
+            above(beside(first, size_inside(&application.behind, locals)))
         }
         Expr::Prefixed(_, inside) => above(size_of(inside, locals)),
         Expr::Binary(_, operands) => {
@@ -37,6 +37,17 @@ pub fn size_of(tree: &Expr, locals: &Locals) -> Size
 }
 
 /// The size of what stands between brackets.
+#[cycle(counted)]
+fn size_inside(inside: &Arguments, locals: &Locals) -> Size
+    ensures { size_view result ≡ spec.capped (spec.size_all (sizes locals.now) (series_view inside.now)) }
+{
+    match inside {
+        Arguments::One(argument) => size_in(argument, locals),
+        Arguments::Several(items, _) => size_all(items.as_slice(), locals),
+    }
+}
+
+/// The size of some arguments.
 #[cycle(counted)]
 fn size_all(items: &[Argument], locals: &Locals) -> Size
     ensures { (comma : Bool) → size_view result ≡ spec.capped (spec.size_all (sizes locals.now) (series_of comma (map argument_view items.now))) }

@@ -5,7 +5,8 @@ use Rattle.std.specs.declared.alloc.Global.{Global}
 use Rattle.fisca_expressions.specs.Tree.{Series, Argument, nothing, last, next, height_all, height_of}
 use Rattle.fisca_expressions.specs.Views.{argument_view, series_view, in_front, series_of, before}
 use Rattle.fisca_expressions.specs.declared.tree.Argument.{Argument as Given}
-use Rattle.fisca_expressions.specs.declared.tree.Arguments.{roll-Arguments, the_lemmas as all_lemmas}
+use Rattle.fisca_expressions.specs.declared.tree.Arguments.{the_lemmas as all_lemmas}
+use Rattle.fisca_expressions.specs.declared.tree.Arguments.TheVariants as arguments
 
 in_front_more : (xs : List Given) (a : Given) (more : Series) → in_front (map argument_view (xs ++ a ∷ [])) more ≡ in_front (map argument_view xs) (next (argument_view a) more)
 in_front_more [] a more = refl
@@ -28,19 +29,30 @@ heights : (xs : List Argument) (more : Series) → height_all (in_front xs more)
 heights [] more = omega arith
 heights (a ∷ xs) more = omega (arith, heights xs more)
 
-seen : (v : Vec Given Global) (comma : Bool) → series_view (roll-Arguments (record { items = v; comma = comma })) ≡ series_of comma (map argument_view v.items)
+seen : (v : Vec Given Global) (comma : Bool) → series_view (arguments.Several v comma) ≡ series_of comma (map argument_view v.items)
 seen v comma = search (rules, all_lemmas)
 
-pub commas_view : (v : Vec Given Global) → series_view (roll-Arguments (record { items = v; comma = true })) ≡ before v.items nothing
+pub one_view : (old : List Given) (a : Given) → old ≡ [] → series_view (arguments.One a) ≡ before old (last (argument_view a))
+one_view old a e =
+    let one : series_view (arguments.One a) ≡ last (argument_view a) = search (rules, all_lemmas) in
+    one ∙ ap (λ xs. before xs (last (argument_view a))) (sym e)
+
+pub one_height : (old : List Given) (a : Given) (h k m : ℕ) → old ≡ [] → h ≡ height_all (before old nothing) → k ≡ height_of (argument_view a) → m ≡ max h k → m ≡ height_all (series_view (arguments.One a))
+one_height old a h k m e p q r =
+    let none : h ≡ 0 = p ∙ ap (λ xs. height_all (before xs nothing)) e in
+    let all : max h k ≡ height_all (before old (last (argument_view a))) = omega (arith, none, q, ap (λ xs. height_all (before xs (last (argument_view a)))) e) in
+    r ∙ all ∙ ap height_all (sym (one_view old a e))
+
+pub commas_view : (v : Vec Given Global) → series_view (arguments.Several v true) ≡ before v.items nothing
 commas_view v = seen v true ∙ with_comma (map argument_view v.items)
 
-pub commas_height : (v : Vec Given Global) (h : ℕ) → h ≡ height_all (before v.items nothing) → h ≡ height_all (series_view (roll-Arguments (record { items = v; comma = true })))
+pub commas_height : (v : Vec Given Global) (h : ℕ) → h ≡ height_all (before v.items nothing) → h ≡ height_all (series_view (arguments.Several v true))
 commas_height v h e = e ∙ ap height_all (sym (commas_view v))
 
-pub last_view : (v : Vec Given Global) (old : List Given) (a : Given) → v.items ≡ old ++ a ∷ [] → series_view (roll-Arguments (record { items = v; comma = false })) ≡ before old (last (argument_view a))
+pub last_view : (v : Vec Given Global) (old : List Given) (a : Given) → v.items ≡ old ++ a ∷ [] → series_view (arguments.Several v false) ≡ before old (last (argument_view a))
 last_view v old a e = seen v false ∙ ap (λ xs. series_of false (map argument_view xs)) e ∙ without_comma old a
 
-pub last_height : (v : Vec Given Global) (old : List Given) (a : Given) (h k m : ℕ) → v.items ≡ old ++ a ∷ [] → h ≡ height_all (before old nothing) → k ≡ height_of (argument_view a) → m ≡ max h k → m ≡ height_all (series_view (roll-Arguments (record { items = v; comma = false })))
+pub last_height : (v : Vec Given Global) (old : List Given) (a : Given) (h k m : ℕ) → v.items ≡ old ++ a ∷ [] → h ≡ height_all (before old nothing) → k ≡ height_of (argument_view a) → m ≡ max h k → m ≡ height_all (series_view (arguments.Several v false))
 last_height v old a h k m e p q r =
     let whole : height_all (before old (last (argument_view a))) ≡ max (height_all (before old nothing)) (height_of (argument_view a)) = heights (map argument_view old) (last (argument_view a)) in
     let all : max h k ≡ height_all (before old (last (argument_view a))) = omega (arith, whole, p, q) in

@@ -38,7 +38,7 @@ pub record Paired : Type 0 where
   pub left : Tree
   pub right : Tree
 
-abbrev pub expr_step : Expr-F Argument Tree Accessed Called Series Paired → Tree
+abbrev pub expr_step : Expr-F Argument Series Tree Accessed Called Paired → Tree
 expr_step (Expr-F.Name t) = name t
 expr_step (Expr-F.Number t) = number t
 expr_step (Expr-F.Text t) = text t
@@ -49,31 +49,32 @@ expr_step (Expr-F.Prefixed p e) = prefixed p e.value
 expr_step (Expr-F.Binary o x) = binary o x.value.left x.value.right
 expr_step (Expr-F.Compare o x) = compare o x.value.left x.value.right
 
-abbrev pub access_step : Access-F Argument Tree Accessed Called Series Paired → Accessed
+abbrev pub access_step : Access-F Argument Series Tree Accessed Called Paired → Accessed
 access_step x = record { front = x.front; name = x.name }
 
-abbrev pub application_step : Application-F Argument Tree Accessed Called Series Paired → Called
+abbrev pub application_step : Application-F Argument Series Tree Accessed Called Paired → Called
 application_step x = record { front = x.front; behind = x.behind }
 
-abbrev pub arguments_step : Arguments-F Argument Tree Accessed Called Series Paired → Series
-arguments_step xs = series_of xs.comma xs.items.items
+abbrev pub arguments_step : Arguments-F Argument Series Tree Accessed Called Paired → Series
+arguments_step (Arguments-F.One a) = last a
+arguments_step (Arguments-F.Several xs comma) = series_of comma xs.items
 
-abbrev pub operands_step : Operands-F Argument Tree Accessed Called Series Paired → Paired
+abbrev pub operands_step : Operands-F Argument Series Tree Accessed Called Paired → Paired
 operands_step x = record { left = x.left; right = x.right }
 
-abbrev pub argument_step : Argument-F Argument Tree Accessed Called Series Paired → Argument
+abbrev pub argument_step : Argument-F Argument Series Tree Accessed Called Paired → Argument
 argument_step (Argument-F.Positional e) = positional e
 argument_step (Argument-F.Keyword k e) = keyword k e.value
 argument_step (Argument-F.Entry k e) = entry k.value e.value
 
 abbrev pub tree : Expr → Tree
-tree = fold-Expr Argument Tree Accessed Called Series Paired argument_step expr_step access_step application_step arguments_step operands_step
+tree = fold-Expr Argument Series Tree Accessed Called Paired argument_step arguments_step expr_step access_step application_step operands_step
 
 abbrev pub series_view : Arguments → Series
-series_view = fold-Arguments Argument Tree Accessed Called Series Paired argument_step expr_step access_step application_step arguments_step operands_step
+series_view = fold-Arguments Argument Series Tree Accessed Called Paired argument_step arguments_step expr_step access_step application_step operands_step
 
 abbrev pub argument_view : Given → Argument
-argument_view = fold-Argument Argument Tree Accessed Called Series Paired argument_step expr_step access_step application_step arguments_step operands_step
+argument_view = fold-Argument Argument Series Tree Accessed Called Paired argument_step arguments_step expr_step access_step application_step operands_step
 
 -- arguments, each with a comma behind it, and then more
 abbrev pub before : List Given → Series → Series

@@ -1,6 +1,7 @@
 //! Expressions of modules: a list of tokens is read as the one tree that is spelled so.
 #![tactic(auto)]
 
+mod arguments;
 mod cursor;
 mod groups;
 mod law;

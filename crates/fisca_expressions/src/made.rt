@@ -248,14 +248,13 @@ pub(crate) fn all_with_commas<'a>(items: Vec<Argument<'a>>, height: usize) -> Me
     ensures low { result.height ≡ height }
 {
     MeasuredArguments {
-        arguments: Arguments { items, comma: true },
+        arguments: Arguments::Several(items, true),
         height,
     }
 }
 
-/// These arguments, each with a comma, and a last one. A growth for it alone makes room for no more: most brackets hold one
-/// argument.
-#[tactic(auto, using(crate::proofs::Pushed::last_view, crate::proofs::Pushed::last_height))]
+/// These arguments, each with a comma, and a last one. A growth for it alone makes room for no more.
+#[tactic(auto, using(crate::proofs::Pushed::one_view, crate::proofs::Pushed::one_height, crate::proofs::Pushed::last_view, crate::proofs::Pushed::last_height))]
 pub(crate) fn all_with_last<'a>(
     mut items: Vec<Argument<'a>>,
     height: usize,
@@ -266,13 +265,16 @@ pub(crate) fn all_with_last<'a>(
     ensures low { IfOk result (λ m. m.height ≡ max height argument.entry.height) }
 {
     let height = height.max(argument.height);
+    if items.is_empty() {
+        return Ok(MeasuredArguments {
+            arguments: Arguments::One(argument.argument),
+            height,
+        });
+    }
     items.reserve_exact(1)?;
     items.push(argument.argument)?;
     Ok(MeasuredArguments {
-        arguments: Arguments {
-            items,
-            comma: false,
-        },
+        arguments: Arguments::Several(items, false),
         height,
     })
 }

@@ -133,11 +133,11 @@ pub struct Operands<'a> {
 /// What stands between brackets: each of the first is followed by a comma.
 #[cycle(tree)]
 #[derive(Drop)]
-pub struct Arguments<'a> {
-    /// What the commas part.
-    pub items: Vec<Argument<'a>>,
-    /// Whether a comma follows the last, if there is one.
-    pub comma: bool,
+pub enum Arguments<'a> {
+    /// One without a comma, as most brackets have.
+    One(Argument<'a>),
+    /// What the commas part, and whether one follows the last, if there is one.
+    Several(Vec<Argument<'a>>, bool),
 }
 
 /// One of what stands between brackets.

@@ -1,7 +1,7 @@
 //! What expressions stand for: functions that call one another, each of which only matches and calls.
 ghost use Rattle.std.specs.Prelude.{◌≡◌, ◌∷◌, [], Bool, IfOk, Result, map};
 ghost use Rattle.fisca_calls.specs.Arguments.{all_given as given_list, given as given_view};
-ghost use Rattle.fisca_expressions.specs.Views.{argument_view, series_of, tree as tree_of};
+ghost use Rattle.fisca_expressions.specs.Views.{argument_view, series_of, series_view, tree as tree_of};
 ghost use Rattle.fisca_formula.specs.Views.{names as names_of};
 ghost use Rattle.fisca_nodes.specs.Operations.{by};
 ghost use Rattle.fisca_nodes.specs.Outcomes.{Gives};
@@ -18,7 +18,7 @@ use crate::brackets::{in_brackets, with_suffix};
 use crate::names::named;
 use crate::scope::Names;
 use fisca_calls::Given;
-use fisca_expressions::{Argument, Bracket, Expr, Prefix, Suffix};
+use fisca_expressions::{Argument, Arguments, Bracket, Expr, Prefix, Suffix};
 use fisca_nodes::{Dyadic, Thing, operated, prefixed_value};
 use fisca_tokens::Kind;
 use std::alloc::{AllocError, Global};
@@ -33,16 +33,13 @@ pub fn thing_of<'a, 't>(alloc: Global, tree: &'t Expr<'a>, names: &Names) -> Res
         Expr::Name(name) => named(alloc, names, name.as_bytes()),
         Expr::Number(digits) => number_thing(digits.as_bytes()),
         Expr::Text(text) => text_thing(alloc, text.as_bytes()),
-        Expr::Bracketed(bracket, inside) => {
-            bracketed(alloc, names, *bracket, inside.items.as_slice())
-        }
+        Expr::Bracketed(bracket, inside) => bracketed(alloc, names, *bracket, inside),
         Expr::Attribute(access) => {
             attribute(alloc, names, &access.front, access.name.as_bytes())
         }
         Expr::Applied(suffix, application) => {
             let before = thing_of(alloc, &application.front, names);
-            let behind = application.behind.items.as_slice();
-            applied(alloc, names, *suffix, before, behind)
+            applied(alloc, names, *suffix, before, &application.behind)
         }
         Expr::Prefixed(prefix, operand) => prefixed(alloc, names, *prefix, operand),
         Expr::Binary(operator, operands) => {
@@ -65,14 +62,14 @@ fn bracketed<'a, 't>(
     alloc: Global,
     names: &Names,
     bracket: Bracket,
-    inside: &'t [Argument<'a>],
+    inside: &'t Arguments<'a>,
 ) -> Result<Thing, Kind>
-    ensures { (comma : Bool) → Gives thing (spec.in_brackets bracket (spec.all_given (names_of names.now) (series_of comma (map argument_view inside.now)))) result }
+    ensures { Gives thing (spec.in_brackets bracket (spec.all_given (names_of names.now) (series_view inside.now))) result }
 {
     match (bracket, inside) {
-        (Bracket::Round, [only]) => parenthesised(alloc, names, only),
+        (Bracket::Round, Arguments::One(only)) => parenthesised(alloc, names, only),
         (Bracket::Round | Bracket::Square | Bracket::Curly, _) => {
-            in_brackets(alloc, bracket, all_given(alloc, inside, names)?)
+            in_brackets(alloc, bracket, given_inside(alloc, names, inside)?)
         }
     }
 }
@@ -115,12 +112,12 @@ fn applied<'a, 't>(
     names: &Names,
     suffix: Suffix,
     found: Result<Thing, Kind>,
-    behind: &'t [Argument<'a>],
+    behind: &'t Arguments<'a>,
 ) -> Result<Thing, Kind>
-    ensures { (comma : Bool) (told : Result things.Thing Kind) → Gives thing told found → Gives thing (and_then told (λ before. spec.with_suffix (names_of names.now) suffix before (spec.all_given (names_of names.now) (series_of comma (map argument_view behind.now))))) result }
+    ensures { (told : Result things.Thing Kind) → Gives thing told found → Gives thing (and_then told (λ before. spec.with_suffix (names_of names.now) suffix before (spec.all_given (names_of names.now) (series_view behind.now)))) result }
 {
     let before = found?;
-    let arguments = all_given(alloc, behind, names)?;
+    let arguments = given_inside(alloc, names, behind)?;
     with_suffix(alloc, names, suffix, before, arguments)
 }
 
@@ -156,6 +153,25 @@ fn of_two<'a, 't>(
 }
 
 /// What stands between brackets, each with what it stands for or its first fault.
+#[cycle(typing)]
+fn given_inside<'a, 't>(
+    alloc: Global,
+    names: &Names,
+    inside: &'t Arguments<'a>,
+) -> Result<Vec<Given<'a, 't>>, AllocError>
+    ensures { IfOk result (λ gs. given_list gs.items ≡ spec.all_given (names_of names.now) (series_view inside.now)) }
+{
+    match inside {
+        Arguments::One(argument) => {
+            let mut found = Vec::with_capacity(alloc, 1)?;
+            found.push(given_of(alloc, argument, names)?)?;
+            Ok(found)
+        }
+        Arguments::Several(items, _) => all_given(alloc, items.as_slice(), names),
+    }
+}
+
+/// Some arguments, each with what it stands for or its first fault.
 #[cycle(typing)]
 #[tactic(auto, using(crate::proofs::Elements::series_given))]
 fn all_given<'a, 't>(

@@ -76,17 +76,23 @@ fn show(shown: &mut Written, expr: &Expr<'_>) {
 
 #[cycle(show)]
 fn show_arguments(shown: &mut Written, inside: &Arguments<'_>) {
+    match inside {
+        Arguments::One(argument) => show_argument(shown, argument),
+        Arguments::Several(items, comma) => {
+            show_each(shown, items.as_slice());
+            shown.push(if *comma && !items.is_empty() { "," } else { "" });
+        }
+    }
+}
+
+#[cycle(show)]
+fn show_each(shown: &mut Written, items: &[Argument<'_>]) {
     let mut is_first = true;
-    for argument in &inside.items {
+    for argument in items {
         shown.push(if is_first { "" } else { " " });
         show_argument(shown, argument);
         is_first = false;
     }
-    shown.push(if inside.comma && !inside.items.is_empty() {
-        ","
-    } else {
-        ""
-    });
 }
 
 #[cycle(show)]

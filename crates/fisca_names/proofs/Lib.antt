@@ -1,6 +1,5 @@
 pub mod Clash
 pub mod Confused
 pub mod Meet
-pub mod Pass
 pub mod Repeated
 pub mod Some

@@ -1,5 +1,5 @@
 -- What the tables of the first pass hold.
-use Rattle.std.specs.Prelude.{◌≡◌, ◌≢◌, ℕ, List, [], ◌∷◌, ◌++◌, map, Bool, false, ◌&&◌, ◌||◌, Option, Some, None, Result, Ok, Err, codes}
+use Rattle.std.specs.Prelude.{◌≡◌, ℕ, List, [], ◌∷◌, ◌++◌, map, Bool, false, ◌&&◌, ◌||◌, Option, Some, None, codes}
 use Rattle.std.specs.List.{list_any}
 use Rattle.std.specs.Result.{result_ok}
 use Rattle.std.specs.Str.{bytes_eq}
@@ -9,11 +9,8 @@ use Rattle.fisca_attributes.specs.EntityForms.{entity_of}
 use Rattle.fisca_attributes.specs.Values.{name_value, needed}
 use Rattle.fisca_syntax.specs.Modules.{Item, Statement, entity, entities, choices, variable}
 use Rattle.fisca_tables.specs.declared.role.Role.{Role}
-use Rattle.fisca_tokens.specs.declared.fault.Kind.TheVariants.{Memory}
 use Rattle.fisca_names.specs.Clashes.{among, bears, clashes, is_of, listed, names_of, repeat, roles_in, second_name}
-use Rattle.fisca_names.specs.Names.{Placed, names_from, placed_in}
 use Rattle.fisca_names.specs.Titles.{Adds}
-use Rattle.fisca_names.specs.declared.fault.BuildFault.{BuildFault}
 use Rattle.fisca_names.specs.declared.seen.Seen.{Seen}
 use Rattle.fisca_names.specs.declared.within.Within.{Within}
 
@@ -90,11 +87,3 @@ pub record Notes (old new : Seen) (s : Statement) (has_clash : Bool) : Type 0 wh
 pub record TellsOne (old new : Seen) (s : Statement) (line : Option ℕ) : Type 0 where
   pub told : (earlier : List Statement) → Holds old earlier → line ≡ second_name earlier s
   pub noted : line ≡ None → (earlier : List Statement) → Holds old earlier → Holds new (earlier ++ s ∷ [])
-
--- the statements of a module were noted, and what comes behind them decides; or their first fault was told
-abbrev pub Passes : Seen → Seen → ℕ → List Statement → Result (Unit {0}) BuildFault → Type 0
-Passes old new place ss (Ok u) =
-    (earlier : List Statement) (more : List Placed) → Holds old earlier
-    → (names_from earlier (placed_in place ss ++ more) ≡ names_from (earlier ++ ss) more) × Holds new (earlier ++ ss)
-Passes old new place ss (Err f) =
-    (earlier : List Statement) (more : List Placed) → Holds old earlier → f.kind ≢ Memory → names_from earlier (placed_in place ss ++ more) ≡ Err f

@@ -1,8 +1,7 @@
-//! The first fault of a rule set, and its first pass: no name of the modules comes a second time.
+//! The first fault of a rule set, and what its first pass notes: no name of the modules comes a second time.
 #![tactic(auto)]
 
 mod built;
-mod differ;
 mod fault;
 mod meets;
 mod members;
@@ -11,5 +10,5 @@ mod seen;
 mod titles;
 mod within;
 
-pub use differ::names_differ;
 pub use fault::BuildFault;
+pub use seen::Seen;

@@ -17,9 +17,14 @@ use fisca_tables::Text;
 use indexmap::IndexSet;
 use std::alloc::{AllocError, Global};
 
-/// The names of the statements so far.
+/// The names of the statements so far, for the first pass over the modules of a rule set.
+///
+/// All names of variables and Enums and all constants, keys and plurals of entities differ; so do the keys and plurals of the
+/// roles and subroles of an entity, the keys even with their case left aside, but that a plural may be its own key; so do the
+/// keys and plurals of roles from the variables of their entity; and so do the members of an Enum. What declares an entity and
+/// cannot be read counts by its constant alone. (This project's own rule.)
 #[derive(Drop)]
-pub(crate) struct Seen<'a> {
+pub struct Seen<'a> {
     /// Names of variables and Enums, and constants, keys and plurals of entities.
     names: IndexSet<Text<'a>>,
     /// Keys and plurals of roles.
@@ -47,7 +52,7 @@ fn line_if(clashes: bool, line: usize) -> Option<usize>
 
 impl<'a> Seen<'a> {
     /// None.
-    pub(crate) fn new(alloc: Global) -> Seen<'a>
+    pub fn new(alloc: Global) -> Seen<'a>
         ensures { Holds result [] }
     {
         Seen {
@@ -118,8 +123,9 @@ impl<'a> Seen<'a> {
         repeated_member(alloc, class.members.as_slice())
     }
 
-    /// Notes a statement: the line at which a name comes a second time.
-    pub(crate) fn second_name(
+    /// Notes a statement, or tells the line, of it or of the member of an Enum, at which a name comes a second time. Memory may
+    /// run out.
+    pub fn second_name(
         &mut self,
         alloc: Global,
         statement: &Statement<'a>,

@@ -1,14 +1,14 @@
 //! Periods and parts of their start.
 ghost use Rattle.std.specs.Prelude.{◌≡◌, map, option_map};
 ghost use Rattle.fisca_num.specs.Literal.{number_of_literal};
-ghost use Rattle.fisca_expressions.specs.Views.{argument_view, series_of, tree as tree_of};
+ghost use Rattle.fisca_expressions.specs.Views.{argument_view, series_of, series_view, tree as tree_of};
 ghost use Rattle.fisca_nodes.specs.Outcomes.{Gives};
 ghost use Rattle.fisca_nodes.specs.Views.{thing};
 ghost use Rattle.fisca_typing.specs.Periods as spec;
 
 use crate::made;
 use crate::thing::{Thing, Typed};
-use fisca_expressions::{Argument, Bracket, Expr, Prefix};
+use fisca_expressions::{Argument, Arguments, Bracket, Expr, Prefix};
 use fisca_num::Fraction;
 use fisca_time::Unit;
 use fisca_tokens::Kind;
@@ -95,9 +95,7 @@ fn unsigned_whole(tree: &Expr) -> Option<Fraction>
 {
     match tree {
         Expr::Number(digits) => whole_of(digits.as_bytes()),
-        Expr::Bracketed(bracket, inside) => {
-            unsigned_alone(inside.items.as_slice(), *bracket, inside.comma)
-        }
+        Expr::Bracketed(bracket, inside) => unsigned_inside(inside, *bracket),
         Expr::Name(_)
         | Expr::Text(_)
         | Expr::Attribute(..)
@@ -109,6 +107,17 @@ fn unsigned_whole(tree: &Expr) -> Option<Fraction>
 }
 
 /// A whole number alone in parentheses.
+#[cycle(unsigned)]
+fn unsigned_inside(inside: &Arguments, bracket: Bracket) -> Option<Fraction>
+    ensures { option_map (λ n. n.numerator) result ≡ spec.unsigned_alone bracket (series_view inside.now) }
+{
+    match inside {
+        Arguments::One(argument) => unsigned_in(argument, bracket),
+        Arguments::Several(items, comma) => unsigned_alone(items.as_slice(), bracket, *comma),
+    }
+}
+
+/// The same among some arguments.
 #[cycle(unsigned)]
 fn unsigned_alone(items: &[Argument], bracket: Bracket, comma: bool) -> Option<Fraction>
     ensures { option_map (λ n. n.numerator) result ≡ spec.unsigned_alone bracket (series_of comma (map argument_view items.now)) }
@@ -143,9 +152,7 @@ fn whole(tree: &Expr) -> Option<Fraction>
 {
     match tree {
         Expr::Number(digits) => whole_of(digits.as_bytes()),
-        Expr::Bracketed(bracket, inside) => {
-            whole_alone(inside.items.as_slice(), *bracket, inside.comma)
-        }
+        Expr::Bracketed(bracket, inside) => whole_inside(inside, *bracket),
         Expr::Prefixed(Prefix::Minus, inside) => Some(unsigned_whole(inside)?.neg()),
         Expr::Prefixed(Prefix::Plus | Prefix::Not, _)
         | Expr::Name(_)
@@ -158,6 +165,17 @@ fn whole(tree: &Expr) -> Option<Fraction>
 }
 
 /// The same alone in parentheses.
+#[cycle(whole)]
+fn whole_inside(inside: &Arguments, bracket: Bracket) -> Option<Fraction>
+    ensures { option_map (λ n. n.numerator) result ≡ spec.whole_alone bracket (series_view inside.now) }
+{
+    match inside {
+        Arguments::One(argument) => whole_in(argument, bracket),
+        Arguments::Several(items, comma) => whole_alone(items.as_slice(), bracket, *comma),
+    }
+}
+
+/// The same among some arguments.
 #[cycle(whole)]
 fn whole_alone(items: &[Argument], bracket: Bracket, comma: bool) -> Option<Fraction>
     ensures { option_map (λ n. n.numerator) result ≡ spec.whole_alone bracket (series_of comma (map argument_view items.now)) }

@@ -1,8 +1,8 @@
 -- A rule set, pass after pass.
 use Rattle.std.proofs.Common.{◌≡◌, ◌∙◌, sym, ap, List, [], ◌∷◌, map, refl}
 use Rattle.std.specs.Prelude.{Ok, Err}
-use Rattle.fisca_rules.specs.Build.{Whole, second_pass, tables_of}
-use Rattle.fisca_names.specs.Names.{names_from, placed_from}
+use Rattle.fisca_rules.specs.Build.{Whole, declared_by, tables_of}
+use Rattle.fisca_names.specs.Names.{placed_from}
 use Rattle.fisca_names.specs.declared.fault.BuildFault.{BuildFault}
 use Rattle.fisca_params.specs.Results.{and_then}
 use Rattle.fisca_params.specs.Tree.{TreeNode}
@@ -34,31 +34,25 @@ tables_known t = ap (λ vs. known_with t vs) (sym (variables_known t.variables))
 
 -- Pass after pass
 
-pub names_fault : (nodes : List TreeNode) (ms : List (List Statement)) (fault : BuildFault) → names_from [] (placed_from 0 ms) ≡ Err fault → rules_of nodes ms ≡ Err fault
+pub tables_fault : (nodes : List TreeNode) (ms : List (List Statement)) (fault : BuildFault) → declared_by (placed_from 0 ms) ≡ Err fault → rules_of nodes ms ≡ Err fault
 unfolding rules_of tables_of
-names_fault nodes ms fault n = ap (λ o. and_then (and_then o (λ _. second_pass (placed_from 0 ms))) (with_formulas nodes)) n
+tables_fault nodes ms fault d = ap (λ o. and_then o (with_formulas nodes)) d
 
-pub tables_fault : (nodes : List TreeNode) (ms : List (List Statement)) (fault : BuildFault) → names_from [] (placed_from 0 ms) ≡ Ok tt → second_pass (placed_from 0 ms) ≡ Err fault → rules_of nodes ms ≡ Err fault
+found : (nodes : List TreeNode) (ms : List (List Statement)) (w : Whole) → declared_by (placed_from 0 ms) ≡ Ok w → rules_of nodes ms ≡ with_formulas nodes w
 unfolding rules_of tables_of
-tables_fault nodes ms fault n s =
-    ap (λ o. and_then (and_then o (λ _. second_pass (placed_from 0 ms))) (with_formulas nodes)) n ∙ ap (λ o. and_then o (with_formulas nodes)) s
-
-found : (nodes : List TreeNode) (ms : List (List Statement)) (w : Whole) → names_from [] (placed_from 0 ms) ≡ Ok tt → second_pass (placed_from 0 ms) ≡ Ok w → rules_of nodes ms ≡ with_formulas nodes w
-unfolding rules_of tables_of
-found nodes ms w n s =
-    ap (λ o. and_then (and_then o (λ _. second_pass (placed_from 0 ms))) (with_formulas nodes)) n ∙ ap (λ o. and_then o (with_formulas nodes)) s
+found nodes ms w d = ap (λ o. and_then o (with_formulas nodes)) d
 
 pub formulas_fault : (ms : List (List Statement)) (t : Tables) (fault : BuildFault) →
-    names_from [] (placed_from 0 ms) ≡ Ok tt → second_pass (placed_from 0 ms) ≡ Ok (whole_of t) → all_of (formulas_of (tables.tables t)) (map written t.variables) ≡ Err fault → rules_of t.parameters ms ≡ Err fault
-formulas_fault ms t fault n s f =
-    found t.parameters ms (whole_of t) n s
+    declared_by (placed_from 0 ms) ≡ Ok (whole_of t) → all_of (formulas_of (tables.tables t)) (map written t.variables) ≡ Err fault → rules_of t.parameters ms ≡ Err fault
+formulas_fault ms t fault d f =
+    found t.parameters ms (whole_of t) d
     ∙ ap (λ o. and_then o (λ fs. Ok (record { entities = t.entities; enums = t.enums; variables = map written t.variables; parameters = t.parameters; formulas = fs })))
     (ap (λ c. all_of (formulas_of c) (map written t.variables)) (sym (tables_known t)) ∙ f)
 
 pub built : (ms : List (List Statement)) (t : Tables) (fs : List (List Dated)) →
-    names_from [] (placed_from 0 ms) ≡ Ok tt → second_pass (placed_from 0 ms) ≡ Ok (whole_of t) → all_of (formulas_of (tables.tables t)) (map written t.variables) ≡ Ok fs →
+    declared_by (placed_from 0 ms) ≡ Ok (whole_of t) → all_of (formulas_of (tables.tables t)) (map written t.variables) ≡ Ok fs →
     rules_of t.parameters ms ≡ Ok (record { entities = t.entities; enums = t.enums; variables = map written t.variables; parameters = t.parameters; formulas = fs })
-built ms t fs n s f =
-    found t.parameters ms (whole_of t) n s
+built ms t fs d f =
+    found t.parameters ms (whole_of t) d
     ∙ ap (λ o. and_then o (λ gs. Ok (record { entities = t.entities; enums = t.enums; variables = map written t.variables; parameters = t.parameters; formulas = gs })))
     (ap (λ c. all_of (formulas_of c) (map written t.variables)) (sym (tables_known t)) ∙ f)

@@ -3,10 +3,11 @@ mod Built
 mod Defaults
 pub mod Each
 pub mod Fitting
+mod Lined
 mod Members
 mod Named
-pub mod Passes
 mod Safe
 pub mod Scans
+pub mod Walk
 pub mod Worked
 mod WorkedRules

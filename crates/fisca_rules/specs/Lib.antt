@@ -6,3 +6,4 @@ pub mod Rules
 pub mod Safety
 pub mod Scans
 pub mod Views
+pub mod Walk

@@ -8,7 +8,7 @@ ghost use Rattle.fisca_nodes.specs.Outcomes.{Gives};
 ghost use Rattle.fisca_syntax.specs.Views.{assigned};
 ghost use Rattle.fisca_rules.specs.Build as spec;
 
-use fisca_attributes::parted;
+use fisca_attributes::items_of;
 use fisca_expressions::{Argument, Expr, bare};
 use fisca_syntax::Assignment;
 use fisca_tokens::Kind;
@@ -27,7 +27,14 @@ fn is_entity(declared: &Declared<'_>, value: &Expr<'_>) -> bool
 {
     match bare(value) {
         Expr::Name(name) => is_constant(declared, name.as_bytes()),
-        _ => false,
+        Expr::Number(_)
+        | Expr::Text(_)
+        | Expr::Bracketed(_, _)
+        | Expr::Attribute(_)
+        | Expr::Applied(_, _)
+        | Expr::Prefixed(_, _)
+        | Expr::Binary(_, _)
+        | Expr::Compare(_, _) => false,
     }
 }
 
@@ -58,8 +65,15 @@ fn listed_in<'e, 'a>(value: &'e Expr<'a>) -> &'e [Argument<'a>]
     ensures { map argument_view result.now ≡ spec.listed_in (tree value.now) }
 {
     match bare(value) {
-        Expr::Bracketed(_, inside) => parted(inside.items.as_slice(), inside.comma),
-        _ => &[],
+        Expr::Bracketed(_, inside) => items_of(inside),
+        Expr::Name(_)
+        | Expr::Number(_)
+        | Expr::Text(_)
+        | Expr::Attribute(_)
+        | Expr::Applied(_, _)
+        | Expr::Prefixed(_, _)
+        | Expr::Binary(_, _)
+        | Expr::Compare(_, _) => &[],
     }
 }
 

@@ -10,7 +10,7 @@ ghost use Rattle.fisca_variables.specs.VariableForms.{written};
 use crate::dated::Dated;
 use crate::tables_found;
 use crate::typed::formulas_of_tables;
-use fisca_names::{BuildFault, names_differ};
+use fisca_names::BuildFault;
 use fisca_params::ParamTree;
 use fisca_syntax::Module;
 use fisca_tables::{Choices, Entity, Tables, Variable};
@@ -45,7 +45,6 @@ impl<'a> RuleSet<'a> {
     ) -> Result<RuleSet<'a>, BuildFault>
         ensures { Tells rule_set (spec.rules_of parameters (map statements modules.entry.items)) result }
     {
-        names_differ(alloc, modules.as_slice())?;
         let (entities, enums, variables) = tables_found(alloc, modules)?;
         let tables = Tables {
             entities,

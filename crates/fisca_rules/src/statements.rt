@@ -1,11 +1,12 @@
 //! Statements from top to bottom, module by module.
 
-ghost use Rattle.std.specs.Prelude.{◌≡◌, map};
-ghost use Rattle.fisca_names.specs.Names.{placed_from, told_at};
+ghost use Rattle.std.specs.Prelude.{List, [], ◌∷◌, ◌++◌, Result, map};
+ghost use Rattle.fisca_names.specs.Names.{Placed, names_from, placed_from, placed_in, told_at};
+ghost use Rattle.fisca_names.specs.declared.fault.BuildFault.{BuildFault};
 ghost use Rattle.fisca_syntax.specs.Views.{assigned, item, statement as statement_view, statements as statements_view};
 ghost use Rattle.fisca_params.specs.Results.{and_then};
 ghost use Rattle.fisca_rules.specs.Build as spec;
-ghost use Rattle.fisca_rules.specs.Passes as passes;
+ghost use Rattle.fisca_rules.specs.Walk as walk;
 ghost use Rattle.fisca_rules.specs.FoundViews.{found as found_view};
 ghost use Rattle.fisca_names.specs.Outcomes.{Tells};
 
@@ -15,8 +16,9 @@ use crate::faults::fault_at;
 use crate::found::Found;
 use crate::lines::variable_in;
 use crate::persons::{entity_found, nothing_found, with_person};
-use fisca_names::BuildFault;
+use fisca_names::{BuildFault, Seen};
 use fisca_syntax::{Assignment, EnumClass, Module, Statement, VariableClass};
+use fisca_tokens::Kind;
 use fisca_variables::Declared;
 use std::alloc::Global;
 
@@ -93,60 +95,95 @@ fn statement_found<'a>(
     }
 }
 
-/// What is found behind a module, or its first fault.
-fn module_found<'a>(
+/// What is found behind a statement, where what was found before it has no fault.
+fn found_behind<'a>(
     alloc: Global,
     declared: &Declared<'_>,
-    found: Found<'a>,
+    found: Result<Found<'a>, BuildFault>,
+    place: usize,
+    statement: Statement<'a>,
+) -> Result<Found<'a>, BuildFault>
+    ensures { (outcome : Result spec.Found BuildFault) → Tells found_view outcome found.entry
+        → Tells found_view (and_then outcome (λ f. spec.statement_found declared.now f place (statement_view statement.entry))) result }
+{
+    match found {
+        Ok(found) => statement_found(alloc, declared, found, place, statement),
+        Err(fault) => Err(fault),
+    }
+}
+
+/// Goes on by a statement: notes its names, or tells that one came before, whatever is found; and finds what it declares, where
+/// no statement before it has a fault.
+fn walk_statement<'a>(
+    alloc: Global,
+    seen: &mut Seen<'a>,
+    declared: &Declared<'_>,
+    found: Result<Found<'a>, BuildFault>,
+    place: usize,
+    statement: Statement<'a>,
+) -> Result<Result<Found<'a>, BuildFault>, BuildFault>
+    ensures { (names : Result (Unit {0}) BuildFault) (whole : Result spec.Found BuildFault) (left : List Placed)
+        → walk.Reached declared.now seen.old found.entry names whole (record { «module» = place; statement = statement_view statement.entry } ∷ left)
+        → walk.Goes declared.now seen.new names whole left result }
+{
+    if let Some(line) = seen.second_name(alloc, &statement)? {
+        return Err(BuildFault {
+            module: place,
+            line,
+            kind: Kind::DuplicateName,
+        });
+    }
+    Ok(found_behind(alloc, declared, found, place, statement))
+}
+
+/// Goes on by the statements of a module.
+fn walk_module<'a>(
+    alloc: Global,
+    seen: &mut Seen<'a>,
+    declared: &Declared<'_>,
+    found: Result<Found<'a>, BuildFault>,
     place: usize,
     statements: Vec<Statement<'a>>,
-) -> Result<Found<'a>, BuildFault>
-    ensures { Tells found_view (passes.found_behind declared.now (found_view found.entry) place (map statement_view statements.entry.items)) result }
+) -> Result<Result<Found<'a>, BuildFault>, BuildFault>
+    ensures { (names : Result (Unit {0}) BuildFault) (whole : Result spec.Found BuildFault) (left : List Placed)
+        → walk.Reached declared.now seen.old found.entry names whole (placed_in place (map statement_view statements.entry.items) ++ left)
+        → walk.Goes declared.now seen.new names whole left result }
 {
     let mut behind = found;
     for statement in statements {
-        behind = statement_found(alloc, declared, behind, place, statement)?;
+        behind = walk_statement(alloc, seen, declared, behind, place, statement)?;
     }
     Ok(behind)
 }
 
-/// What is found in all modules, one after another; or the first fault.
-fn modules_found<'a>(
+/// The first two passes in one walk: what is found in all modules, or its first fault; or the first name that comes a second time.
+fn walk_modules<'a>(
     alloc: Global,
     declared: &Declared<'_>,
     modules: Vec<Module<'a>>,
-) -> Result<Found<'a>, BuildFault>
-    ensures { Tells found_view (passes.all_found declared.now spec.none_yet 0 (map statements_view modules.entry.items)) result }
+) -> Result<Result<Found<'a>, BuildFault>, BuildFault>
+    ensures { walk.Ends (names_from [] (placed_from 0 (map statements_view modules.entry.items)))
+        (spec.found_from declared.now spec.none_yet (placed_from 0 (map statements_view modules.entry.items))) result }
 {
-    let mut found = nothing_found(alloc);
+    let mut seen = Seen::new(alloc);
+    let mut found = Ok(nothing_found(alloc));
     let mut place: usize = 0;
     for module in modules {
-        found = module_found(alloc, declared, found, place, module.statements)?;
+        found = walk_module(alloc, &mut seen, declared, found, place, module.statements)?;
         place += 1;
     }
     Ok(found)
 }
 
-/// The same, as it is said of all statements.
-#[tactic(auto, using(crate::proofs::Passes::placed_tell))]
-fn all_found<'a>(
-    alloc: Global,
-    declared: &Declared<'_>,
-    modules: Vec<Module<'a>>,
-) -> Result<Found<'a>, BuildFault>
-    ensures { Tells found_view (spec.found_from declared.now spec.none_yet (placed_from 0 (map statements_view modules.entry.items))) result }
-{
-    modules_found(alloc, declared, modules)
-}
-
-/// What is found in all modules with the persons among it, or the first fault.
+/// What is found in all modules with the persons among it, or the first fault: of names, and then of what is declared.
 pub(crate) fn whole_found<'a>(
     alloc: Global,
     declared: &Declared<'_>,
     modules: Vec<Module<'a>>,
 ) -> Result<Found<'a>, BuildFault>
-    ensures { Tells found_view
-        (and_then (spec.found_from declared.now spec.none_yet (placed_from 0 (map statements_view modules.entry.items))) spec.with_person) result }
+    ensures { Tells found_view (and_then (names_from [] (placed_from 0 (map statements_view modules.entry.items)))
+        (λ _. and_then (spec.found_from declared.now spec.none_yet (placed_from 0 (map statements_view modules.entry.items))) spec.with_person)) result }
 {
-    with_person(all_found(alloc, declared, modules)?)
+    let found = walk_modules(alloc, declared, modules)??;
+    with_person(found)
 }

@@ -3,7 +3,7 @@
 ghost use Rattle.std.specs.Prelude.{◌≡◌, map};
 ghost use Rattle.fisca_names.specs.Names.{placed_from};
 ghost use Rattle.fisca_syntax.specs.Views.{statements};
-ghost use Rattle.fisca_rules.specs.Build.{second_pass};
+ghost use Rattle.fisca_rules.specs.Build.{declared_by};
 ghost use Rattle.fisca_rules.specs.FoundViews.{whole};
 ghost use Rattle.fisca_names.specs.Outcomes.{Tells};
 
@@ -15,15 +15,19 @@ use fisca_syntax::Module;
 use fisca_tables::{Entities, Enums, Variables};
 use std::alloc::Global;
 
-/// What modules declare: entities, Enums and variables in order, formulas as they are written. Or the first fault of the
-/// second pass, which has the modules in order, each from top to bottom: `BadAttribute` for an attribute or argument that is
-/// missing, repeated or wrong, and where the persons are missing; `UnknownName` for a name of no entity or Enum; and
-/// `Memory` where memory ran out.
+/// What modules declare: entities, Enums and variables in order, formulas as they are written. Or the first fault of two
+/// passes over the modules in order, each from top to bottom. The first tells `DuplicateName` of the first statement, or member of
+/// an Enum, at which a name comes a second time: all names of variables and Enums and all constants, keys and plurals of entities
+/// differ; so do the keys and plurals of the roles and subroles of an entity, the keys even with their case left aside, but that a
+/// plural may be its own key; so do the keys and plurals of roles from the variables of their entity; and so do the members of an
+/// Enum. What declares an entity and cannot be read counts by its constant alone. The second tells `BadAttribute` for an attribute or argument that is
+/// missing, repeated or wrong, and where the persons are missing; `UnknownName` for a name of no entity or Enum.
+/// `Memory`, at line 0, comes only where a growth was refused.
 pub fn tables_found<'a>(
     alloc: Global,
     modules: Vec<Module<'a>>,
 ) -> Result<(Entities<'a>, Enums<'a>, Variables<'a>), BuildFault>
-    ensures { Tells whole (second_pass (placed_from 0 (map statements modules.entry.items))) result }
+    ensures { Tells whole (declared_by (placed_from 0 (map statements modules.entry.items))) result }
 {
     let declared = declared_in(alloc, modules.as_slice())?;
     let Found {

@@ -1,5 +1,5 @@
 //! The third pass: the formulas of all variables.
-ghost use Rattle.std.specs.Prelude.{◌≡◌, [], map, Some};
+ghost use Rattle.std.specs.Prelude.{◌≡◌, [], ◌∷◌, ◌++◌, map, OnOk, Some};
 ghost use Rattle.fisca_variables.specs.VariableForms.{written};
 ghost use Rattle.fisca_formula.specs.Formulas.{formula_view as seen, Tells as TellsPlace};
 ghost use Rattle.fisca_rules.specs.Rules as spec;
@@ -15,10 +15,10 @@ use crate::dated::Dated;
 use fisca_calls::Locals;
 use fisca_formula::{Formula as Typed, Names, Refusal, formula_of};
 use fisca_names::BuildFault;
-use fisca_syntax::Formula;
+use fisca_syntax::{Formula, Item};
 use fisca_tables::{DeclaredType, Tables, Variable};
 use fisca_typing::ValueType;
-use std::alloc::Global;
+use std::alloc::{AllocError, Global};
 
 /// The line of the local at this place, or of the return behind them all.
 fn line_at(formula: &Formula<'_>, place: usize) -> usize
@@ -99,6 +99,18 @@ fn dated_of<'n, 'a>(
     }
 }
 
+/// Puts a formula behind the others of its variable.
+fn push_dated(made: &mut Vec<Dated>, dated: Dated) -> Result<(), AllocError>
+    ensures { OnOk result (made.new.items ≡ made.old.items ++ dated ∷ []) }
+{
+    if made.is_empty() {
+        // most variables have one formula
+        made.reserve_exact(1).map_err(AllocError::from)?;
+    }
+    made.push(dated).map_err(AllocError::from)?;
+    Ok(())
+}
+
 /// The formulas of a variable of a type, from top to bottom, or the first fault.
 #[tactic(auto, using(crate::proofs::Each::all_behind_none))]
 fn formulas_by<'n, 'a>(
@@ -109,9 +121,17 @@ fn formulas_by<'n, 'a>(
 ) -> Result<Vec<Dated>, BuildFault>
     ensures { Tells (λ fs. map dated fs.items) (spec.formulas_by (known tables.now) (written variable.now) (Some value_type)) result }
 {
-    let mut made = Vec::with_capacity(alloc, variable.formulas.as_slice().len())?;
-    for formula in variable.formulas.as_slice() {
-        made.push(dated_of(alloc, tables, variable, value_type, formula)?)?;
+    let mut made = Vec::new(alloc);
+    for line in variable.formulas.lines() {
+        match line {
+            Item::Formula(formula) => {
+                push_dated(
+                    &mut made,
+                    dated_of(alloc, tables, variable, value_type, formula)?,
+                )?;
+            }
+            Item::Attribute(_) => {}
+        }
     }
     Ok(made)
 }
@@ -150,7 +170,7 @@ pub(crate) fn formulas_of_tables<'n, 'a>(
 ) -> Result<Vec<Vec<Dated>>, BuildFault>
     ensures { Tells (λ fs. map (λ gs. map dated gs.items) fs.items) (spec.all_of (spec.formulas_of (known tables.now)) (map written tables.now.variables)) result }
 {
-    let mut made = Vec::new(alloc);
+    let mut made = Vec::with_capacity(alloc, tables.variables.as_slice().len())?;
     for variable in tables.variables.as_slice() {
         made.push(formulas_of(alloc, tables, variable)?)?;
     }

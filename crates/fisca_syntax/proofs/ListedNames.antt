@@ -1,10 +1,10 @@
 -- Names between brackets.
-use Rattle.std.proofs.Common.{◌≡◌, List, [], ◌∷◌, Bool, true, false, refl, sym, ap, ◌∙◌, rules}
+use Rattle.std.proofs.Common.{◌≡◌, List, [], ◌∷◌, Bool, true, false, refl, ap, ◌∙◌}
 use Rattle.std.specs.Prelude.{map, ◌&&◌}
 use Rattle.std.specs.List.{list_all}
 use Rattle.fisca_expressions.specs.Tree.{Argument}
 use Rattle.fisca_expressions.specs.Views.{argument_view, series_view, series_of}
-use Rattle.fisca_expressions.specs.declared.tree.Arguments.{Arguments, the_lemmas as all_lemmas}
+use Rattle.fisca_expressions.specs.declared.tree.Arguments.{Arguments}
 use Rattle.fisca_expressions.specs.declared.tree.Argument.{Argument as Given}
 use Rattle.fisca_syntax.specs.Forms.{is_any_name, are_names}
 
@@ -21,8 +21,5 @@ names_in comma [] = refl
 names_in comma (a ∷ []) = one_name comma (argument_view a)
 names_in comma (a ∷ b ∷ xs) = ap (λ t. is_any_name (argument_view a) && t) (names_in comma (b ∷ xs))
 
-seen : (a : Arguments) → series_view a ≡ series_of a.comma (map argument_view a.items.items)
-seen a = search (rules, all_lemmas)
-
-pub names_of : (a : Arguments) → list_all (λ a. is_any_name (argument_view a)) a.items.items ≡ are_names (series_view a)
-names_of a = names_in a.comma a.items.items ∙ ap are_names (sym (seen a))
+pub names_of : (a : Arguments) (comma : Bool) (xs : List Given) → series_of comma (map argument_view xs) ≡ series_view a → list_all (λ a. is_any_name (argument_view a)) xs ≡ are_names (series_view a)
+names_of a comma xs e = names_in comma xs ∙ ap are_names e

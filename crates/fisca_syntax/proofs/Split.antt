@@ -1,13 +1,16 @@
 -- Lines of tokens, from the last one on.
-use Rattle.std.proofs.Common.{◌≡◌, ℕ, suc, ◌+◌, ◌-◌, ◌<◌, List, [], ◌∷◌, ◌++◌, length, take, drop, reverse, refl, sym, ap, ◌∙◌, append_assoc, arith, length-drop, take-append-drop}
+use Rattle.std.proofs.Common.{◌≡◌, ℕ, suc, ◌+◌, ◌-◌, ◌<◌, List, [], ◌∷◌, ◌++◌, length, take, drop, reverse, refl, sym, ap, ◌∙◌, append_assoc, arith, length-drop, take-append-drop, append-nil, drop-drop}
 use Rattle.std.proofs.lemmas.List.{reverse-append, reverse-reverse, length-reverse}
 use Rattle.std.proofs.Math.Seq.{take-length}
-use Rattle.std.specs.Prelude.{Option, Some, None, is_none, cond}
+use Rattle.std.specs.Prelude.{Bool, false, Option, Some, None, is_none, cond}
 use Rattle.fisca_tokens.specs.declared.token.Token.{Token}
 use Rattle.fisca_syntax.specs.Lines.{Line, lines, line_by, within_len, indent_of}
 
 abbrev weight : Option ℕ → ℕ
 weight o = cond (is_none o) 1 0
+
+abbrev truth : Bool → ℕ
+truth b = cond b 1 0
 
 -- one token more that begins no line, or one that does
 tail_by : (o : Option ℕ) (n m : ℕ) → cond (is_none o) (1 + n) 0 ≡ suc m → n ≡ m
@@ -78,43 +81,49 @@ line_in_front : (o : Option ℕ) (us : List Token) (ls ms : List Line) → line_
 line_in_front None us ls ms = refl
 line_in_front (Some i) us ls ms = refl
 
--- the last line stands behind those of the tokens before it
+-- lines from a token on that begins one stand behind those of the tokens before it
+apart : (xs : List Token) (t : Token) (ts : List Token) (i : ℕ) → t.indent ≡ Some i → lines (xs ++ t ∷ ts) ≡ lines xs ++ lines (t ∷ ts)
+apart [] t ts i e = refl
+apart (x ∷ xs) t ts i e =
+    ap (λ k. line_by x.indent (x ∷ take k (xs ++ t ∷ ts)) (lines (xs ++ t ∷ ts))) (stops xs t ts i e)
+    ∙ ap (λ us. line_by x.indent (x ∷ us) (lines (xs ++ t ∷ ts))) (taken xs (t ∷ ts))
+    ∙ ap (line_by x.indent (x ∷ take (within_len xs) xs)) (apart xs t ts i e)
+    ∙ line_in_front x.indent (x ∷ take (within_len xs) xs) (lines xs) (lines (t ∷ ts))
+
+-- where only the first token may begin a line, there is one at most
 begun : (t : Token) (ts : List Token) → AllWithin ts → lines (t ∷ ts) ≡ line_by t.indent (t ∷ ts) []
 begun t ts all =
     ap (λ k. line_by t.indent (t ∷ take k ts) (lines ts)) all
     ∙ ap (λ us. line_by t.indent (t ∷ us) (lines ts)) (take-length ts)
     ∙ ap (line_by t.indent (t ∷ ts)) (no_line ts all)
 
-apart : (xs : List Token) (t : Token) (ts : List Token) (i : ℕ) → AllWithin ts → t.indent ≡ Some i → lines (xs ++ t ∷ ts) ≡ lines xs ++ line_by t.indent (t ∷ ts) []
-apart [] t ts i all e = begun t ts all
-apart (x ∷ xs) t ts i all e =
-    ap (λ k. line_by x.indent (x ∷ take k (xs ++ t ∷ ts)) (lines (xs ++ t ∷ ts))) (stops xs t ts i e)
-    ∙ ap (λ us. line_by x.indent (x ∷ us) (lines (xs ++ t ∷ ts))) (taken xs (t ∷ ts))
-    ∙ ap (line_by x.indent (x ∷ take (within_len xs) xs)) (apart xs t ts i all e)
-    ∙ line_in_front x.indent (x ∷ take (within_len xs) xs) (lines xs) (line_by t.indent (t ∷ ts) [])
-
 turned : (xs : List Token) (t : Token) (us : List Token) → reverse (xs ++ t ∷ us) ≡ reverse us ++ t ∷ reverse xs
 turned xs t us = reverse-append xs (t ∷ us) ∙ ap (λ rs. rs ++ reverse xs) (reverse-append (t ∷ []) us) ∙ append_assoc (reverse us) (t ∷ []) (reverse xs)
 
-apart_by : (o : Option ℕ) (xs : List Token) (t : Token) (us : List Token) → t.indent ≡ o → within_len (reverse us ++ t ∷ reverse xs) ≡ length (reverse us) → lines (xs ++ t ∷ us) ≡ lines xs ++ line_by t.indent (t ∷ us) []
+apart_by : (o : Option ℕ) (xs : List Token) (t : Token) (us : List Token) → t.indent ≡ o → within_len (reverse us ++ t ∷ reverse xs) ≡ length (reverse us) → lines (xs ++ t ∷ us) ≡ lines xs ++ lines (t ∷ us)
 apart_by None xs t us e h = absurd (omega (arith, begins (reverse us) t (reverse xs) h e))
-apart_by (Some i) xs t us e h =
-    let all : AllWithin (reverse (reverse us)) = all_reversed (reverse us) (all_before (reverse us) t (reverse xs) h) in
-    apart xs t us i (rw (← reverse-reverse us) all) e
+apart_by (Some i) xs t us e h = apart xs t us i e
 
-cut_by : (ts front line : List Token) (n : ℕ) → front ++ line ≡ ts → length line ≡ suc n → n ≡ within_len (reverse ts) → lines ts ≡ lines front ++ line_by (indent_of line) line []
+-- as many begin no line at the end as stand behind this token
+at_end : (xs : List Token) (t : Token) (us ts : List Token) (n : ℕ) → xs ++ t ∷ us ≡ ts → n ≡ length us → n ≡ within_len (reverse ts) → within_len (reverse us ++ t ∷ reverse xs) ≡ length (reverse us)
+at_end xs t us ts n whole size is = ap within_len (sym (turned xs t us)) ∙ ap (λ vs. within_len (reverse vs)) whole ∙ sym is ∙ size ∙ sym (length-reverse us)
+
+cut_by : (ts front line : List Token) (n : ℕ) → front ++ line ≡ ts → length line ≡ suc n → n ≡ within_len (reverse ts) → lines ts ≡ lines front ++ lines line
 cut_by ts front [] n whole size is = absurd (omega (arith, size))
-cut_by ts front (t ∷ us) n whole size is =
-    let m : n ≡ length us = omega (arith, size) in
-    let h = ap within_len (sym (turned front t us)) ∙ ap (λ vs. within_len (reverse vs)) whole ∙ sym is ∙ m ∙ sym (length-reverse us) in
-    ap lines (sym whole) ∙ apart_by t.indent front t us refl h
+cut_by ts front (t ∷ us) n whole size is = ap lines (sym whole) ∙ apart_by t.indent front t us refl (at_end front t us ts n whole (omega (arith, size)) is)
+
+alone_by : (ts front line : List Token) (n : ℕ) → front ++ line ≡ ts → length line ≡ suc n → n ≡ within_len (reverse ts) → lines line ≡ line_by (indent_of line) line []
+alone_by ts front [] n whole size is = absurd (omega (arith, size))
+alone_by ts front (t ∷ us) n whole size is =
+    let all : AllWithin (reverse (reverse us)) = all_reversed (reverse us) (all_before (reverse us) t (reverse front) (at_end front t us ts n whole (omega (arith, size)) is)) in
+    begun t us (rw (← reverse-reverse us) all)
 
 -- the last line, and the lines of what stands before it
-pub last_cut : (ts front line : List Token) (n : ℕ) → n ≡ within_len (reverse ts) → n < length ts → front ≡ take (length ts - n - 1) ts → line ≡ drop (length ts - n - 1) ts → lines ts ≡ lines front ++ line_by (indent_of line) line []
-last_cut ts front line n is less f l =
-    let whole : front ++ line ≡ ts = ap (λ us. us ++ line) f ∙ ap (λ us. take (length ts - n - 1) ts ++ us) l ∙ take-append-drop (length ts - n - 1) ts in
-    let size : length line ≡ suc n = ap length l ∙ omega (arith, less, length-drop (length ts - n - 1) ts) in
-    cut_by ts front line n whole size is
+pub last_cut : (ts : List Token) (n at : ℕ) → n ≡ within_len (reverse ts) → n < length ts → at ≡ length ts - n - 1 → lines ts ≡ lines (take at ts) ++ lines (drop at ts)
+last_cut ts n at is less e = cut_by ts (take at ts) (drop at ts) n (take-append-drop at ts) (omega (arith, less, e, length-drop at ts)) is
+
+pub last_alone : (ts : List Token) (n at : ℕ) → n ≡ within_len (reverse ts) → n < length ts → at ≡ length ts - n - 1 → lines (drop at ts) ≡ line_by (indent_of (drop at ts)) (drop at ts) []
+last_alone ts n at is less e = alone_by ts (take at ts) (drop at ts) n (take-append-drop at ts) (omega (arith, less, e, length-drop at ts)) is
 
 -- no token begins a line
 pub none_cut : (ts : List Token) (n : ℕ) → n ≡ within_len (reverse ts) → n ≡ length ts → lines ts ≡ []
@@ -122,18 +131,53 @@ none_cut ts n is size =
     let all : AllWithin (reverse (reverse ts)) = all_reversed (reverse ts) (sym is ∙ size ∙ sym (length-reverse ts)) in
     no_line ts (rw (← reverse-reverse ts) all)
 
+-- behind the tokens that begin no line stands one that does
+abbrev Begins : List Token → Type 0
+Begins ts = is_none (indent_of ts) ≡ false
+
+starts_by : (o : Option ℕ) (t : Token) (ts : List Token) → t.indent ≡ o → cond (is_none o) (1 + within_len ts) 0 < suc (length ts) → (within_len ts < length ts → Begins (drop (within_len ts) ts)) → Begins (drop (cond (is_none o) (1 + within_len ts) 0) (t ∷ ts))
+starts_by None t ts e less ih = let s : 1 + within_len ts ≡ suc (within_len ts) = omega arith in rw s (ih (omega (arith, less)))
+starts_by (Some i) t ts e less ih = ap is_none e
+
+starts : (ts : List Token) → within_len ts < length ts → Begins (drop (within_len ts) ts)
+starts [] less = absurd (omega (arith, less))
+starts (t ∷ ts) less = starts_by t.indent t ts refl less (starts ts)
+
+parted_by : (o : Option ℕ) (xs : List Token) (t : Token) (us : List Token) → t.indent ≡ o → is_none o ≡ false → lines (xs ++ t ∷ us) ≡ lines xs ++ lines (t ∷ us)
+parted_by None xs t us e h = absurd (omega (arith, ap truth h))
+parted_by (Some i) xs t us e h = apart xs t us i e
+
+parted : (xs ys : List Token) → Begins ys → lines (xs ++ ys) ≡ lines xs ++ lines ys
+parted xs [] h = absurd (omega (arith, ap truth h))
+parted xs (t ∷ us) h = parted_by t.indent xs t us refl h
+
+behind : (from at : ℕ) (ts : List Token) → Begins (drop at (drop from ts)) → Begins (drop (from + at) ts)
+behind from at ts h = rw (← drop-drop at from ts) h
+
+-- the first line behind a place, and the lines of what stands before it
+pub first_cut : (ts : List Token) (from at : ℕ) → at ≡ within_len (drop from ts) → at < length (drop from ts) → lines ts ≡ lines (take (from + at) ts) ++ lines (drop (from + at) ts)
+first_cut ts from at is less =
+    let h : Begins (drop at (drop from ts)) = rw is (starts (drop from ts) (omega (arith, is, less))) in
+    ap lines (sym (take-append-drop (from + at) ts)) ∙ parted (take (from + at) ts) (drop (from + at) ts) (behind from at ts h)
+
 -- one line more
 alone : (o : Option ℕ) (us : List Token) → reverse (line_by o us []) ≡ line_by o us []
 alone None us = refl
 alone (Some i) us = refl
 
-pub one_more : (all found new : List Line) (left behind line : List Token) → all ≡ lines left ++ reverse found → lines left ≡ lines behind ++ line_by (indent_of line) line [] → new ≡ found ++ line_by (indent_of line) line [] → all ≡ lines behind ++ reverse new
-one_more all found new left behind line e h p =
-    e ∙ ap (λ ls. ls ++ reverse found) h ∙ append_assoc (lines behind) (line_by (indent_of line) line []) (reverse found)
-    ∙ ap (λ ls. lines behind ++ (ls ++ reverse found)) (sym (alone (indent_of line) line))
-    ∙ ap (λ ls. lines behind ++ ls) (sym (reverse-append found (line_by (indent_of line) line [])))
-    ∙ ap (λ ls. lines behind ++ reverse ls) (sym p)
+-- some lines more
+pub more : (all found new left before piece : List Line) → all ≡ found ++ reverse left → left ≡ before ++ piece → new ≡ found ++ reverse piece → all ≡ new ++ reverse before
+more all found new left before piece e h p =
+    e ∙ ap (λ ls. found ++ reverse ls) h ∙ ap (λ ls. found ++ ls) (reverse-append before piece)
+    ∙ sym (append_assoc found (reverse piece) (reverse before)) ∙ ap (λ ls. ls ++ reverse before) (sym p)
+
+pub one_more : (all found new left before piece : List Line) (line : List Token) → all ≡ found ++ reverse left → left ≡ before ++ piece → piece ≡ line_by (indent_of line) line [] → new ≡ found ++ line_by (indent_of line) line [] → all ≡ new ++ reverse before
+one_more all found new left before piece line e h is p =
+    more all found new left before piece e h (p ∙ ap (λ ls. found ++ ls) (sym (alone (indent_of line) line)) ∙ ap (λ ls. found ++ reverse ls) (sym is))
 
 -- and no line more
-pub at_the_end : (all found : List Line) (left : List Token) → all ≡ lines left ++ reverse found → lines left ≡ [] → reverse found ≡ all
-at_the_end all found left e h = sym (e ∙ ap (λ ls. ls ++ reverse found) h)
+pub at_the_end : (all found left : List Line) → all ≡ found ++ reverse left → left ≡ [] → found ≡ all
+at_the_end all found left e h = sym (e ∙ ap (λ ls. found ++ reverse ls) h ∙ append-nil found)
+
+pub turned_back : (all found left : List Line) → reverse all ≡ found ++ reverse left → left ≡ [] → reverse found ≡ all
+turned_back all found left e h = ap reverse (at_the_end (reverse all) found left e h) ∙ reverse-reverse all

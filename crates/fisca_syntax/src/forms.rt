@@ -34,7 +34,15 @@ fn is_entity(value: &Expr) -> bool
         Expr::Applied(Suffix::Call, call) => {
             is_the_name(b"build_entity".as_slice(), &call.front)
         }
-        _ => false,
+        Expr::Applied(Suffix::Subscript, _)
+        | Expr::Name(_)
+        | Expr::Number(_)
+        | Expr::Text(_)
+        | Expr::Bracketed(_, _)
+        | Expr::Attribute(_)
+        | Expr::Prefixed(_, _)
+        | Expr::Binary(_, _)
+        | Expr::Compare(_, _) => false,
     }
 }
 
@@ -45,7 +53,14 @@ fn is_any_name(argument: &Argument) -> bool
     match argument {
         Argument::Positional(value) => match bare(value) {
             Expr::Name(name) => is_name(name.as_bytes()),
-            _ => false,
+            Expr::Number(_)
+            | Expr::Text(_)
+            | Expr::Bracketed(_, _)
+            | Expr::Attribute(_)
+            | Expr::Applied(_, _)
+            | Expr::Prefixed(_, _)
+            | Expr::Binary(_, _)
+            | Expr::Compare(_, _) => false,
         },
         Argument::Keyword(_, _) | Argument::Entry(_, _) => false,
     }
@@ -59,10 +74,11 @@ fn all_names(items: &[Argument]) -> bool
 }
 
 /// Whether names.
+#[tactic(auto, using(crate::proofs::ListedNames::names_of))]
 fn are_names(arguments: &Arguments) -> bool
     ensures { result ≡ spec.are_names (series_view arguments.now) }
 {
-    all_names(&arguments.items)
+    all_names(arguments.parts().0)
 }
 
 /// Whether `[NAME, ..]`.
@@ -71,7 +87,15 @@ fn is_list_of_names(value: &Expr) -> bool
 {
     match bare(value) {
         Expr::Bracketed(Bracket::Square, arguments) => are_names(arguments),
-        _ => false,
+        Expr::Bracketed(Bracket::Round | Bracket::Curly, _)
+        | Expr::Name(_)
+        | Expr::Number(_)
+        | Expr::Text(_)
+        | Expr::Attribute(_)
+        | Expr::Applied(_, _)
+        | Expr::Prefixed(_, _)
+        | Expr::Binary(_, _)
+        | Expr::Compare(_, _) => false,
     }
 }
 
@@ -104,7 +128,13 @@ fn is_week_unit(value: &Expr) -> bool
         Expr::Attribute(access) => {
             is_the_name(b"DateUnit".as_slice(), &access.front) && is_week(access.name.as_bytes())
         }
-        _ => false,
+        Expr::Number(_)
+        | Expr::Text(_)
+        | Expr::Bracketed(_, _)
+        | Expr::Applied(_, _)
+        | Expr::Prefixed(_, _)
+        | Expr::Binary(_, _)
+        | Expr::Compare(_, _) => false,
     }
 }
 

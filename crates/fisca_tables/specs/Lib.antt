@@ -1,3 +1,4 @@
+pub mod FormulaLines
 pub mod Known
 pub mod KnownEntities
 pub mod KnownEnums

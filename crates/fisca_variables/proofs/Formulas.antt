@@ -1,27 +1,12 @@
--- The formulas of lines, one after another.
-use Rattle.std.proofs.Common.{◌≡◌, ◌∙◌, sym, ap, refl, arith, ℕ, length, List, [], ◌∷◌, ◌++◌, append_assoc}
-use Rattle.fisca_syntax.specs.Modules.{Formula, Item, attribute, formula}
+-- The formulas among lines, as they are written.
+use Rattle.std.proofs.Common.{◌≡◌, List, [], ◌∷◌, map, refl, ap}
+use Rattle.fisca_syntax.specs.Views.{formula_view, item}
+use Rattle.fisca_syntax.specs.declared.module.Item.{Item}
+use Rattle.fisca_syntax.specs.declared.module.Item.TheVariants as part
+use Rattle.fisca_tables.specs.FormulaLines.{formulas_in}
 use Rattle.fisca_variables.specs.VariableForms.{formulas_of}
 
-first-line : (x : Item) (xs : List Item) → formulas_of (x ∷ xs) ≡ formulas_of (x ∷ []) ++ formulas_of xs
-first-line (attribute a) xs = refl
-first-line (formula f) xs = refl
-
--- one line more
-pub formulas_step : (all before behind : List Formula) (items rest : List Item) (x : Item)
-    → all ≡ before ++ formulas_of items → items ≡ x ∷ rest → behind ≡ before ++ formulas_of (x ∷ []) → all ≡ behind ++ formulas_of rest
-formulas_step all before behind items rest x h e k =
-    h ∙ ap (λ xs. before ++ formulas_of xs) e ∙ ap (λ fs. before ++ fs) (first-line x rest)
-    ∙ sym (append_assoc before (formulas_of (x ∷ [])) (formulas_of rest)) ∙ ap (λ fs. fs ++ formulas_of rest) (sym k)
-
-nothing-behind : (fs : List Formula) → fs ++ [] ≡ fs
-nothing-behind [] = refl
-nothing-behind (f ∷ fs) = ap (λ gs. f ∷ gs) (nothing-behind fs)
-
--- no line is left
-pub formulas_end : (all before : List Formula) (items : List Item) → all ≡ before ++ formulas_of items → items ≡ [] → before ≡ all
-formulas_end all before items h e = sym (h ∙ ap (λ xs. before ++ formulas_of xs) e ∙ nothing-behind before)
-
-pub none_left : {X : Type 0} (n : ℕ) (xs : List X) → n ≡ 0 → n ≡ length xs → xs ≡ []
-none_left n [] e f = refl
-none_left n (x ∷ xs) e f = absurd (omega arith)
+pub formulas_written : (lines : List Item) → map formula_view (formulas_in lines) ≡ formulas_of (map item lines)
+formulas_written [] = refl
+formulas_written (part.Attribute a ∷ more) = formulas_written more
+formulas_written (part.Formula f ∷ more) = ap (λ fs. formula_view f.value ∷ fs) (formulas_written more)

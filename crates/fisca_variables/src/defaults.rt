@@ -107,7 +107,17 @@ pub(crate) fn no_default<'a>(value_type: TypeName) -> Result<DefaultValue<'a>, K
 fn is_text(value: &Expr<'_>) -> bool
     ensures { result ≡ spec.is_text_in (unwrapped (tree value.now)) }
 {
-    matches!(bare(value), Expr::Text(_))
+    match bare(value) {
+        Expr::Text(_) => true,
+        Expr::Name(_)
+        | Expr::Number(_)
+        | Expr::Bracketed(_, _)
+        | Expr::Attribute(_)
+        | Expr::Applied(_, _)
+        | Expr::Prefixed(_, _)
+        | Expr::Binary(_, _)
+        | Expr::Compare(_, _) => false,
+    }
 }
 
 /// Whether a value is two names with a point between them.

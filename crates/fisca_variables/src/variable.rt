@@ -1,9 +1,9 @@
 //! A variable, by its attributes and formulas.
 
-ghost use Rattle.std.specs.Prelude.{◌≡◌, [], ◌∷◌, ◌++◌, IfOk, codes, map};
+ghost use Rattle.std.specs.Prelude.{◌≡◌, codes, map};
 ghost use Rattle.fisca_attributes.specs.AttributeForms as forms;
 ghost use Rattle.fisca_nodes.specs.Outcomes.{Gives};
-ghost use Rattle.fisca_syntax.specs.Views.{formula_view, item};
+ghost use Rattle.fisca_syntax.specs.Views.{item};
 ghost use Rattle.fisca_variables.specs.VariableForms as spec;
 
 use crate::basics::Basics;
@@ -12,10 +12,10 @@ use crate::defaults::{default_of, no_default};
 use crate::needed::{needed_entity, needed_enum, needed_period, needed_type};
 use crate::said::told_of;
 use fisca_attributes::{TypeName, value_at};
-use fisca_syntax::{Formula, Item};
+use fisca_syntax::Item;
 use fisca_tables::{DeclaredType, DefaultValue, Formulas, Text, Variable};
 use fisca_tokens::Kind;
-use std::alloc::{AllocError, Global};
+use std::alloc::Global;
 
 /// The type as it is declared: an Enum has possible values.
 fn declared_type(
@@ -86,41 +86,8 @@ fn basics_of<'a>(
     })
 }
 
-/// The formulas so far, and this line where it is one.
-fn with_formula<'a>(
-    formulas: Vec<Formula<'a>>,
-    line: Item<'a>,
-) -> Result<Vec<Formula<'a>>, AllocError>
-    ensures { IfOk result (λ fs. map formula_view fs.items ≡ map formula_view formulas.entry.items ++ spec.formulas_of (item line.entry ∷ [])) }
-{
-    let mut found = formulas;
-    match line {
-        Item::Attribute(_) => Ok(found),
-        Item::Formula(formula) => {
-            if found.is_empty() {
-                // most variables have one formula
-                found.reserve_exact(1).map_err(AllocError::from)?;
-            }
-            found
-                .push(Box::into_inner(formula))
-                .map_err(AllocError::from)?;
-            Ok(found)
-        }
-    }
-}
-
-/// The formulas of these lines, from top to bottom.
-fn formulas_of<'a>(alloc: Global, items: Vec<Item<'a>>) -> Result<Vec<Formula<'a>>, AllocError>
-    ensures { IfOk result (λ fs. map formula_view fs.items ≡ spec.formulas_of (map item items.entry.items)) }
-{
-    let mut formulas = Vec::new(alloc);
-    for line in items {
-        formulas = with_formula(formulas, line)?;
-    }
-    Ok(formulas)
-}
-
 /// A variable of the module at a place, of this line and name, by its lines; or the first fault of what they say together.
+#[tactic(auto, using(crate::proofs::Formulas::formulas_written))]
 pub fn variable_of<'a>(
     alloc: Global,
     declared: &Declared<'_>,
@@ -133,7 +100,7 @@ pub fn variable_of<'a>(
 {
     let basics = basics_of(alloc, declared, items.as_slice())?;
     let told = told_of(alloc, items.as_slice())?;
-    let formulas = Formulas::new(formulas_of(alloc, items)?);
+    let formulas = Formulas::new(items);
     Ok(Variable {
         module: place,
         line,

@@ -2,7 +2,7 @@ use Rattle.std.proofs.Common.{rules, arith, ◌≡◌, ◌∙◌, sym, ap, [], d
 use Rattle.std.proofs.Math.ListN.{drop_of_length-le}
 use Rattle.fisca_expressions.specs.Tree.{applied}
 use Rattle.fisca_expressions.specs.declared.tree.Arguments.{the_lemmas as all_lemmas}
-use Rattle.fisca_expressions.specs.Views.{argument_view, series_of, tree}
+use Rattle.fisca_expressions.specs.Views.{argument_view, series_view, tree}
 use Rattle.fisca_typing.specs.Sizes.{beside, capped, size_all, size_of}
 use Rattle.fisca_calls.specs.Counts.{size}
 use Rattle.fisca_calls.specs.Locals.{sizes}
@@ -23,9 +23,9 @@ size_of-returns-in-Applied t c =
     let ls = sizes c.args.locals.now in
     let x = c.in-Applied.application.value in
     let front : size c.size_of-first.result ≡ capped (size_of ls (tree x.front)) = search rules in
-    let behind : size c.size_all-in-Applied.result ≡ capped (size_all ls (series_of x.behind.comma (map argument_view x.behind.items.items))) = search rules in
+    let behind : size c.size_inside-in-Applied.result ≡ capped (size_all ls (series_view x.behind)) = search rules in
     let both = beside_of _ _ _ _ _ c.beside.ensures front behind in
     let whole = above_of _ _ _ c.above-in-Applied.ensures both in
-    let seen : tree c.args.tree.now ≡ applied c.in-Applied.field-0 (tree x.front) (series_of x.behind.comma (map argument_view x.behind.items.items)) =
+    let seen : tree c.args.tree.now ≡ applied c.in-Applied.field-0 (tree x.front) (series_view x.behind) =
     ap tree c.in-Applied.is ∙ search (all_lemmas, rules) in
     whole ∙ ap (λ e. capped (size_of ls e)) (sym seen)

@@ -1,7 +1,7 @@
 use Rattle.std.proofs.Common.{rules, arith, ◌≡◌, ◌∙◌, sym, ap, Some, None, take}
 use Rattle.std.specs.Prelude.{map}
 use Rattle.fisca_expressions.specs.Tree.{applied, attribute, binary, bracketed, compare, keyword, positional}
-use Rattle.fisca_expressions.specs.Views.{argument_view, series_of, tree}
+use Rattle.fisca_expressions.specs.Views.{argument_view, series_view, tree}
 use Rattle.fisca_expressions.specs.declared.tree.Arguments.{the_lemmas as all_lemmas}
 use Rattle.fisca_nodes.specs.Views.{thing}
 use Rattle.fisca_params.specs.Results.{and_then}
@@ -40,11 +40,9 @@ given_of-returns-in_ok-if_known-in-Keyword t c =
 pub thing_of-returns-in-Bracketed : goal.thing_of-returns-in-Bracketed
 thing_of-returns-in-Bracketed t c =
     let n = names c.args.names.now in
-    let inside = c.in-Bracketed.inside.value in
-    let seen : tree c.args.tree.now ≡ bracketed c.in-Bracketed.bracket (series_of inside.comma (map argument_view inside.items.items)) = ap tree c.in-Bracketed.is ∙ search (all_lemmas, rules) in
-    let items = sym (c.as_slice.ensures.value ∙ ap (λ x. x.items.items) c.deref.ensures) in
-    gives_same thing _ _ _ (c.bracketed.ensures inside.comma)
-    (ap (thing_of n) seen ∙ ap (λ xs. in_brackets c.in-Bracketed.bracket (all_given n (series_of inside.comma (map argument_view xs)))) items)
+    let seen : tree c.args.tree.now ≡ bracketed c.in-Bracketed.bracket (series_view c.in-Bracketed.inside.value) = ap tree c.in-Bracketed.is ∙ search (all_lemmas, rules) in
+    gives_same thing _ _ _ c.bracketed.ensures
+    (ap (thing_of n) seen ∙ ap (λ x. in_brackets c.in-Bracketed.bracket (all_given n (series_view x))) (sym c.deref.ensures))
 
 pub thing_of-returns-in-Attribute : goal.thing_of-returns-in-Attribute
 thing_of-returns-in-Attribute t c =
@@ -59,12 +57,11 @@ pub thing_of-returns-in-Applied : goal.thing_of-returns-in-Applied
 thing_of-returns-in-Applied t c =
     let n = names c.args.names.now in
     let x = c.in-Applied.application.value in
-    let behind = x.behind in
-    let seen : tree c.args.tree.now ≡ applied c.in-Applied.suffix (tree x.front) (series_of behind.comma (map argument_view behind.items.items)) = ap tree c.in-Applied.is ∙ search (all_lemmas, rules) in
+    let seen : tree c.args.tree.now ≡ applied c.in-Applied.suffix (tree x.front) (series_view x.behind) = ap tree c.in-Applied.is ∙ search (all_lemmas, rules) in
     let front = ap (λ y. y.front) (sym c.deref-in-Applied.ensures) in
-    let items = sym (c.as_slice-behind.ensures.value ∙ ap (λ y. y.behind.items.items) c.deref-in-Applied-2.ensures) in
-    gives_same thing _ _ _ (c.applied.ensures behind.comma _ c.thing_of-before.ensures)
-    (ap (thing_of n) seen ∙ (λ i. and_then (thing_of n (tree (front i))) (λ g. with_suffix n c.in-Applied.suffix g (all_given n (series_of behind.comma (map argument_view (items i)))))))
+    let behind = ap (λ y. y.behind) (sym c.deref-in-Applied-2.ensures) in
+    gives_same thing _ _ _ (c.applied.ensures _ c.thing_of-before.ensures)
+    (ap (thing_of n) seen ∙ (λ i. and_then (thing_of n (tree (front i))) (λ g. with_suffix n c.in-Applied.suffix g (all_given n (series_view (behind i))))))
 
 pub thing_of-returns-in-Binary : goal.thing_of-returns-in-Binary
 thing_of-returns-in-Binary t c =

@@ -2,11 +2,12 @@ use Rattle.std.proofs.Common.{◌≡◌, [], map, drop}
 use Rattle.fisca_rules.specs.Rules.{dated_of}
 use Rattle.fisca_rules.specs.Views.{dated}
 use Rattle.fisca_rules.proofs.Each.{all_behind}
+use Rattle.fisca_rules.proofs.Lined.{formulas}
 use Rattle.fisca_rules.proofs.typed.formulas_by.Given as goal
 use Rattle.fisca_syntax.specs.Views.{formula_view}
 use Rattle.fisca_tables.specs.Known.{tables as known}
 
-abbrev pub invariant-loop-formula : goal.invariant-loop-formula
-invariant-loop-formula l =
-    all_behind (dated_of (known l.tables) l.variable.module l.variable.entity l.value_type) (map dated l.made.items) (map formula_view (drop l.formula-index l.formula-items))
+abbrev pub invariant-loop-line : goal.invariant-loop-line
+invariant-loop-line l =
+    all_behind (dated_of (known l.tables) l.variable.module l.variable.entity l.value_type) (map dated l.made.items) (formulas (drop l.line-index l.line-items))
     ≡ all_behind (dated_of (known l.tables) l.variable.module l.variable.entity l.value_type) [] (map formula_view l.variable.formulas)

@@ -11,7 +11,7 @@ pub returns-in_err-formulas_of : goal.returns-in_err-formulas_of
 returns-in_err-formulas_of c =
     let l = c.loop-variable in
     let items = c.as_slice-variable-items.result.now in
-    let told = err_from_is_err_and c.from_residual.result c.from_residual.ensures.1 in
+    let told = err_from_is_err_and c.from_residual-in_err-formulas_of.result c.from_residual-in_err-formulas_of.ensures.1 in
     let inside : l.variable-index < length items = omega (arith, c.loop-variable-test.true, l.auto.variable-index-end) in
     let cut = drop-cons items l.variable-index c.variable-item.result inside ∙ ap (λ a. a ∷ drop (suc l.variable-index) items) (sym c.variable-item.is) in
     rw (told.1, told.2) (λ h. behind_fault written (formulas_of (known c.args.tables.now))

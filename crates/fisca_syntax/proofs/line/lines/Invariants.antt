@@ -3,7 +3,7 @@ use Rattle.fisca_syntax.specs.Lines.{lines}
 use Rattle.fisca_syntax.proofs.line.lines.Given as goal
 
 abbrev pub invariant-loop-found : goal.invariant-loop-found
-invariant-loop-found l = lines l.initial.tokens.items ≡ lines l.tokens.items ++ reverse l.found.items
+invariant-loop-found l = reverse (lines l.initial.tokens.items) ≡ l.found.items ++ reverse (lines l.tokens.items)
 
 abbrev pub decreases-loop-found : goal.decreases-loop-found
 decreases-loop-found l = length l.tokens.items

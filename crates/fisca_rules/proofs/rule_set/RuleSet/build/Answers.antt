@@ -1,36 +1,22 @@
-use Rattle.std.proofs.Common.{◌≡◌, ◌∙◌, sym, ap, [], map, rules}
 use Rattle.std.proofs.lemmas.Result.{err_from_is_err_and}
-use Rattle.fisca_names.specs.Names.{names_from, placed_from}
+use Rattle.std.specs.Prelude.{map}
 use Rattle.fisca_syntax.specs.Views.{statements}
 use Rattle.fisca_tables.specs.declared.tables.Tables.{Tables}
-use Rattle.fisca_rules.proofs.Built.{built, formulas_fault, names_fault, tables_fault}
+use Rattle.fisca_rules.proofs.Built.{built, formulas_fault, tables_fault}
 use Rattle.fisca_rules.proofs.rule_set.RuleSet.build.Goals as goal
-
-pub returns-in_err-names_differ : goal.returns-in_err-names_differ
-returns-in_err-names_differ c =
-    let told = err_from_is_err_and c.from_residual.result c.from_residual.ensures.1 in
-    let same : c.as_slice.result.now ≡ c.args.modules.items = search rules in
-    rw (told.1, told.2) (λ h. names_fault c.args.parameters (map statements c.args.modules.items) _
-    (ap (λ ms. names_from [] (placed_from 0 (map statements ms))) (sym same) ∙ c.in_err-names_differ.ensures h))
 
 pub returns-in_err-entities : goal.returns-in_err-entities
 returns-in_err-entities c =
-    let told = err_from_is_err_and c.from_residual-in_err-entities.result c.from_residual-in_err-entities.ensures.1 in
-    let same : c.as_slice.result.now ≡ c.args.modules.items = search rules in
-    let names = ap (λ ms. names_from [] (placed_from 0 (map statements ms))) (sym same) ∙ c.in_ok-names_differ.ensures in
-    rw (told.1, told.2) (λ h. tables_fault c.args.parameters (map statements c.args.modules.items) _ names (c.in_err-entities.ensures h))
+    let told = err_from_is_err_and c.from_residual.result c.from_residual.ensures.1 in
+    rw (told.1, told.2) (λ h. tables_fault c.args.parameters (map statements c.args.modules.items) _ (c.in_err-entities.ensures h))
 
 pub returns-in_err-formulas : goal.returns-in_err-formulas
 returns-in_err-formulas c =
     let told = err_from_is_err_and c.from_residual-in_err-formulas.result c.from_residual-in_err-formulas.ensures.1 in
-    let same : c.as_slice.result.now ≡ c.args.modules.items = search rules in
-    let names = ap (λ ms. names_from [] (placed_from 0 (map statements ms))) (sym same) ∙ c.in_ok-names_differ.ensures in
     let tables : Tables = record { entities = c.in_ok-entities.entities; enums = c.in_ok-entities.enums; variables = c.in_ok-entities.variables; parameters = c.args.parameters } in
-    rw (told.1, told.2) (λ h. formulas_fault (map statements c.args.modules.items) tables _ names c.in_ok-entities.ensures (c.in_err-formulas.ensures h))
+    rw (told.1, told.2) (λ h. formulas_fault (map statements c.args.modules.items) tables _ c.in_ok-entities.ensures (c.in_err-formulas.ensures h))
 
 pub returns : goal.returns
 returns c =
-    let same : c.as_slice.result.now ≡ c.args.modules.items = search rules in
-    let names = ap (λ ms. names_from [] (placed_from 0 (map statements ms))) (sym same) ∙ c.in_ok-names_differ.ensures in
     let tables : Tables = record { entities = c.in_ok-entities.entities; enums = c.in_ok-entities.enums; variables = c.in_ok-entities.variables; parameters = c.args.parameters } in
-    built (map statements c.args.modules.items) tables _ names c.in_ok-entities.ensures c.in_ok-formulas.ensures
+    built (map statements c.args.modules.items) tables _ c.in_ok-entities.ensures c.in_ok-formulas.ensures

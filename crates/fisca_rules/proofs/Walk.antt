@@ -1,0 +1,108 @@
+-- The walk over the statements, one after another.
+use Rattle.std.proofs.Common.{◌≡◌, ◌≢◌, ◌∙◌, sym, ap, refl, subst, arith, ℕ, length, List, [], ◌∷◌, ◌++◌, Option, Some, None, Result, Ok, Err}
+use Rattle.fisca_names.specs.Clashes.{second_name}
+use Rattle.fisca_names.specs.Names.{Placed, named_once, names_from}
+use Rattle.fisca_names.specs.Outcomes.{Tells}
+use Rattle.fisca_names.specs.Seen.{Holds, TellsOne}
+use Rattle.fisca_names.specs.declared.fault.BuildFault.{BuildFault}
+use Rattle.fisca_names.specs.declared.seen.Seen.{Seen}
+use Rattle.fisca_params.specs.Results.{and_then}
+use Rattle.fisca_syntax.specs.Modules.{Statement}
+use Rattle.fisca_tokens.specs.declared.fault.Kind.TheVariants as kind
+use Rattle.fisca_variables.specs.declared.declared.Declared.{Declared}
+use Rattle.fisca_rules.specs.declared.found.Found.{Found as Held}
+use Rattle.fisca_rules.specs.Build.{Found, Whole as Tables, declared_by, declared_in, enums_in, found_from, none_yet, statement_found, with_person}
+use Rattle.fisca_rules.specs.FoundViews.{found}
+use Rattle.fisca_rules.specs.Walk.{Ends, Reached}
+
+abbrev Names : Type 0
+Names = Result (Unit {0}) BuildFault
+
+abbrev Whole : Type 0
+Whole = Result Found BuildFault
+
+abbrev placed : ℕ → Statement → Placed
+placed place s = record { «module» = place; statement = s }
+
+joined : (r : Whole) (f g h : Found → Whole) → ((x : Found) → f x ≡ and_then (g x) h) → and_then r f ≡ and_then (and_then r g) h
+joined (Ok x) f g h e = e x
+joined (Err k) f g h e = refl
+
+-- the next statement decides, or what comes behind it
+next_statement : (earlier : List Statement) (place : ℕ) (s : Statement) (left : List Placed) (o : Option ℕ) → o ≡ second_name earlier s
+    → names_from earlier (placed place s ∷ left) ≡ and_then (named_once place o) (λ _. names_from (earlier ++ s ∷ []) left)
+next_statement earlier place s left o same = ap (λ p. and_then (named_once place p) (λ _. names_from (earlier ++ s ∷ []) left)) (sym same)
+
+-- the second pass goes on where it has no fault yet
+pub goes_on : {X : Type 0} (view : X → Found) (o : Whole) (f : Held) (next : Found → Whole) (result : Result X BuildFault) → Tells found o (Ok f) → Tells view (next (found f)) result → Tells view (and_then o next) result
+goes_on view o f next result t g = subst (λ q. Tells view q result) (ap (λ p. and_then p next) (sym t)) g
+
+pub stays : (o : Whole) (f : BuildFault) (next : Found → Whole) → Tells found o (Err f) → f.kind ≢ kind.Memory → and_then o next ≡ Err f
+stays o f next t known = ap (λ p. and_then p next) (t known)
+
+-- a statement whose names are new
+pub one_on : (c : Declared) (old new : Seen) (so_far behind : Result Held BuildFault) (names : Names) (whole : Whole) (place : ℕ) (s : Statement) (left : List Placed)
+    → Reached c old so_far names whole (placed place s ∷ left) → TellsOne old new s None
+    → ((o : Whole) → Tells found o so_far → Tells found (and_then o (λ f. statement_found c f place s)) behind) → Reached c new behind names whole left
+one_on c old new so_far behind names whole place s left r one step = record {
+  earlier = r.earlier ++ s ∷ [];
+  held = one.noted refl r.earlier r.held;
+  named = r.named ∙ next_statement r.earlier place s left None (one.told r.earlier r.held);
+  outcome = and_then r.outcome (λ f. statement_found c f place s);
+  told = step r.outcome r.told;
+  found_behind = r.found_behind ∙ joined r.outcome (λ f. found_from c f (placed place s ∷ left)) (λ f. statement_found c f place s) (λ g. found_from c g left) (λ f. refl);
+}
+
+-- a statement with a name that came before
+pub one_stops : (c : Declared) (old new : Seen) (so_far : Result Held BuildFault) (names : Names) (whole : Whole) (place line : ℕ) (s : Statement) (left : List Placed)
+    → Reached c old so_far names whole (placed place s ∷ left) → TellsOne old new s (Some line) → names ≡ Err (record { «module» = place; line = line; kind = kind.DuplicateName })
+one_stops c old new so_far names whole place line s left r one = r.named ∙ next_statement r.earlier place s left (Some line) (one.told r.earlier r.held)
+
+-- at the first statement
+pub begins : (c : Declared) (seen : Seen) (f : Held) (all : List Placed) → Holds seen [] → found f ≡ none_yet → Reached c seen (Ok f) (names_from [] all) (found_from c none_yet all) all
+begins c seen f all h e = record {
+  earlier = [];
+  held = h;
+  named = refl;
+  outcome = Ok none_yet;
+  told = ap (λ g. Ok g) (sym e);
+  found_behind = refl;
+}
+
+-- behind the last one
+pub ends : (c : Declared) (seen : Seen) (so_far : Result Held BuildFault) (names : Names) (whole : Whole) (left : List Placed) → left ≡ [] → Reached c seen so_far names whole left → Ends names whole (Ok so_far)
+ends c seen so_far names whole left e r =
+    let last = ap (λ ps. and_then r.outcome (λ f. found_from c f ps)) e ∙ same r.outcome in (
+      r.named ∙ ap (names_from r.earlier) e,
+      subst (λ o. Tells found o so_far) (sym (r.found_behind ∙ last)) r.told,
+    )
+  where
+    same : (o : Whole) → and_then o (λ f. Ok f) ≡ o
+    same (Ok f) = refl
+    same (Err k) = refl
+
+pub none_left : {X : Type 0} (n : ℕ) (xs : List X) → n ≡ 0 → n ≡ length xs → xs ≡ []
+none_left n [] e f = refl
+none_left n (x ∷ xs) e f = absurd (omega arith)
+
+-- with the persons
+pub whole_names : {Y : Type 0} (names : Names) (f : BuildFault) (next : Result Y BuildFault) → names ≡ Err f → and_then names (λ _. next) ≡ Err f
+whole_names names f next e = ap (λ n. and_then n (λ _. next)) e
+
+-- The tables behind both passes
+
+with_tables : {X Y : Type 0} (names : Names) (outcome : Result X BuildFault) (next : X → Result Y BuildFault) → and_then names (λ _. and_then outcome next) ≡ and_then (and_then names (λ _. outcome)) next
+with_tables (Ok u) outcome next = refl
+with_tables (Err f) outcome next = refl
+
+-- what both passes find among what is declared
+abbrev pub both : Declared → List Placed → Whole
+both c ps = and_then (names_from [] ps) (λ _. and_then (found_from c none_yet ps) with_person)
+
+abbrev tables : List Placed → Found → Result Tables BuildFault
+tables ps f = Ok (record { entities = f.entities; enums = enums_in ps; variables = f.variables })
+
+pub declared_same : (c : Declared) (ps : List Placed) (outcome : Whole) → c ≡ declared_in ps → both c ps ≡ outcome → declared_by ps ≡ and_then outcome (tables ps)
+declared_same c ps outcome d e =
+    with_tables (names_from [] ps) (and_then (found_from (declared_in ps) none_yet ps) with_person) (tables ps)
+    ∙ ap (λ k. and_then (both k ps) (tables ps)) (sym d) ∙ ap (λ o. and_then o (tables ps)) e

@@ -157,8 +157,10 @@ fn expression(expr: &Expr<'_>) -> u64 {
 
 #[cycle(checksum)]
 fn arguments(inside: &Arguments<'_>) -> u64 {
-    let (items, comma) = inside.parts();
-    arguments_of(items).wrapping_add(u64::from(comma))
+    match inside {
+        Arguments::One(one) => argument(one),
+        Arguments::Several(items, comma) => { arguments_of(items).wrapping_add(u64::from(*comma)) }
+    }
 }
 
 #[cycle(checksum)]

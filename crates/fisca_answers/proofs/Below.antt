@@ -13,11 +13,6 @@ first_same : (above : List Key) (key : Key) → first_of (above ++ key ∷ []) k
 first_same [] key = refl
 first_same (k ∷ ks) key = refl
 
--- the first of a stack that has a key is no other
-first_any : (stack : List Key) (j k : Key) → 0 < length stack → first_of stack j ≡ first_of stack k
-first_any [] j k some = let none : ⊥ = omega (arith, some) in absurd none
-first_any (i ∷ is) j k some = refl
-
 below_through : (above : List Key) (key : Key) (r : Result Value Halt) → settled_below above key (through key r) ≡ settled_below (above ++ key ∷ []) key r
 below_through above key (Ok v) = refl
 below_through above key (Err (fault f)) = refl
@@ -75,9 +70,6 @@ module _ (src : Sources) where
     abbrev W : Oracle
     W = value_within src (left_below stack)
 
-    pub left_value : (v : Value) → r ≡ d.gives v → ends_below src stack key q ≡ Ok v
-    left_value v e = ap (settled_below stack key) (ends_so ∙ ap (λ x. outcome W (of_key key x)) e)
-
     pub left_fault : (f : d.Fault) → r ≡ d.fails f → ends_below src stack key q ≡ Err (named key f)
     left_fault f e = ap (settled_below stack key) (ends_so ∙ ap (λ x. outcome W (of_key key x)) e)
 
@@ -85,17 +77,6 @@ module _ (src : Sources) where
     module _ (j : Key) (go : Value → Dialogue) (e : r ≡ d.asks j go) where
       asks_so : outcome W q ≡ and_then (W j) (λ v. outcome W (of_key key (go v)))
       asks_so = ends_so ∙ ap (λ x. outcome W (of_key key x)) e
-
-      pub asked_fault : 0 < length stack → (f : Fault) → answer_below src stack j ≡ Err f → ends_below src stack key q ≡ Err f
-      asked_fault some f h = by_answer (W j) refl h
-        where
-          settled_same : (x : Halt) → settled_below stack key (Err x) ≡ settled_below stack j (Err x)
-          settled_same (fault g) = refl
-          settled_same (out c) = ap (λ k. Err (verdict k (stack ++ c))) (first_any stack key j some)
-
-          by_answer : (x : Result Value Halt) → W j ≡ x → settled_below stack j x ≡ Err f → ends_below src stack key q ≡ Err f
-          by_answer (Ok v) a h' = cc
-          by_answer (Err x) a h' = ap (settled_below stack key) (asks_so ∙ ap (λ z. and_then z (λ v. outcome W (of_key key (go v)))) a) ∙ settled_same x ∙ h'
 
       pub asked_more : (v : Value) → answer_below src stack j ≡ Ok v → outcome W q ≡ outcome W (of_key key (go v))
       asked_more v a = asks_so ∙ ap (λ z. and_then z (λ w. outcome W (of_key key (go w)))) (below_ok stack j (W j) v a)

@@ -10,17 +10,8 @@ of h n = record { height = h; nodes = n }
 alike : {h k m n : ℕ} → h ≡ k → m ≡ n → of h m ≡ of k n
 alike p q = λ i. of (p i) (q i)
 
-one-more : (c n : ℕ) → min n c + 1 ≡ min (suc n) (suc c)
-one-more c n = grind arith
-
-pub above_counted : (s : Size) → of (min s.height 120 + 1) (min s.nodes 20_000 + 1) ≡ capped (above s)
-above_counted s = alike (one-more 120 s.height) (one-more 20_000 s.nodes)
-
 sum-counted : (c m n : ℕ) → min (min m c + min n c) c ≡ min (m + n) c
 sum-counted c m n = grind arith
-
-pub beside_counted : (a b : Size) → of (min (max a.height b.height) 121) (min (min a.nodes 20_001 + min b.nodes 20_001) 20_001) ≡ capped (beside a b)
-beside_counted a b = alike refl (sum-counted 20_001 a.nodes b.nodes)
 
 -- What is counted of parts, each counted up to the limits
 
@@ -65,29 +56,6 @@ pub series_counted : (ls : List Sized) (m : Bool) (xs : List Argument) → size_
 series_counted ls m [] = refl
 series_counted ls m (a ∷ []) = series-alone ls m a
 series_counted ls m (a ∷ b ∷ xs) = ap (beside (size_in ls a)) (series_counted ls m (b ∷ xs))
-
-next-height : (c f s r : ℕ) → min (max f (max s r)) c ≡ min (max (min (max f (min s c)) c) r) c
-next-height c f s r = grind arith
-
-next-nodes : (c f s r : ℕ) → min (f + (s + r)) c ≡ min (min (f + min s c) c + r) c
-next-nodes c f s r = grind arith
-
-next-capped : (f s r : Size) → capped (beside f (beside s r)) ≡ capped (beside (capped (beside f (capped s))) r)
-next-capped f s r = alike (next-height 121 f.height s.height r.height) (next-nodes 20_001 f.nodes s.nodes r.nodes)
-
-min-twice : (c n : ℕ) → min (min n c) c ≡ min n c
-min-twice c n = grind arith
-
-capped-twice : (s : Size) → capped (capped s) ≡ capped s
-capped-twice s = alike (min-twice 121 s.height) (min-twice 20_001 s.nodes)
-
--- one argument more
-pub next_counted : (whole f n i s r : Size) → whole ≡ capped (beside f (beside s r)) → n ≡ capped (beside f i) → i ≡ capped s →
-    (whole ≡ capped (beside n r)) × (capped n ≡ n)
-next_counted whole f n i s r h p q = (
-  h ∙ next-capped f s r ∙ sym (ap (λ x. capped (beside x r)) (p ∙ ap (λ x. capped (beside f x)) q)),
-  ap capped p ∙ capped-twice (beside f i) ∙ sym p,
-)
 
 -- none is left
 pub last_counted : (ls : List Sized) (m : Bool) (xs : List Argument) (f : Size) → capped (all_in ls xs) ≡ capped (beside f none) → capped f ≡ f →

@@ -23,9 +23,6 @@ abbrev pub outcome : Result Thing Kind → Result things.Thing Kind
 outcome (Ok x) = Ok (thing x)
 outcome (Err k) = Err k
 
-abbrev pub outcome_if : Option (Result Thing Kind) → Option (Result things.Thing Kind)
-outcome_if = option_map outcome
-
 abbrev pub given : Given → typing.Given
 given g = record { keyword = key g.keyword; tree = tree g.tree.now; thing = outcome g.thing }
 

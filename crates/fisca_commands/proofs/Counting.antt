@@ -1,5 +1,5 @@
 -- How many keys of a whole run read no wheel.
-use Rattle.std.proofs.Common.{◌≡◌, ℕ, zero, suc, List, [], ◌∷◌, length, refl, sym, ap, subst, ◌∙◌, arith, ⊎_elim}
+use Rattle.std.proofs.Common.{◌≡◌, ℕ, zero, suc, List, [], ◌∷◌, length, sym, ap, subst, ◌∙◌, arith, ⊎_elim}
 use Rattle.fisca_answers.specs.Keys.{In}
 use Rattle.fisca_heights.specs.Added.{IsFree, IsFreeKey}
 use Rattle.fisca_heights.specs.Entries.{Entries}
@@ -26,16 +26,6 @@ none_free m free counts none k there = by counts.count counts.keys (sym counts.c
     by (suc count) frees h = absurd (omega (arith, h))
 
 module _ (rules : RuleSet) (f : RunFile) where
-  -- no position was passed
-  pub no_counts_yet : (from stop : ℕ) → stop ≡ from → AreCounts rules f from stop no_counts
-  no_counts_yet from stop same = record {
-    keys = [];
-    different = tt;
-    exact = λ k. ((λ none. absurd none), (λ w. absurd (omega (arith, w.begun, w.ended, same))));
-    free = refl;
-    lost = refl;
-  }
-
   module _ {R : Type 0} (find : R → Entries) (from stop : ℕ) (old new : Evaluator R) (none : old.store.counts ≡ no_counts)
       (had : CountsFree (find old.store.recall) old.store.counts.free) (marks : marks_in old ≡ marks_of_run rules f) (ran : HasRun find rules f from stop old new) where
     there : (k : Key) → IsFreeKey (find new.store.recall) k → IsStillWorkIn rules f (marks_of_run rules f) from stop k

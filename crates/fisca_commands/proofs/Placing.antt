@@ -2,7 +2,6 @@
 use Rattle.std.proofs.Common.{◌≡◌, ◌<◌, ◌≤◌, ◌/◌, ℕ, suc, List, [], ◌∷◌, drop, length, Option, Some, None, Ok, refl, sym, ap, ◌∙◌, arith, ⊎_elim}
 use Rattle.std.specs.Prelude.{option_map}
 use Rattle.std.proofs.lemmas.List.{length-map, drop_all}
-use Rattle.fisca_eval.specs.Told.{told_in}
 use Rattle.fisca_grid.specs.AxesRow.{values_of}
 use Rattle.fisca_grid.specs.Grid.{axes_at, count_of, counts_of}
 use Rattle.fisca_inputs.proofs.Typed.{then_ok}
@@ -14,8 +13,7 @@ use Rattle.fisca_params.specs.Results.{and_then}
 use Rattle.fisca_rules.specs.Views.{rule_set}
 use Rattle.fisca_rules.specs.declared.rule_set.RuleSet.{RuleSet}
 use Rattle.fisca_commands.specs.Kept.{AreMoved, IsSituated, with_inputs}
-use Rattle.fisca_commands.specs.Lines.{asked_row}
-use Rattle.fisca_commands.specs.Runs.{IsAsked, positions, row_in, row_with, run_row}
+use Rattle.fisca_commands.specs.Runs.{IsAsked, positions}
 use Rattle.fisca_run_file.specs.Positions.{inputs_with, moved_at, situation_with, with_values}
 use Rattle.fisca_run_file.specs.RunFiles.{RunFile}
 use Rattle.fisca_situations.specs.Situations.{Situation}
@@ -24,7 +22,6 @@ use Rattle.fisca_memo.proofs.OfPositions.{turned_to}
 use Rattle.fisca_memo.proofs.Positions.{each_situated}
 use Rattle.fisca_memo.specs.Slots.{places_of, slots_of, turned_below}
 use Rattle.fisca_eval.specs.Simulations.{Simulation}
-use Rattle.fisca_tables.specs.Known.{tables as known}
 use Rattle.fisca_yaml.specs.Node.{Node}
 
 -- the values of which inputs were made
@@ -100,15 +97,3 @@ module _ (rules : RuleSet) (n : Node) (f : RunFile) (asked : IsAsked rules n f) 
               neutral = f.neutral;
             });
       }
-
--- what stands at a position, by the answers in the situation there
-pub row_there : (rules : RuleSet) (f : RunFile) (position : ℕ) (m : Simulation) (moved : List Given) → IsSituated rules f (Some position) m
-    → moved_at rules.tables f position ≡ Some moved
-    → run_row rules f position ≡ asked_row (known rules.tables) (told_in m) f.conditions f.columns position moved
-row_there rules f position m moved there at =
-    let both : Some there.moved ≡ Some moved = sym there.moves.1 ∙ at in
-    let same : there.moved ≡ moved = cc in
-    ap (row_with rules f position) there.moves.1
-    ∙ (ap (row_in rules f position there.moved) there.is
-    ∙ (ap (λ m. asked_row (known rules.tables) (told_in m) f.conditions f.columns position there.moved) (sym there.same)
-    ∙ ap (asked_row (known rules.tables) (told_in m) f.conditions f.columns position) same))

@@ -1,32 +1,13 @@
 -- What a refusal of the file of `calc`, or of a column, tells.
-use Rattle.std.proofs.Common.{◌≡◌, false, inl, inr, ℕ, List, Option, Some, None, option_map, codes, sym, ap, ◌∙◌}
-use Rattle.fisca_calc.specs.Texts.{key_text}
-use Rattle.fisca_eval.specs.Faults.{told}
-use Rattle.fisca_eval.specs.declared.fault.EvalFault.{EvalFault}
-use Rattle.fisca_answers.specs.Inquiry.{Fault}
-use Rattle.fisca_inputs.specs.Seen.{key_of, key_seen}
-use Rattle.fisca_inputs.specs.declared.key.Key.{Key}
-use Rattle.fisca_rosters.specs.declared.entity_members.EntityMembers.{EntityMembers}
+use Rattle.std.proofs.Common.{◌≡◌, false, inl, inr, ℕ, List, ap}
 use Rattle.fisca_rules.specs.declared.rule_set.RuleSet.{RuleSet}
-use Rattle.fisca_tables.specs.Known.{tables as known}
 use Rattle.fisca_commands.specs.Calc.{RefusesText}
 use Rattle.fisca_commands.specs.Run.{RefusesRunTree}
 use Rattle.fisca_commands.specs.Test.{RefusesTree}
-use Rattle.fisca_commands.specs.Unanswered.{key_told}
 use Rattle.fisca_commands.specs.Yaml.{IsYamlRefused}
 use Rattle.fisca_yaml.specs.Node.{Node}
 use Rattle.fisca_rule_files.specs.Refusal.{is_failed_write}
 use Rattle.fisca_rule_files.specs.declared.refusal.Refusal.{Refusal}
-
--- the key of a fault
-pub key_shown : (rules : RuleSet) (members : List EntityMembers) (fault : EvalFault) (key : Key) (text : List ℕ) → Some (key_seen key) ≡ option_map (λ f. f.key) (told fault)
-    → text ≡ key_text (codes " ") (known rules.tables) members key → key_told rules members fault ≡ Some text
-key_shown rules members fault key text is shown = by (told fault) is ∙ ap Some (sym shown)
-  where
-    by : (o : Option Fault) → Some (key_seen key) ≡ option_map (λ f. f.key) o
-        → option_map (λ f. key_text (codes " ") (known rules.tables) members (key_of f.key)) o ≡ Some (key_text (codes " ") (known rules.tables) members key)
-    by None e = absurd (cc)
-    by (Some f) e = let same : key_seen key ≡ f.key = cc in ap (λ k. Some (key_text (codes " ") (known rules.tables) members (key_of k))) (sym same)
 
 -- a text that is refused is no failed write
 pub text_unwritten : (rules : RuleSet) (text : List ℕ) (r : Refusal) → RefusesText rules text r → is_failed_write r ≡ false

@@ -1,10 +1,10 @@
 -- The steps of a key's work.
-use Rattle.std.proofs.Common.{◌≡◌, suc, ◌<◌, List, [], ◌∷◌, ◌++◌, length, map, Option, Some, None, Result, Ok, Err, refl, sym, ap, subst, ◌∙◌, arith}
+use Rattle.std.proofs.Common.{◌≡◌, suc, ◌<◌, List, [], ◌∷◌, ◌++◌, length, map, Option, Some, Result, Ok, Err, refl, sym, ap, subst, ◌∙◌, arith}
 use Rattle.fisca_answers.specs.Answers.{Oracle, outcome, value_within, verdict}
 use Rattle.fisca_answers.specs.Chains.{asked}
 use Rattle.fisca_answers.specs.Inquiry.{Fault, Inquiry, of_key, named}
 use Rattle.fisca_answers.specs.Stacks.{first_of, left_below, ends_below, IsAskable}
-use Rattle.fisca_answers.proofs.Below.{below_ok, below_full, below_known, below_formula, left_fault, asked_fault, asked_more, asked_less}
+use Rattle.fisca_answers.proofs.Below.{below_ok, below_full, below_known, below_formula, left_fault, asked_more, asked_less}
 use Rattle.fisca_formula.specs.Formulas.{formula_view}
 use Rattle.fisca_formula.specs.declared.formula.Formula.{Formula}
 use Rattle.fisca_inputs.specs.Seen.{key_seen, value_seen}
@@ -36,11 +36,6 @@ use Rattle.fisca_eval.specs.declared.scene.Scene.{Scene}
 
 pub is_told : (o : Option Fault) (f : Fault) (want : Result Value Fault) → o ≡ Some f → want ≡ Err f → IsTold o want
 is_told o f want e h = subst (λ x. IsTold x want) (sym e) h
-
--- what is told of one answer is told of another that has the same fault
-told_on : (o : Option Fault) (one other : Result Value Fault) → ((f : Fault) → one ≡ Err f → other ≡ Err f) → IsTold o one → IsTold o other
-told_on None one other h t = tt
-told_on (Some f) one other h t = h f t
 
 -- Lengths
 
@@ -100,11 +95,6 @@ module _ (s : Scene) (v : Variable) (f : Formula) (key : Key) where
       failed e x t is = is_told (told e) _ _ t (left_fault (sources_in s) (map key_seen keys) (key_seen key) whole r ends_so x is)
 
       module _ (j : Key) (go : Value → Dialogue) (is : r ≡ asks (key_seen j) go) where
-        pub asked_failed : 0 < length keys → (e : EvalFault) → IsAnswer (wanted s keys j) (Err e) → IsAnswer (wanted_of_work s keys v f key) (Err e)
-        asked_failed some e h =
-            told_on (told e) (wanted s keys j) (wanted_of_work s keys v f key)
-            (asked_fault (sources_in s) (map key_seen keys) (key_seen key) whole r ends_so (key_seen j) go is (omega (arith, so_long key_seen keys, some))) h
-
         module _ (x : Given) (a : wanted s keys j ≡ Ok (value_seen x)) where
           pub goes_on : outcome W whole ≡ outcome W (of_key (key_seen key) (go (value_seen x)))
           goes_on = asked_more (sources_in s) (map key_seen keys) (key_seen key) whole r ends_so (key_seen j) go is (value_seen x) a

@@ -1,44 +1,20 @@
 -- What an evaluator answers, as the code has it, is the answer of the key.
-use Rattle.std.proofs.Common.{◌≡◌, Option, Some, None, Result, Ok, Err, refl, sym, ap, subst, ◌∙◌}
+use Rattle.std.proofs.Common.{◌≡◌, Option, Some, None, Result, Ok, Err, refl, sym, ap, ◌∙◌}
 use Rattle.std.specs.Prelude.{◌≢◌}
 use Rattle.fisca_answers.specs.Answers.{answer}
 use Rattle.fisca_answers.specs.Inquiry as inquiry
 use Rattle.fisca_answers.specs.Inquiry.{Cause, Fault}
-use Rattle.fisca_calc.specs.Lines as lines
 use Rattle.fisca_inputs.specs.Seen.{key_of, key_seen, value_seen}
 use Rattle.fisca_inputs.specs.declared.given.Value.{Value}
-use Rattle.fisca_inputs.specs.declared.given.Value.TheVariants as v
 use Rattle.fisca_inputs.specs.declared.key.Key.{Key}
-use Rattle.fisca_lines.specs.declared.fault.RowFault.{RowFault}
 use Rattle.fisca_meaning.specs.Dialogues as meaning
 use Rattle.fisca_eval.specs.Simulations.{Simulation, normal_key, sources}
 use Rattle.fisca_eval.specs.Faults.{IsAnswer, told}
 use Rattle.fisca_eval.proofs.Steps.{is_told}
-use Rattle.fisca_eval.specs.Told.{IsReady, as_told, fault_of, row_fault, told_in, value_of}
-use Rattle.fisca_eval.specs.declared.fault.EvalFault.{EvalFault}
+use Rattle.fisca_eval.specs.Told.{as_told, fault_of, told_in, value_of}
 use Rattle.fisca_eval.specs.declared.fault.EvalFault.TheVariants as fault
 
 -- What a row answers
-
-seen_back : (x : Value) → value_of (value_seen x) ≡ x
-seen_back (v.Number n) = refl
-seen_back (v.Bool b) = refl
-seen_back (v.Member i) = refl
-
-pub row_value : (a : Result meaning.Value Fault) (x : Value) → IsAnswer a (Ok x) → lines.IsAnswer {F = EvalFault} (as_told a) (Ok x)
-row_value a x h = ap as_told h ∙ ap Ok (seen_back x)
-
-pub row_faulty : (a : Result meaning.Value Fault) (e : EvalFault) → IsAnswer a (Err e) → lines.IsAnswer {F = EvalFault} (as_told a) (Err (row_fault e))
-row_faulty a (fault.ZeroDivisor k) h = ap as_told h
-row_faulty a (fault.TooWide k) h = ap as_told h
-row_faulty a (fault.ParameterUndefined k) h = ap as_told h
-row_faulty a (fault.BadScale k) h = ap as_told h
-row_faulty a (fault.NoMember k) h = ap as_told h
-row_faulty a (fault.PeriodMismatch k) h = ap as_told h
-row_faulty a (fault.PeriodOutOfRange k) h = ap as_told h
-row_faulty a (fault.Cycle k) h = ap as_told h
-row_faulty a (fault.TooDeep k) h = ap as_told h
-row_faulty a fault.Memory h = tt
 
 -- What is told
 

@@ -1,7 +1,7 @@
 -- What is found in a folder, step by step.
-use Rattle.std.proofs.Common.{◌≡◌, ◌<◌, ◌≤◌, ◌+◌, ◌||◌, ℕ, zero, suc, Bool, true, false, cond, not, List, [], ◌∷◌, ◌++◌, length, map, take, min, Option, Some, None, option_map, unwrap_or, is_some, fold, refl, sym, ◌∙◌, ap, subst, arith, append_assoc, take_all, append-nil, ap₂, String, string_bytes, get_or, drop, drop-cons, ◌-◌, IsSorted, string_cmp}
+use Rattle.std.proofs.Common.{◌≡◌, ◌<◌, ◌≤◌, ◌+◌, ◌||◌, ℕ, zero, suc, Bool, true, false, cond, not, List, [], ◌∷◌, ◌++◌, length, map, take, Option, Some, unwrap_or, is_some, fold, refl, sym, ◌∙◌, ap, subst, arith, append_assoc, take_all, append-nil, ap₂, String, string_bytes, get_or, drop, drop-cons, ◌-◌, IsSorted, string_cmp}
 use Rattle.std.specs.List.{filter}
-use Rattle.std.proofs.lemmas.List.{length-map, length-take, get_or-map, map-append, take-append-drop}
+use Rattle.std.proofs.lemmas.List.{length-map, get_or-map, map-append, take-append-drop}
 use Rattle.std.proofs.lemmas.List.Sorted.{IsPermutation-map}
 use Rattle.std.specs.Prelude.{IsPermutation}
 use Rattle.std.specs.Cmp.Lexicographic.{slice_cmp}
@@ -13,27 +13,6 @@ use Rattle.fisca_folder.specs.Folder.{Entry, Folder, Found, AreRulePaths, IsList
 use Rattle.fisca_folder.specs.FolderSteps.{with_entry}
 use Rattle.fisca_folder.specs.declared.folder.FolderFault.{FolderFault}
 use Rattle.fisca_folder.specs.declared.folder.FolderFault.TheVariants.{CannotList, CannotRead, TooLong, TooManyFiles, Memory}
-
--- the first entries are all where there are no more
-pub listed_whole : (left : ℕ) (entries : List Entry) (all : Option (List Entry)) → Some entries ≡ option_map (take (left + 1)) all → length entries ≤ left → all ≡ Some entries
-listed_whole left entries None is few = cc
-listed_whole left entries (Some all) is few =
-    let e : entries ≡ take (left + 1) all = cc in
-    let cut : length (take (left + 1) all) ≡ min (left + 1) (length all) = length-take (left + 1) all in
-    let same : length entries ≡ length (take (left + 1) all) = ap length e in
-    ap Some (sym (e ∙ take_all (left + 1) all (omega (arith, cut, same, few))))
-
-pub listed_more : (left : ℕ) (entries : List Entry) (all : Option (List Entry)) → Some entries ≡ option_map (take (left + 1)) all → left < length entries → left < length (unwrap_or all [])
-listed_more left entries None is many = cc
-listed_more left entries (Some all) is many =
-    let e : entries ≡ take (left + 1) all = cc in
-    let cut : length (take (left + 1) all) ≡ min (left + 1) (length all) = length-take (left + 1) all in
-    let same : length entries ≡ length (take (left + 1) all) = ap length e in
-    omega (arith, cut, same, many)
-
-pub listed_none : (most : ℕ) (all : Option (List Entry)) → None ≡ option_map (take most) all → all ≡ None
-listed_none most None is = refl
-listed_none most (Some all) is = cc
 
 -- the entries of a folder, one after another
 entries_added : (path : List ℕ) (entries : List Entry) (found : Found)

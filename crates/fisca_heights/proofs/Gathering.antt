@@ -1,5 +1,5 @@
 -- The work for a key, question by question.
-use Rattle.std.proofs.Common.{◌≡◌, inl, ℕ, zero, suc, ◌<◌, ◌≤◌, max, List, [], ◌∷◌, ◌++◌, length, Ok, Err, refl, sym, ap, subst, ◌∙◌, arith, ⊎_elim}
+use Rattle.std.proofs.Common.{◌≡◌, inl, ℕ, zero, suc, ◌≤◌, max, List, [], ◌∷◌, ◌++◌, Ok, Err, refl, sym, ap, subst, ◌∙◌, arith, ⊎_elim}
 use Rattle.std.proofs.lemmas.List.{append-nil}
 use Rattle.fisca_params.specs.Results.{and_then}
 use Rattle.fisca_meaning.specs.Dialogues.{Value, Key}
@@ -93,10 +93,6 @@ module _ (src : Sources) where
     where
       by_case : (Q : Key → Type 0) (k : Key) → In k (keys_of (g.done ++ (j, v) ∷ [])) → (In k (keys_of g.done) → Q k) → Q j → Q k
       by_case Q k i f here = ⊎_elim f (λ (b : In k (j ∷ [])). ⊎_elim (λ (s : j ≡ k). subst Q s here) (λ (z : ⊥). absurd z) b) (In-append (keys_of g.done) (j ∷ []) k (subst (In k) (keys_more g.done j v) i))
-
-  -- fewer questions are left
-  pub gathered_less : (n : ℕ) (now : Inquiry) (j : Key) (go : Value → Inquiry) → now ≡ asks j go → (v : Value) → value_within src n j ≡ Ok v → length (asked (value_within src n) (go v)) < length (asked (value_within src n) now)
-  gathered_less n now j go e v a = rw (e, a) (omega arith)
 
   -- The formula's value: the key has it, and one more than the greatest height.
   pub gathered_all : (n : ℕ) (key : Key) (d now : Inquiry) (tallest : ℕ) (P : Key → Type 0) (v : Value) → src key ≡ formula d → IsGathered src n d now tallest P → now ≡ gives v → (value_within src (suc n) key ≡ Ok v) × IsHeight src key (suc tallest)

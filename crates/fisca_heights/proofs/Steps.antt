@@ -1,5 +1,5 @@
 -- The formula of the last key of a stack: of its inquiry q, now is left.
-use Rattle.std.proofs.Common.{◌≡◌, ◌⊎◌, inl, inr, ℕ, suc, ◌+◌, ◌<◌, max, List, [], ◌∷◌, ◌++◌, length, append_assoc, Result, Ok, Err, refl, sym, ap, subst, ◌∙◌, arith, ⊎_elim}
+use Rattle.std.proofs.Common.{◌≡◌, ◌⊎◌, inl, inr, ℕ, suc, ◌+◌, max, List, [], ◌∷◌, ◌++◌, append_assoc, Result, Ok, Err, refl, sym, ap, subst, ◌∙◌, arith, ⊎_elim}
 use Rattle.std.proofs.lemmas.List.{append-nil}
 use Rattle.fisca_meaning.specs.Dialogues.{Value, Key}
 use Rattle.fisca_answers.specs.Answers.{Halt, fault, out, Sources, formula, outcome, through, value_within, verdict}
@@ -13,7 +13,7 @@ use Rattle.fisca_heights.specs.Gathered.{IsGathered, keys_of}
 use Rattle.fisca_heights.specs.Memory.{IsKnown}
 use Rattle.fisca_heights.specs.Stacks.{IsStack, IsWorking}
 use Rattle.fisca_heights.specs.Work.{IsWork, Covered, Passed, PassedPath}
-use Rattle.fisca_heights.proofs.Gathering.{leads_asked, gathered_asks, gathered_ends, gathered_stops, gathered_more, gathered_less, gathered_wider, gathered_all}
+use Rattle.fisca_heights.proofs.Gathering.{leads_asked, gathered_asks, gathered_ends, gathered_stops, gathered_more, gathered_wider, gathered_all}
 use Rattle.fisca_heights.proofs.Growing.{asked_work}
 use Rattle.fisca_heights.proofs.WorkDone.{covered_value, work_stopped, passed_by, passed_append}
 
@@ -108,9 +108,6 @@ module _ (src : Sources) (stack : List Key) (key : Key) (q now : Inquiry) (talle
         → IsGathered src (left_below stack) q (go v) (max tallest h) (Covered src M')
     needed_more M' up v h known c =
         gathered_more src n q now tallest (Covered src M') (gathered_wider src n q now tallest P (Covered src M') (covered_wider src M M' up) gathered) j go is v h known.answers known.height_is c
-
-    pub needed_less : (v : Value) (h : ℕ) → IsKnown src (left_below stack) j v h → length (asked (value_within src (left_below stack)) (go v)) < length (asked (value_within src (left_below stack)) now)
-    needed_less v h known = gathered_less src n now j go is v known.answers
 
     -- the work of what is asked for is of the work of the key
     pub needs_work : (k : Key) → IsWork src (left_below stack) j k → IsWork src (suc (left_below stack)) key k

@@ -109,9 +109,6 @@ all_in (x ∷ xs) es up = (up x.0 own, all_in xs es (λ q h. up q (by q (same_ke
     by q true h = refl
     by q false h = h
 
-pub all_there : (es : Entries) → AllByRecursion (λ e. has es e.0 ≡ true) es
-all_there es = all_in es es (λ q h. h)
-
 -- The first members are passed over
 
 skipped : (line : ℕ) (x : Value) (ks : List Key) (es : Entries) (n : ℕ) → ((i : ℕ) (k : Key) → i < n → slice_get ks i ≡ Some k → has es k ≡ true)

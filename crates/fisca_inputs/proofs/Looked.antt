@@ -23,10 +23,6 @@ lookup-behind {K} {X} test (e ∷ es) fs = by (test e.0) (lookup-behind test es 
     by true h = refl
     by false h = h
 
-otherwise_all : {X : Type 0} (a b c : Option X) → otherwise (otherwise a b) c ≡ otherwise a (otherwise b c)
-otherwise_all (Some x) b c = refl
-otherwise_all None b c = refl
-
 otherwise_none : {X : Type 0} (a : Option X) → otherwise a None ≡ a
 otherwise_none (Some x) = refl
 otherwise_none None = refl

@@ -1,5 +1,5 @@
 -- Defaults of a row of members.
-use Rattle.std.proofs.Common.{◌≡◌, ℕ, zero, suc, ◌+◌, ◌<◌, List, [], ◌∷◌, ◌++◌, length, map, Bool, true, false, Some, option_map, slice_get, refl, sym, ap, ◌∙◌, arith, if◌then◌else◌}
+use Rattle.std.proofs.Common.{◌≡◌, ℕ, zero, suc, ◌+◌, ◌<◌, List, [], ◌∷◌, ◌++◌, length, map, Bool, true, false, Some, option_map, slice_get, refl, ap, ◌∙◌, arith, if◌then◌else◌}
 use Rattle.std.specs.Prelude.{Ok, Err, nat_lt}
 use Rattle.std.specs.List.{range_with_len}
 use Rattle.std.proofs.lemmas.Option.{slice_get-map}
@@ -7,7 +7,6 @@ use Rattle.fisca_time.specs.Period.{Span}
 use Rattle.fisca_inputs.specs.Defaults.{row_of}
 use Rattle.fisca_inputs.specs.Entries.{Entries, key, has, limit, put_free}
 use Rattle.fisca_inputs.specs.Faults.{at_line}
-use Rattle.fisca_inputs.specs.declared.fault.SituationFault.{SituationFault}
 use Rattle.fisca_inputs.specs.declared.fault.SituationKind.TheVariants.{TooMany}
 use Rattle.fisca_inputs.specs.declared.given.Value.{Value}
 use Rattle.fisca_inputs.specs.declared.key.Key.{Key}
@@ -22,15 +21,6 @@ module _ (m n : ℕ) (x : Value) (k : Key) (es : Entries) where
       by true b e = e
       by false true e = e
       by false false e = cc
-
-  pub refused_at : (f : SituationFault) → put_free m x k es ≡ Err f → (f.kind ≡ TooMany) × (put_free n x k es ≡ Err (at_line n TooMany))
-  refused_at f h = by (has es k) (nat_lt (length es) limit) h
-    where
-      by : (a b : Bool) → (if a then Ok es else (if b then Ok (es ++ (k, x) ∷ []) else Err (at_line m TooMany))) ≡ Err f
-          → (f.kind ≡ TooMany) × ((if a then Ok es else (if b then Ok (es ++ (k, x) ∷ []) else Err (at_line n TooMany))) ≡ Err (at_line n TooMany))
-      by true b e = cc
-      by false true e = cc
-      by false false e = let same : at_line m TooMany ≡ f = cc in (sym (ap (λ (g : SituationFault). g.kind) same), refl)
 
 range_at : (a n i : ℕ) → i < n → slice_get (range_with_len a n) i ≡ Some (a + i)
 range_at a zero i h = absurd (omega arith)

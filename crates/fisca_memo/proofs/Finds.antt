@@ -1,5 +1,5 @@
 -- What is found of keys after one more was put, and after some were taken out.
-use Rattle.std.proofs.Common.{◌≡◌, ℕ, zero, suc, ◌+◌, ◌<◌, length, arith, Bool, true, false, cond, not, ◌==◌, ◌&&◌, List, [], ◌∷◌, ◌++◌, Option, None, Some, option_map, if◌then◌else◌, Result, Ok, Err, OnOk, OnErr, refl, sym, ap, subst, ◌∙◌}
+use Rattle.std.proofs.Common.{◌≡◌, ℕ, zero, suc, ◌+◌, ◌<◌, length, arith, Bool, true, false, cond, not, ◌==◌, ◌&&◌, List, [], ◌∷◌, ◌++◌, Option, None, Some, option_map, if◌then◌else◌, Result, Ok, Err, OnOk, refl, sym, ap, subst, ◌∙◌}
 use Rattle.std.specs.Prelude.{filter, slice_set}
 use Rattle.std.specs.List.{AllByRecursion}
 use Rattle.std.specs.Map.{keys_of, lookup}
@@ -192,7 +192,3 @@ module _ (key : Key) (known : Known) where
 pub on_ok : (X E : Type 0) (r : Result X E) (P Q : Type 0) → (P → Q) → OnOk r P → OnOk r Q
 on_ok X E (Ok x) P Q f p = f p
 on_ok X E (Err e) P Q f p = p
-
-pub on_either : (X E : Type 0) (r : Result X E) (P Q R : Type 0) → OnOk r P → OnErr r Q → (P → R) → (Q → R) → R
-on_either X E (Ok x) P Q R p q f g = f p
-on_either X E (Err e) P Q R p q f g = g q

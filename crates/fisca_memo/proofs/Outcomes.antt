@@ -1,5 +1,5 @@
 -- What holds whatever is answered.
-use Rattle.std.proofs.Common.{◌≡◌, ℕ, Result, Ok, Err, refl}
+use Rattle.std.proofs.Common.{ℕ, Result, Ok, Err, refl}
 use Rattle.std.specs.Prelude.{◌≢◌, OnOk, IfErr}
 use Rattle.fisca_inputs.specs.declared.given.Value.{Value}
 use Rattle.fisca_memo.specs.declared.known.Known.{Known}
@@ -7,8 +7,6 @@ use Rattle.fisca_eval.specs.Faults.{told}
 use Rattle.fisca_eval.specs.declared.fault.EvalFault.{EvalFault}
 use Rattle.fisca_eval.specs.declared.fault.EvalFault.TheVariants as fault
 use Rattle.fisca_memo.proofs.Recalls.{if_told}
-use Rattle.fisca_memo.proofs.Risen.{lost_none}
-use Rattle.fisca_memo.specs.Counting.{AreLost}
 use Rattle.fisca_memo.specs.Recalled.{IfTold}
 
 pub on_ok_any : (r : Result Known EvalFault) (P : Type 0) → P → OnOk r P
@@ -18,10 +16,6 @@ on_ok_any (Err e) P p = tt
 pub told_any : (r : Result Known EvalFault) (P : Type 0) → P → IfErr r (λ e. IfTold (told e) P)
 told_any (Ok x) P p = tt
 told_any (Err e) P p = if_told (told e) P p
-
-pub lost_any : (r : Result Known EvalFault) (before after : ℕ) → after ≡ before → AreLost r before after
-lost_any (Ok x) before after e = e
-lost_any (Err f) before after e = lost_none (told f) before after e
 
 -- unless there was no memory
 pub unless_memory : (e : EvalFault) (P : Type 0) → IfTold (told e) P → ◌≢◌ {A = Result Value EvalFault} (Err e) (Err fault.Memory) → P

@@ -1,13 +1,12 @@
 -- Counts rise by what is added.
-use Rattle.std.proofs.Common.{◌≡◌, inl, ℕ, zero, suc, ◌+◌, ◌<◌, ◌^◌, ◌==◌, Bool, true, false, if◌then◌else◌, Option, None, Some, refl, ap, subst, ◌∙◌, arith}
+use Rattle.std.proofs.Common.{◌≡◌, ℕ, zero, suc, ◌+◌, ◌<◌, ◌^◌, ◌==◌, Bool, true, false, if◌then◌else◌, refl, ap, subst, ◌∙◌, arith}
 use Rattle.fisca_meaning.specs.Dialogues.{Key}
-use Rattle.fisca_answers.specs.Inquiry.{Fault}
 use Rattle.fisca_heights.specs.Added.{AreAdded}
 use Rattle.fisca_heights.specs.Entries.{Entry, Entries, Remembered, with_entry}
 use Rattle.fisca_heights.proofs.Adding.{added_none, added_entry, added_on}
 use Rattle.fisca_memo.specs.Counted.{one_more, with_kept}
 use Rattle.fisca_memo.specs.declared.counts.Counts.{Counts}
-use Rattle.fisca_memo.specs.Counting.{raised, IsCounted, IsLost}
+use Rattle.fisca_memo.specs.Counting.{raised, IsCounted}
 
 pub raised_on : (count m n : ℕ) → raised (raised count m) n ≡ raised count (m + n)
 raised_on count m zero = let e : m ≡ m + zero = omega arith in ap (raised count) e
@@ -49,7 +48,3 @@ counts_rise old new before after c h k =
     omega (arith, free, bound)
 
 -- Nothing is lost
-
-pub lost_none : (o : Option Fault) (before after : ℕ) → after ≡ before → IsLost o before after
-lost_none None before after e = inl e
-lost_none (Some f) before after e = e

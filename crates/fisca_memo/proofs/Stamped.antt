@@ -32,17 +32,6 @@ module _ (old new : Key → Option Stamped) (turned : List ℕ) (clock : ℕ) (t
 
   -- what reads the wheel is taken out
   module _ (wheel : ℕ) (left : (k : Key) → new k ≡ unless (λ s. reads_wheel s.known.reads wheel) (old k)) where
-    pub left_kept : (k : Key) (s : Stamped) → new k ≡ Some s → s.kept_at ≤ clock
-    left_kept k s is = by_entry (old k) refl (sym (left k) ∙ is)
-      where
-        by_entry : (o : Option Stamped) → old k ≡ o → unless (λ s. reads_wheel s.known.reads wheel) o ≡ Some s → s.kept_at ≤ clock
-        by_entry None e h = absurd (cc)
-        by_entry (Some t) e h = by_bit (reads_wheel t.known.reads wheel) h
-          where
-            by_bit : (b : Bool) → (if b then None else Some t) ≡ Some s → s.kept_at ≤ clock
-            by_bit true h = absurd (cc)
-            by_bit false h = times k s (e ∙ h)
-
     pub left_fresh : (k : Key) → if_fresh turned (new k) ≡ unless (λ known. reads_wheel known.reads wheel) (if_fresh turned (old k))
     left_fresh k = ap (if_fresh turned) (left k) ∙ by_entry (old k)
       where
@@ -74,6 +63,3 @@ module _ (old new : Key → Option Stamped) (turned : List ℕ) (clock : ℕ) (t
           by_bits true false p q = rw (fresh_moved turned t.known.reads wheel t.kept_at (clock + 1) later within p) refl
           by_bits false true p q = rw (fresh_still turned t.known.reads wheel t.kept_at (clock + 1) p, q, p) refl
           by_bits false false p q = rw (fresh_still turned t.known.reads wheel t.kept_at (clock + 1) p, q) refl
-
-pub same_fresh : (old new : Key → Option Stamped) (turned : List ℕ) → ((k : Key) → new k ≡ old k) → (k : Key) → if_fresh turned (new k) ≡ if_fresh turned (old k)
-same_fresh old new turned same k = ap (if_fresh turned) (same k)

@@ -1,8 +1,8 @@
 -- The formula of the last of the keys, question by question.
-use Rattle.std.proofs.Common.{◌≡◌, ◌⊎◌, ℕ, suc, ◌+◌, ◌<◌, max, List, [], ◌∷◌, ◌++◌, length, map, Option, Some, None, Result, Err, sym, ap, subst}
+use Rattle.std.proofs.Common.{◌≡◌, ◌⊎◌, ℕ, suc, ◌+◌, max, List, [], ◌∷◌, ◌++◌, map, Option, Some, None, Result, Err, sym, ap, subst}
 use Rattle.std.specs.Int.Bits.{bit_or}
-use Rattle.fisca_answers.specs.Answers.{Sources, value_within}
-use Rattle.fisca_answers.specs.Chains.{AsksFor, asked}
+use Rattle.fisca_answers.specs.Answers.{Sources}
+use Rattle.fisca_answers.specs.Chains.{AsksFor}
 use Rattle.fisca_answers.specs.Inquiry.{Fault, Inquiry, asks, named, of_key}
 use Rattle.fisca_answers.specs.Stacks.{left_below}
 use Rattle.fisca_formula.specs.Formulas.{formula_view}
@@ -13,7 +13,7 @@ use Rattle.fisca_heights.specs.Reads.{IsReads}
 use Rattle.fisca_heights.specs.Work.{IsWork, Covered, PassedPath}
 use Rattle.fisca_heights.proofs.Gathering.{gathered_none, gathered_asks}
 use Rattle.fisca_heights.proofs.Reading.{AreRead, ReadsWithin, read_more, reading_done, reading_more}
-use Rattle.fisca_heights.proofs.Steps.{worked_value, worked_all, worked_fault, fault_stopped, needed_stack, needed_fault, needed_more, needed_less, needs_work, needs_stopped, needs_passed}
+use Rattle.fisca_heights.proofs.Steps.{worked_value, worked_all, worked_fault, fault_stopped, needed_stack, needed_fault, needed_more, needs_work, needs_stopped, needs_passed}
 use Rattle.fisca_inputs.specs.Seen.{key_seen, value_seen}
 use Rattle.fisca_inputs.specs.Typed.{IsValueOf}
 use Rattle.fisca_inputs.specs.declared.given.Value.{Value as Given}
@@ -125,10 +125,6 @@ module _ (s : Scene) (d : Dialogue) (key : Key) (keys : List Key) (r : Dialogue)
       pub next_more : (M' : meaning.Key → Type 0) → ((i : meaning.Key) → M i → M' i) → Covered (sources_in s) M' (key_seen j)
           → IsGathered (sources_in s) (left_below (map key_seen keys)) (of_key (key_seen key) d) (of_key (key_seen key) (go (value_seen x.value))) (max tallest x.height) (Covered (sources_in s) M')
       next_more M' up c = needed_more src stack k q now tallest M is.source g (key_seen j) then_left asks_so M' up (value_seen x.value) x.height known c
-
-      pub next_less : length (asked (value_within (sources_in s) (left_below (map key_seen keys))) (of_key (key_seen key) (go (value_seen x.value))))
-          < length (asked (value_within (sources_in s) (left_below (map key_seen keys))) (of_key (key_seen key) r))
-      next_less = needed_less src stack k q now tallest M is.source g (key_seen j) then_left asks_so (value_seen x.value) x.height known
 
       pub next_sound : IsScene s → GivesOnly (known_in s) (IsValueOf (known_in s) key.variable) r → GivesOnly (known_in s) (IsValueOf (known_in s) key.variable) (go (value_seen x.value))
       next_sound scene h =

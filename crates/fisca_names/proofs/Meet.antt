@@ -1,21 +1,13 @@
 -- Keys and plurals of roles beside the variables of their entity, one after another.
-use Rattle.std.proofs.Common.{◌≡◌, List, [], ◌∷◌, ◌++◌, Bool, true, false, true≢false, ◌||◌, refl, sym, ap, ◌∙◌}
+use Rattle.std.proofs.Common.{◌≡◌, List, [], ◌++◌, Bool, true, false, true≢false, ◌||◌, refl, sym, ap, ◌∙◌}
 use Rattle.std.proofs.lemmas.List.Folds.{list_any-append}
 use Rattle.std.specs.List.{list_any}
 use Rattle.fisca_names.specs.Seen.{NotesTitles, same_within}
-use Rattle.fisca_names.specs.Titles.{Adds}
 use Rattle.fisca_names.specs.declared.within.Within.{Within}
-use Rattle.fisca_names.proofs.Some.{or_none}
 
 module _ (variables : Within → Bool) where
   pub met_none : (s : Within → Bool) → NotesTitles variables s s [] false
   met_none s = record { told = refl; noted = λ e w. refl }
-
-  pub met_one : (old new : Within → Bool) (w : Within) → false ≡ variables w → Adds same_within old new (w ∷ []) → NotesTitles variables old new (w ∷ []) false
-  met_one old new w told noted = record { told = told ∙ sym (or_none (variables w)); noted = λ e. noted }
-
-  pub met_here : (old new : Within → Bool) (w : Within) → true ≡ variables w → NotesTitles variables old new (w ∷ []) true
-  met_here old new w told = record { told = told ∙ sym (or_none (variables w)); noted = λ e. absurd (true≢false e) }
 
   -- one of these meets a variable, whatever follows
   pub met_stop : (old mid new : Within → Bool) (xs ys : List Within) → NotesTitles variables old mid xs true → NotesTitles variables old new (xs ++ ys) true

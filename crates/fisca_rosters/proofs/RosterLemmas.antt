@@ -1,5 +1,5 @@
 -- Groups without persons, and persons put into groups.
-use Rattle.std.proofs.Common.{◌≡◌, ◌≤◌, ◌<◌, ◌⊎◌, inl, inr, ⊎_elim, ◌∙◌, ℕ, zero, suc, ◌+◌, List, [], ◌∷◌, ◌++◌, append_assoc, arith, drop, drop-cons, get_or, length, slice_get, Bool, true, false, Option, Some, None, refl, sym, subst, ap, add-one, if◌then◌else◌}
+use Rattle.std.proofs.Common.{◌≡◌, ◌≤◌, ◌<◌, ◌⊎◌, inl, inr, ⊎_elim, ◌∙◌, ℕ, zero, suc, ◌+◌, List, [], ◌∷◌, ◌++◌, append_assoc, arith, drop, drop-cons, get_or, length, slice_get, Bool, true, false, Option, refl, sym, subst, ap, add-one, if◌then◌else◌}
 use Rattle.std.proofs.lemmas.List.{append-nil}
 use Rattle.fisca_rosters.specs.declared.entity_members.EntityMembers.{EntityMembers}
 use Rattle.fisca_rosters.specs.declared.home.Home.{Home}
@@ -38,15 +38,6 @@ past : (rows : List (List ℕ)) (g : ℕ) → length rows ≤ g → get_or rows 
 past [] g h = refl
 past (r ∷ rows) zero h = absurd (omega (arith, h))
 past (r ∷ rows) (suc g) h = past rows g (omega (arith, h))
-
--- groups past the last row have no persons
-pub all_rows : (rows : List (List ℕ)) (homes : List (Option Home)) → ((g : ℕ) → length rows ≤ g → holders_from g 0 homes ≡ [])
-    → ((g : ℕ) → g < length rows → get_or rows g [] ≡ holders_from g 0 homes) → IsRoster homes rows
-all_rows rows homes none some g = by_place (cases_lt g (length rows))
-  where
-    by_place : (g < length rows) ⊎ (length rows ≤ g) → get_or rows g [] ≡ holders_from g 0 homes
-    by_place (inl h) = some g h
-    by_place (inr h) = past rows g h ∙ sym (none g h)
 
 -- the members at hand come first of those that are left
 pub roster_step : (all : List EntityMembers) (i : ℕ) (k : EntityMembers) (done new : List (List (List ℕ))) (r : List (List ℕ)) → i < length all → k ≡ get_or all i k

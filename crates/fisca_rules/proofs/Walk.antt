@@ -1,19 +1,18 @@
 -- The walk over the statements, one after another.
-use Rattle.std.proofs.Common.{◌≡◌, ◌≢◌, ◌∙◌, sym, ap, refl, subst, arith, ℕ, length, List, [], ◌∷◌, ◌++◌, Option, Some, None, Result, Ok, Err}
+use Rattle.std.proofs.Common.{◌≡◌, ◌∙◌, sym, ap, refl, arith, ℕ, length, List, [], ◌∷◌, ◌++◌, Option, None, Result, Ok, Err}
 use Rattle.fisca_names.specs.Clashes.{second_name}
 use Rattle.fisca_names.specs.Names.{Placed, named_once, names_from}
 use Rattle.fisca_names.specs.Outcomes.{Tells}
-use Rattle.fisca_names.specs.Seen.{Holds, TellsOne}
+use Rattle.fisca_names.specs.Seen.{TellsOne}
 use Rattle.fisca_names.specs.declared.fault.BuildFault.{BuildFault}
 use Rattle.fisca_names.specs.declared.seen.Seen.{Seen}
 use Rattle.fisca_params.specs.Results.{and_then}
 use Rattle.fisca_syntax.specs.Modules.{Statement}
-use Rattle.fisca_tokens.specs.declared.fault.Kind.TheVariants as kind
 use Rattle.fisca_variables.specs.declared.declared.Declared.{Declared}
 use Rattle.fisca_rules.specs.declared.found.Found.{Found as Held}
 use Rattle.fisca_rules.specs.Build.{Found, Whole as Tables, declared_by, declared_in, enums_in, found_from, none_yet, statement_found, with_person}
 use Rattle.fisca_rules.specs.FoundViews.{found}
-use Rattle.fisca_rules.specs.Walk.{Ends, Reached}
+use Rattle.fisca_rules.specs.Walk.{Reached}
 
 abbrev Names : Type 0
 Names = Result (Unit {0}) BuildFault
@@ -33,13 +32,6 @@ next_statement : (earlier : List Statement) (place : ℕ) (s : Statement) (left 
     → names_from earlier (placed place s ∷ left) ≡ and_then (named_once place o) (λ _. names_from (earlier ++ s ∷ []) left)
 next_statement earlier place s left o same = ap (λ p. and_then (named_once place p) (λ _. names_from (earlier ++ s ∷ []) left)) (sym same)
 
--- the second pass goes on where it has no fault yet
-pub goes_on : {X : Type 0} (view : X → Found) (o : Whole) (f : Held) (next : Found → Whole) (result : Result X BuildFault) → Tells found o (Ok f) → Tells view (next (found f)) result → Tells view (and_then o next) result
-goes_on view o f next result t g = subst (λ q. Tells view q result) (ap (λ p. and_then p next) (sym t)) g
-
-pub stays : (o : Whole) (f : BuildFault) (next : Found → Whole) → Tells found o (Err f) → f.kind ≢ kind.Memory → and_then o next ≡ Err f
-stays o f next t known = ap (λ p. and_then p next) (t known)
-
 -- a statement whose names are new
 pub one_on : (c : Declared) (old new : Seen) (so_far behind : Result Held BuildFault) (names : Names) (whole : Whole) (place : ℕ) (s : Statement) (left : List Placed)
     → Reached c old so_far names whole (placed place s ∷ left) → TellsOne old new s None
@@ -53,41 +45,10 @@ one_on c old new so_far behind names whole place s left r one step = record {
   found_behind = r.found_behind ∙ joined r.outcome (λ f. found_from c f (placed place s ∷ left)) (λ f. statement_found c f place s) (λ g. found_from c g left) (λ f. refl);
 }
 
--- a statement with a name that came before
-pub one_stops : (c : Declared) (old new : Seen) (so_far : Result Held BuildFault) (names : Names) (whole : Whole) (place line : ℕ) (s : Statement) (left : List Placed)
-    → Reached c old so_far names whole (placed place s ∷ left) → TellsOne old new s (Some line) → names ≡ Err (record { «module» = place; line = line; kind = kind.DuplicateName })
-one_stops c old new so_far names whole place line s left r one = r.named ∙ next_statement r.earlier place s left (Some line) (one.told r.earlier r.held)
-
--- at the first statement
-pub begins : (c : Declared) (seen : Seen) (f : Held) (all : List Placed) → Holds seen [] → found f ≡ none_yet → Reached c seen (Ok f) (names_from [] all) (found_from c none_yet all) all
-begins c seen f all h e = record {
-  earlier = [];
-  held = h;
-  named = refl;
-  outcome = Ok none_yet;
-  told = ap (λ g. Ok g) (sym e);
-  found_behind = refl;
-}
-
 -- behind the last one
-pub ends : (c : Declared) (seen : Seen) (so_far : Result Held BuildFault) (names : Names) (whole : Whole) (left : List Placed) → left ≡ [] → Reached c seen so_far names whole left → Ends names whole (Ok so_far)
-ends c seen so_far names whole left e r =
-    let last = ap (λ ps. and_then r.outcome (λ f. found_from c f ps)) e ∙ same r.outcome in (
-      r.named ∙ ap (names_from r.earlier) e,
-      subst (λ o. Tells found o so_far) (sym (r.found_behind ∙ last)) r.told,
-    )
-  where
-    same : (o : Whole) → and_then o (λ f. Ok f) ≡ o
-    same (Ok f) = refl
-    same (Err k) = refl
-
 pub none_left : {X : Type 0} (n : ℕ) (xs : List X) → n ≡ 0 → n ≡ length xs → xs ≡ []
 none_left n [] e f = refl
 none_left n (x ∷ xs) e f = absurd (omega arith)
-
--- with the persons
-pub whole_names : {Y : Type 0} (names : Names) (f : BuildFault) (next : Result Y BuildFault) → names ≡ Err f → and_then names (λ _. next) ≡ Err f
-whole_names names f next e = ap (λ n. and_then n (λ _. next)) e
 
 -- The tables behind both passes
 

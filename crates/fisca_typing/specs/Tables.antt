@@ -120,10 +120,6 @@ person_by (Some e) = e.is_person
 abbrev pub is_person_at : Tables → ℕ → Bool
 is_person_at c place = person_by (slice_get c.entities place)
 
--- a variable of persons
-abbrev pub is_of_person : Tables → Variable → Bool
-is_of_person c v = is_person_at c v.entity
-
 abbrev pub variable_named : Tables → List ℕ → Option (ℕ × Variable)
 variable_named c t = first_where (λ v. bytes_eq v.name t) 0 c.variables
 

@@ -3,7 +3,7 @@ use Rattle.std.proofs.Common.{◌≡◌, ◌∙◌, ℕ, ◌+◌, ap, refl, sym,
 use Rattle.std.specs.Prelude.{Result, Ok}
 use Rattle.std.proofs.lemmas.List.{length-append}
 use Rattle.std.proofs.lemmas.List.Sums.{sum_by-append}
-use Rattle.fisca_verdicts.specs.Report.{AreTold, IsReport, Scene, counted, counts_text, failed_of, passed_of, report_text, test_passes, test_text, tests_text}
+use Rattle.fisca_verdicts.specs.Report.{AreTold, Scene, counted, failed_of, passed_of, test_passes, test_text, tests_text}
 use Rattle.fisca_verdicts.specs.Tests.{Test}
 use Rattle.fisca_verdicts.specs.declared.all.Verdict.{Verdict}
 use Rattle.fisca_verdicts.specs.declared.fault.TestFault.{TestFault}
@@ -75,16 +75,3 @@ step scene told t v old mid new b h is w =
 pub all_told : {F : Type 0} (scene : Test → Scene F) (outcome : Result (List Test) TestFault) (ts : List Test) (v : Verdict) (old new : List ℕ)
     → outcome ≡ Ok ts → Told scene ts v old new → AreTold scene outcome old new v
 all_told scene outcome ts v old new is h = (ts, is, h.passed, h.failed, h.written)
-
--- and last the counts
-pub reported : {F : Type 0} (scene : Test → Scene F) (outcome : Result (List Test) TestFault) (v : Verdict) (mid new : List ℕ)
-    → AreTold scene outcome [] mid v → new ≡ mid ++ counts_text v.passed v.failed → IsReport scene outcome v new
-reported scene outcome v mid new h w =
-    let ts = h.0 in (
-      ts,
-      h.1,
-      h.2,
-      h.3,
-      w ∙ ap (λ x. x ++ counts_text v.passed v.failed) h.4 ∙ ap (λ n. tests_text scene 1 ts ++ counts_text n v.failed) h.2
-          ∙ ap (λ n. tests_text scene 1 ts ++ counts_text (passed_of scene ts) n) h.3,
-    )

@@ -1,10 +1,11 @@
 //! Numbers and texts, and faults that are told later.
-ghost use Rattle.std.specs.Prelude.{◌≡◌, Result, IfOk};
+ghost use Rattle.std.specs.Prelude.{◌≡◌, Result, Err, IfOk, OnErr};
 ghost use Rattle.fisca_calls.specs.Arguments.{outcome};
 ghost use Rattle.fisca_formula.specs.Elements.{text_said};
 ghost use Rattle.fisca_nodes.specs.Outcomes.{Gives};
 ghost use Rattle.fisca_nodes.specs.Views.{thing as thing_of};
 ghost use Rattle.fisca_num.specs.Literal.{number_of_literal};
+ghost use Rattle.fisca_tokens.specs.declared.fault.Kind.TheVariants.{Memory};
 ghost use Rattle.fisca_tokens.specs.declared.fault.Kind.{Kind};
 ghost use Rattle.fisca_typing.specs.Things as things;
 ghost use Rattle.fisca_typing.specs.Typing as spec;
@@ -38,9 +39,10 @@ pub fn text_thing(alloc: Global, source: &[u8]) -> Result<Thing, Kind>
     Ok(Thing::Text(content(alloc, source)?))
 }
 
-/// What was found, or its fault, which is told where it is asked for; but want of memory at once.
+/// What was found, or its fault, which is told where it is asked for; but want of memory, and nothing else, at once.
 pub fn if_known(found: Result<Thing, Kind>) -> Result<Result<Thing, Kind>, AllocError>
-    ensures { (told : Result things.Thing Kind) → Gives thing_of told found → IfOk result (λ x. outcome x ≡ told) }
+    ensures known { (told : Result things.Thing Kind) → Gives thing_of told found → IfOk result (λ x. outcome x ≡ told) }
+    ensures memory { OnErr result (found ≡ Err Memory) }
 {
     match found {
         Err(Kind::Memory) => Err(AllocError),

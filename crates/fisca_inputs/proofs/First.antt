@@ -2,10 +2,10 @@
 use Rattle.std.proofs.Common.{◌≡◌, ℕ, zero, suc, ◌<◌, List, [], ◌∷◌, ◌++◌, drop, Bool, true, false, cond, Option, Some, None, is_some, slice_get, refl, sym, ap, ◌∙◌, arith, if◌then◌else◌, ◌&&◌, ◌||◌, inl, inr}
 use Rattle.std.specs.Prelude.{◌⊎◌, ◌==◌, Ok}
 use Rattle.std.specs.List.{AllByRecursion, list_any}
-use Rattle.std.specs.Map.{keys_of, lookup, set_value}
+use Rattle.std.specs.Map.{keys_of, lookup}
+use Rattle.std.specs.Option.{unwrap_or}
 use Rattle.std.specs.Ordering.{eq_by_cmp}
 use Rattle.std.proofs.lemmas.Bool.{eq-eqb}
-use Rattle.std.proofs.lemmas.Map.{keys-set_value}
 use Rattle.std.proofs.lemmas.Option.{slice_get_within}
 use Rattle.indexmap.specs.IndexMap.{insert_entry}
 use Rattle.fisca_params.specs.Results.{and_then}
@@ -20,34 +20,25 @@ use Rattle.fisca_inputs.specs.declared.given.Value.{Value}
 use Rattle.fisca_inputs.specs.declared.key.Key.{Key}
 use Rattle.fisca_inputs.proofs.Beside.{looked-beside}
 use Rattle.fisca_inputs.proofs.Looked.{looked-like}
-use Rattle.fisca_inputs.proofs.Puts.{insert_entry-last}
 use Rattle.fisca_inputs.proofs.Rows.{row_at, length-row}
 
 -- A member of a row is noted
 
 module _ (row : Key) where
-  any-keys : (rows : List (Key × ℕ)) → list_any (same_key row) (keys_of rows) ≡ is_some (lookup (same_key row) rows)
-  any-keys [] = refl
-  any-keys (r ∷ rows) = by (same_key row r.0) (any-keys rows)
+  -- the keys are those before, with the row behind them where it is none of them
+  pub keys_noted : (rows : List (Key × ℕ)) (n : ℕ) → keys_of (insert_entry same_key rows row n) ≡ and_row (keys_of rows) row
+  keys_noted [] n = refl
+  keys_noted (r ∷ rows) n = by (same_key row r.0) (keys_noted rows n)
     where
-      by : (b : Bool) → list_any (same_key row) (keys_of rows) ≡ is_some (lookup (same_key row) rows)
-          → (b || list_any (same_key row) (keys_of rows)) ≡ is_some (cond b (Some r.1) (lookup (same_key row) rows))
+      behind : (b : Bool) → (if b then r.0 ∷ keys_of rows else r.0 ∷ (keys_of rows ++ row ∷ [])) ≡ r.0 ∷ (if b then keys_of rows else keys_of rows ++ row ∷ [])
+      behind true = refl
+      behind false = refl
+
+      by : (b : Bool) → keys_of (insert_entry same_key rows row n) ≡ and_row (keys_of rows) row
+          → keys_of (if b then (r.0, n) ∷ rows else r ∷ insert_entry same_key rows row n)
+          ≡ (if (b || list_any (same_key row) (keys_of rows)) then r.0 ∷ keys_of rows else r.0 ∷ (keys_of rows ++ row ∷ []))
       by true rest = refl
-      by false rest = rest
-
-  keys-last : (rows : List (Key × ℕ)) (n : ℕ) → keys_of (rows ++ (row, n) ∷ []) ≡ keys_of rows ++ row ∷ []
-  keys-last [] n = refl
-  keys-last (r ∷ rows) n = ap (λ ks. r.0 ∷ ks) (keys-last rows n)
-
-  pub keys_there : (rows : List (Key × ℕ)) (first n : ℕ) → Some first ≡ lookup (same_key row) rows → keys_of (set_value (same_key row) rows n) ≡ and_row (keys_of rows) row
-  keys_there rows first n found =
-      keys-set_value (same_key row) rows n
-      ∙ sym (ap (λ b. if b then keys_of rows else keys_of rows ++ row ∷ []) (any-keys rows ∙ ap is_some (sym found)))
-
-  pub keys_behind : (rows new : List (Key × ℕ)) (n : ℕ) → lookup (same_key row) rows ≡ None → new ≡ insert_entry same_key rows row n → keys_of new ≡ and_row (keys_of rows) row
-  keys_behind rows new n none e =
-      ap keys_of (e ∙ insert_entry-last row n rows none) ∙ keys-last rows n
-      ∙ sym (ap (λ b. if b then keys_of rows else keys_of rows ++ row ∷ []) (any-keys rows ∙ ap is_some none))
+      by false rest = ap (λ ks. r.0 ∷ ks) rest ∙ sym (behind (list_any (same_key row) (keys_of rows)))
 
 module _ (es : Entries) (row : Key) (member : ℕ) (there : has es (key row.variable member row.period) ≡ true) where
   like : (k : Key) → same_key row k ≡ true → has es (key k.variable member k.period) ≡ true
@@ -71,30 +62,20 @@ module _ (es : Entries) (row : Key) (member : ℕ) (there : has es (key row.vari
       by (inl p) = had m p
       by (inr e) = ap (λ j. has es (key k.variable j k.period)) e ∙ like k same
 
-  pub noted_there : (rows : List (Key × ℕ)) (first n : ℕ) → Some first ≡ lookup (same_key row) rows → Each first n
-      → AllByRecursion (HaveFirst es) rows → AllByRecursion (HaveFirst es) (set_value (same_key row) rows n)
-  noted_there [] first n found each all = cc
-  noted_there (r ∷ rows) first n found each all = by (same_key row r.0) refl found (λ f. noted_there rows first n f each all.1)
-    where
-      by : (b : Bool) → same_key row r.0 ≡ b → Some first ≡ cond b (Some r.1) (lookup (same_key row) rows)
-          → (Some first ≡ lookup (same_key row) rows → AllByRecursion (HaveFirst es) (set_value (same_key row) rows n))
-          → AllByRecursion (HaveFirst es) (cond b ((r.0, n) ∷ rows) (r ∷ set_value (same_key row) rows n))
-      by true same f rest =
-          let e : first ≡ r.1 = cc in
-          (more r.0 first n same each (λ m lt. all.0 m (omega (arith, lt, e))), all.1)
-      by false other f rest = (all.0, rest f)
-
-  behind : (rows : List (Key × ℕ)) (n : ℕ) → Each 0 n → AllByRecursion (HaveFirst es) rows → AllByRecursion (HaveFirst es) (rows ++ (row, n) ∷ [])
-  behind [] n each all = ((λ m lt. by m (each m lt)), tt)
+  pub first_noted : (rows : List (Key × ℕ)) (n : ℕ) → Each (unwrap_or (lookup (same_key row) rows) 0) n
+      → AllByRecursion (HaveFirst es) rows → AllByRecursion (HaveFirst es) (insert_entry same_key rows row n)
+  first_noted [] n each all = ((λ m lt. by m (each m lt)), tt)
     where
       by : (m : ℕ) → (m < 0) ⊎ (m ≡ member) → has es (key row.variable m row.period) ≡ true
       by m (inl p) = absurd (omega (arith, p))
       by m (inr e) = ap (λ j. has es (key row.variable j row.period)) e ∙ there
-  behind (r ∷ rows) n each all = (all.0, behind rows n each all.1)
-
-  pub noted_behind : (rows new : List (Key × ℕ)) (n : ℕ) → lookup (same_key row) rows ≡ None → new ≡ insert_entry same_key rows row n → Each 0 n
-      → AllByRecursion (HaveFirst es) rows → AllByRecursion (HaveFirst es) new
-  noted_behind rows new n none e each all = rw (e ∙ insert_entry-last row n rows none) (behind rows n each all)
+  first_noted (r ∷ rows) n each all = by (same_key row r.0) refl each (λ later. first_noted rows n later all.1)
+    where
+      by : (b : Bool) → same_key row r.0 ≡ b → Each (unwrap_or (cond b (Some r.1) (lookup (same_key row) rows)) 0) n
+          → (Each (unwrap_or (lookup (same_key row) rows) 0) n → AllByRecursion (HaveFirst es) (insert_entry same_key rows row n))
+          → AllByRecursion (HaveFirst es) (if b then (r.0, n) ∷ rows else r ∷ insert_entry same_key rows row n)
+      by true same here rest = (more r.0 r.1 n same here all.0, all.1)
+      by false other later rest = (all.0, rest later)
 
 -- Each entry of a map has a value
 

@@ -8,6 +8,7 @@ pub mod Noted
 pub mod Numbered
 pub mod Numbers
 pub mod Ordered
+pub mod Pages
 pub mod Parting
 pub mod Puts
 pub mod Rests

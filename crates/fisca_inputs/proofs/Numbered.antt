@@ -1,9 +1,9 @@
 -- Entries at the places that numbers tell.
 use Rattle.std.proofs.Common.{◌≡◌, ◌<◌, ◌≤◌, ◌+◌, ◌-◌, arith, ℕ, zero, suc, Bool, true, false, cond, List, [], ◌∷◌, ◌++◌, length, Option, Some, None, ⊎_elim, is_some, slice_get, slice_set, slice_index_or, refl, sym, ap, subst, ◌∙◌, if◌then◌else◌, ◌||◌}
-use Rattle.std.specs.Prelude.{Vec, filter, ◌==◌, ◌&&◌, ◌/◌, ◌%◌}
-use Rattle.std.specs.Global.{Global}
+use Rattle.std.specs.Prelude.{filter, ◌==◌, ◌&&◌, ◌/◌, ◌%◌}
 use Rattle.std.specs.List.{IsDistinct, list_any}
 use Rattle.std.specs.Map.{keys_of, lookup, set_value}
+use Rattle.std.specs.Option.{unwrap_or}
 use Rattle.std.specs.Ordering.{eq_by_cmp}
 use Rattle.std.proofs.lemmas.Bool.{and_parts, cases_lt, eq-eqb, eqb-true, false≢true, or_parts}
 use Rattle.std.proofs.lemmas.List.{get_or-set_same}
@@ -360,11 +360,12 @@ key_split k j =
     ap (λ b. (k.variable == j.variable) && (b && eq_by_cmp span_cmp k.period j.period)) (number_split k.member j.member)
     ∙ parted (k.variable == j.variable) (k.member / 64 == j.member / 64) (k.member % 64 == j.member % 64) (eq_by_cmp span_cmp k.period j.period)
 
-module _ (pages new : Pages) (own : Key) (number : ℕ) (numbers : Vec ℕ Global)
-    (put : (k : Key) → lookup (same_key k) new ≡ (if same_key k (page_key own) then Some numbers else lookup (same_key k) pages))
-    (there : (m : ℕ) → number_at numbers.items m ≡ (if m == own.member % 64 then number else number_in (lookup (same_key (page_key own)) pages) m)) where
-  pub page_put : (k : Key) → number_of new k ≡ (if same_key k own then number else number_of pages k)
-  page_put k = by (same_key (page_key k) (page_key own)) refl ∙ ap (λ b. if b then number else number_of pages k) (sym (key_split k own))
+module _ (pages new : Pages) (own : Key) (numbers : List ℕ)
+    (put : (k : Key) → lookup (same_key k) new ≡ (if same_key k (page_key own) then Some numbers else lookup (same_key k) pages)) where
+  -- a number is put in the page of a key
+  pub page_put : (number : ℕ) → ((m : ℕ) → number_at numbers m ≡ (if m == own.member % 64 then number else number_in (lookup (same_key (page_key own)) pages) m))
+      → (k : Key) → number_of new k ≡ (if same_key k own then number else number_of pages k)
+  page_put number there k = by (same_key (page_key k) (page_key own)) refl ∙ ap (λ b. if b then number else number_of pages k) (sym (key_split k own))
     where
       by : (b : Bool) → same_key (page_key k) (page_key own) ≡ b → number_of new k ≡ (if (b && (k.member % 64 == own.member % 64)) then number else number_of pages k)
       by true e =
@@ -373,24 +374,28 @@ module _ (pages new : Pages) (own : Key) (number : ℕ) (numbers : Vec ℕ Globa
           ∙ ap (λ o. if (k.member % 64 == own.member % 64) then number else number_in o (k.member % 64)) (sym (lookup_like (page_key k) (page_key own) e pages)))
       by false e = ap (λ o. number_in o (k.member % 64)) (put (page_key k) ∙ ap (λ b. if b then Some numbers else lookup (same_key (page_key k)) pages) e)
 
--- a number is set in the page that is found
-module _ (pages : Pages) (own : Key) (number : ℕ) (old numbers : Vec ℕ Global) (found : Some old ≡ lookup (same_key (page_key own)) pages) where
-  set_put : (k : Key) → lookup (same_key k) (set_value (same_key (page_key own)) pages numbers) ≡ (if same_key k (page_key own) then Some numbers else lookup (same_key k) pages)
-  set_put = set_seen (page_key own) numbers pages (ap is_some (sym found))
-
-  pub page_set : ((m : ℕ) → number_at numbers.items m ≡ (if m == own.member % 64 then number else number_at old.items m))
-      → (k : Key) → number_of (set_value (same_key (page_key own)) pages numbers) k ≡ (if same_key k own then number else number_of pages k)
-  page_set there = page_put pages (set_value (same_key (page_key own)) pages numbers) own number numbers set_put
-      (λ m. there m ∙ ap (λ o. if m == own.member % 64 then number else number_in o m) found)
-
-  pub page_like : ((m : ℕ) → number_at numbers.items m ≡ number_at old.items m) → (k : Key) → number_of (set_value (same_key (page_key own)) pages numbers) k ≡ number_of pages k
+  -- no number is put
+  pub page_like : ((m : ℕ) → number_at numbers m ≡ number_in (lookup (same_key (page_key own)) pages) m) → (k : Key) → number_of new k ≡ number_of pages k
   page_like there k = by (same_key (page_key k) (page_key own)) refl
     where
-      by : (b : Bool) → same_key (page_key k) (page_key own) ≡ b → number_of (set_value (same_key (page_key own)) pages numbers) k ≡ number_of pages k
+      by : (b : Bool) → same_key (page_key k) (page_key own) ≡ b → number_of new k ≡ number_of pages k
       by true e =
-          ap (λ o. number_in o (k.member % 64)) (set_put (page_key k) ∙ ap (λ b. if b then Some numbers else lookup (same_key (page_key k)) pages) e)
-          ∙ (there (k.member % 64) ∙ ap (λ o. number_in o (k.member % 64)) (found ∙ sym (lookup_like (page_key k) (page_key own) e pages)))
-      by false e = ap (λ o. number_in o (k.member % 64)) (set_put (page_key k) ∙ ap (λ b. if b then Some numbers else lookup (same_key (page_key k)) pages) e)
+          ap (λ o. number_in o (k.member % 64)) (put (page_key k) ∙ ap (λ b. if b then Some numbers else lookup (same_key (page_key k)) pages) e)
+          ∙ (there (k.member % 64) ∙ ap (λ o. number_in o (k.member % 64)) (sym (lookup_like (page_key k) (page_key own) e pages)))
+      by false e = ap (λ o. number_in o (k.member % 64)) (put (page_key k) ∙ ap (λ b. if b then Some numbers else lookup (same_key (page_key k)) pages) e)
+
+-- the page that is found, or one without a number
+pub page_or : (found : Option (List ℕ)) (empty : List ℕ) → ((m : ℕ) → number_at empty m ≡ 0) → (m : ℕ) → number_at (unwrap_or found empty) m ≡ number_in found m
+page_or None empty none m = none m
+page_or (Some ns) empty none m = refl
+
+-- a number is set in the page that is found
+pub page_set : (pages : Pages) (own : Key) (number : ℕ) (old numbers : List ℕ) → Some old ≡ lookup (same_key (page_key own)) pages
+    → ((m : ℕ) → number_at numbers m ≡ (if m == own.member % 64 then number else number_at old m))
+    → (k : Key) → number_of (set_value (same_key (page_key own)) pages numbers) k ≡ (if same_key k own then number else number_of pages k)
+page_set pages own number old numbers found there =
+    page_put pages (set_value (same_key (page_key own)) pages numbers) own numbers (set_seen (page_key own) numbers pages (ap is_some (sym found))) number
+    (λ m. there m ∙ ap (λ o. if m == own.member % 64 then number else number_in o m) found)
 
 -- A look-up by its number
 

@@ -1,6 +1,5 @@
 -- Where the values of keys stand: for each variable and period numbers of members, in pages of 64, each one more than the place of the entry.
-use Rattle.std.specs.Global.{Global}
-use Rattle.std.specs.Prelude.{◌≡◌, ℕ, suc, ◌/◌, ◌%◌, Vec, if◌then◌else◌, true, false, Bool, List, [], ◌∷◌, Option, Some, None, slice_get, slice_index_or}
+use Rattle.std.specs.Prelude.{◌≡◌, ℕ, suc, ◌/◌, ◌%◌, if◌then◌else◌, true, false, Bool, List, [], ◌∷◌, Option, Some, None, slice_get, slice_index_or}
 use Rattle.std.specs.List.{IsDistinct}
 use Rattle.std.specs.Map.{keys_of, lookup}
 use Rattle.std.specs.Option.{unwrap_or}
@@ -13,11 +12,11 @@ abbrev pub number_at : List ℕ → ℕ → ℕ
 number_at numbers m = unwrap_or (slice_get numbers m) 0
 
 abbrev pub Pages : Type 0
-Pages = List (Key × Vec ℕ Global)
+Pages = List (Key × List ℕ)
 
-abbrev pub number_in : Option (Vec ℕ Global) → ℕ → ℕ
+abbrev pub number_in : Option (List ℕ) → ℕ → ℕ
 number_in None m = 0
-number_in (Some v) m = number_at v.items m
+number_in (Some numbers) m = number_at numbers m
 
 -- 64 members of one variable and period have a page
 abbrev pub page_key : Key → Key

@@ -1,6 +1,7 @@
 //! What is found by the hashes of keys.
 
 use crate::key::Key;
+use crate::page::Page;
 use fisca_hashes::KeyHasher;
 use indexmap::{IndexMap, IndexSet};
 use std::hash::BuildHasherDefault;
@@ -12,4 +13,4 @@ pub(crate) type Keys = IndexSet<Key, BuildHasherDefault<KeyHasher>>;
 pub(crate) type Numbers = IndexMap<Key, u32, BuildHasherDefault<KeyHasher>>;
 
 /// Numbers of keys, those of 64 members of one variable and period together.
-pub(crate) type Pages = IndexMap<Key, Vec<u32>, BuildHasherDefault<KeyHasher>>;
+pub(crate) type Pages = IndexMap<Key, Page, BuildHasherDefault<KeyHasher>>;

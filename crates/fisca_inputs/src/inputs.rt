@@ -54,8 +54,7 @@ impl Inputs {
     pub(crate) fn reserve(&mut self, count: usize) -> Result<(), AllocError>
         ensures { self.new ≡ self.old }
     {
-        self.table.entries.reserve(count)?;
-        Ok(())
+        self.table.reserve(count)
     }
 
     /// The value of a key, by one look-up and without memory.
@@ -160,14 +159,7 @@ fn note_member(rows: &mut Numbers, row: Key, member: u32) -> Result<(), AllocErr
     ensures keys { OnOk result (keys_of rows.new.entries ≡ and_row (keys_of rows.old.entries) row) }
     ensures first { OnOk result ((es : spec.Entries) → spec.has es (spec.key row.variable member row.period) ≡ true → AllByRecursion (HaveFirst es) rows.old.entries → AllByRecursion (HaveFirst es) rows.new.entries) }
 {
-    match rows.get_mut(&row) {
-        Some(first) => {
-            *first = first_with(*first, member);
-            Ok(())
-        }
-        None => {
-            rows.insert(row, first_with(0, member))?;
-            Ok(())
-        }
-    }
+    let first = rows.entry(row)?.or_insert(0);
+    *first = first_with(*first, member);
+    Ok(())
 }

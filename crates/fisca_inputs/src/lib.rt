@@ -11,6 +11,7 @@ mod inputs;
 mod key;
 mod law;
 mod order;
+mod page;
 mod periods;
 mod share;
 mod sharing;

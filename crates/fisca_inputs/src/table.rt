@@ -2,17 +2,17 @@
 
 ghost use Rattle.std.specs.Prelude.{◌≡◌, ◌<◌, ◌≤◌, ◌%◌, ◌==◌, [], ◌∷◌, ◌++◌, ℕ, suc, true, false, not, length, filter, if◌then◌else◌, Some, None, IfOk, OnOk, OnErr, MatchOption};
 ghost use Rattle.std.specs.Bool.{OnTrue};
-ghost use Rattle.std.specs.Map.{lookup};
 ghost use Rattle.std.proofs.Props.{props};
 ghost use Rattle.fisca_inputs.specs.Entries as spec;
 ghost use Rattle.fisca_inputs.specs.Anew.{set_keys};
 ghost use Rattle.fisca_inputs.specs.Inputs.{is_marked as is_marked_at, without_marked};
-ghost use Rattle.fisca_inputs.specs.Places.{AreNumbered, AreOccupied, AreOnce, StandsAt, number_at, number_of, page_key};
+ghost use Rattle.fisca_inputs.specs.Places.{AreNumbered, AreOccupied, AreOnce, StandsAt, number_of, page_key};
 ghost use Rattle.fisca_inputs.specs.declared.key.Key as declared;
 
 use crate::given::Value;
 use crate::hashed::Pages;
 use crate::key::{Key, NOTES};
+use crate::page::Page;
 use indexmap::IndexMap;
 use std::alloc::{AllocError, Global};
 use std::hash::BuildHasherDefault;
@@ -20,8 +20,8 @@ use std::hash::BuildHasherDefault;
 /// For how many members numbers stand side by side.
 const PAGE: u32 = 64;
 
-/// For how many of them there is room at once.
-const ROOM: usize = 8;
+/// For how many pages there is room at once.
+const ROOM: usize = 144;
 
 /// How many slots there are, which variables share.
 const SLOTS: usize = 256;
@@ -67,10 +67,7 @@ fn number(pages: &Pages, key: &Key) -> u32
     ensures { result ≡ number_of pages.now.entries key.now }
 {
     match pages.get(&page_of(key)) {
-        Some(numbers) => match numbers.get(place_of(key)) {
-            Some(number) => *number,
-            None => 0,
-        },
+        Some(page) => page.number(place_of(key)),
         None => 0,
     }
 }
@@ -105,56 +102,13 @@ fn number_behind(count: usize) -> Result<u32, AllocError>
     Ok(count as u32 + 1)
 }
 
-/// Sets the number at this place, and no other.
-fn set_number(numbers: &mut Vec<u32>, place: usize, number: u32)
-    requires { place < length numbers.old.items }
-    ensures { (m : ℕ) → number_at numbers.new.items m ≡ (if m == place then number else number_at numbers.old.items m) }
-{
-    numbers[place] = number;
-}
-
-/// Puts a number at this place, where there may be none, and no other at any place.
-fn put_number(numbers: &mut Vec<u32>, place: usize, number: u32) -> Result<(), AllocError>
-    requires { place < 64 }
-    ensures ok { OnOk result ((m : ℕ) → number_at numbers.new.items m ≡ (if m == place then number else number_at numbers.old.items m)) }
-    ensures err { OnErr result ((m : ℕ) → number_at numbers.new.items m ≡ number_at numbers.old.items m) }
-{
-    if numbers.len() <= place {
-        numbers.resize(place + 1, 0)?;
-    }
-    set_number(numbers, place, number);
-    Ok(())
-}
-
-/// Puts a page of numbers that is not there.
-fn put_numbers(pages: &mut Pages, page: Key, numbers: Vec<u32>) -> Result<(), AllocError>
-    ensures ok { OnOk result ((k : declared.Key) → lookup (spec.same_key k) pages.new.entries ≡ (if spec.same_key k page then Some numbers else lookup (spec.same_key k) pages.old.entries)) }
-    ensures err { OnErr result (pages.new.entries ≡ pages.old.entries) }
-{
-    pages.insert(page, numbers)?;
-    Ok(())
-}
-
-/// Puts the first number of a page.
-fn begin_page(pages: &mut Pages, alloc: Global, key: &Key, number: u32) -> Result<(), AllocError>
-    requires { lookup (spec.same_key (page_key key.now)) pages.old.entries ≡ None }
-    ensures ok { OnOk result ((k : declared.Key) → number_of pages.new.entries k ≡ (if spec.same_key k key.now then number else number_of pages.old.entries k)) }
-    ensures err { OnErr result (pages.new.entries ≡ pages.old.entries) }
-{
-    let mut numbers = Vec::with_capacity(alloc, ROOM)?;
-    put_number(&mut numbers, place_of(key), number)?;
-    put_numbers(pages, page_of(key), numbers)
-}
-
 /// Gives a key this number, and none to any other.
 fn note(pages: &mut Pages, alloc: Global, key: &Key, number: u32) -> Result<(), AllocError>
     ensures ok { OnOk result ((k : declared.Key) → number_of pages.new.entries k ≡ (if spec.same_key k key.now then number else number_of pages.old.entries k)) }
     ensures err { OnErr result ((k : declared.Key) → number_of pages.new.entries k ≡ number_of pages.old.entries k) }
 {
-    match pages.get_mut(&page_of(key)) {
-        Some(numbers) => put_number(numbers, place_of(key), number),
-        None => begin_page(pages, alloc, key, number),
-    }
+    let page = pages.entry(page_of(key))?.or_insert(Page::new(alloc));
+    page.put(place_of(key), number)
 }
 
 /// Gives a key that has a number this one, and none to any other.
@@ -163,7 +117,7 @@ fn renumber(pages: &mut Pages, key: &Key, number: u32)
     ensures { (k : declared.Key) → number_of pages.new.entries k ≡ (if spec.same_key k key.now then number else number_of pages.old.entries k) }
 {
     match pages.get_mut(&page_of(key)) {
-        Some(numbers) => set_number(numbers, place_of(key), number),
+        Some(page) => page.set(place_of(key), number),
         None => unreachable!(),
     }
 }
@@ -207,9 +161,9 @@ fn leave_unmarked_pages(pages: &mut Pages, marks: &[bool])
     ensures { pages.new.entries ≡ filter (λ r. not (is_marked_at marks.now r.0.variable)) pages.old.entries }
 {
     pages.retain(
-        |page: &Key, numbers: &mut Vec<u32>| -> bool
-            ensures { (result ≡ not (is_marked_at marks.entry.now page.now.variable)) × (numbers.new ≡ numbers.old) }
-        { !is_marked(marks, page.variable) },
+        |key: &Key, page: &mut Page| -> bool
+            ensures { (result ≡ not (is_marked_at marks.entry.now key.now.variable)) × (page.new ≡ page.old) }
+        { !is_marked(marks, key.variable) },
     );
 }
 
@@ -224,6 +178,14 @@ impl Table {
             noted: [0; NOTES],
             occupied: [false; SLOTS],
         }
+    }
+
+    /// Makes room for so many more entries, and for their pages where they are few.
+    pub(crate) fn reserve(&mut self, count: usize) -> Result<(), AllocError>
+        ensures { self.new.entries.items ≡ self.old.entries.items }
+    {
+        self.entries.reserve(count)?;
+        self.pages.reserve(count.min(ROOM))
     }
 
     /// The place of the entry of a key.

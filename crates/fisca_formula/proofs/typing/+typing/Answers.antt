@@ -23,7 +23,7 @@ pub given_of-returns-in_ok-if_known-in-Positional : goal.given_of-returns-in_ok-
 given_of-returns-in_ok-if_known-in-Positional t c =
     let n = names c.args.names.now in
     let value = c.in-Positional.value in
-    let told = c.in_ok-if_known-in-Positional.ensures (thing_of n (tree value)) c.thing_of.ensures in
+    let told = c.in_ok-if_known-in-Positional.ensures.known (thing_of n (tree value)) c.thing_of.ensures in
     let seen : argument_view c.args.argument.now ≡ positional (tree value) = ap argument_view c.in-Positional.is ∙ search (all_lemmas, rules) in
     ap (λ o. given None (tree value) o) told ∙ ap (given_of n) (sym seen)
 
@@ -31,7 +31,7 @@ pub given_of-returns-in_ok-if_known-in-Keyword : goal.given_of-returns-in_ok-if_
 given_of-returns-in_ok-if_known-in-Keyword t c =
     let n = names c.args.names.now in
     let value = c.deref-in-Keyword.result.now in
-    let told = c.in_ok-if_known-in-Keyword.ensures (thing_of n (tree value)) c.thing_of-in-Keyword.ensures in
+    let told = c.in_ok-if_known-in-Keyword.ensures.known (thing_of n (tree value)) c.thing_of-in-Keyword.ensures in
     let seen : argument_view c.args.argument.now ≡ keyword c.in-Keyword.keyword (tree c.in-Keyword.value.value) = ap argument_view c.in-Keyword.is ∙ search (all_lemmas, rules) in
     let held = ap (λ e. keyword c.in-Keyword.keyword (tree e)) (sym c.deref-in-Keyword.ensures) in
     let kept = c.deref.ensures ∙ sym c.deref-in-Keyword.ensures in

@@ -79,7 +79,7 @@ module _ (es : Entries) (row : Key) (member : ℕ) (there : has es (key row.vari
 
 -- Each entry of a map has a value
 
-all_in : (xs es : Entries) → ((q : Key) → has xs q ≡ true → has es q ≡ true) → AllByRecursion (λ e. has es e.0 ≡ true) xs
+pub all_in : (xs es : Entries) → ((q : Key) → has xs q ≡ true → has es q ≡ true) → AllByRecursion (λ e. has es e.0 ≡ true) xs
 all_in [] es up = tt
 all_in (x ∷ xs) es up = (up x.0 own, all_in xs es (λ q h. up q (by q (same_key q x.0) h)))
   where

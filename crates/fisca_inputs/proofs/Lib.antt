@@ -1,8 +1,8 @@
+pub mod Alone
 pub mod Anew
 pub mod Beside
 pub mod Days
 pub mod First
-pub mod Givens
 pub mod Looked
 pub mod Noted
 pub mod Numbered

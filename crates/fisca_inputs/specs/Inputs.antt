@@ -24,10 +24,6 @@ inputs_of rules counts gs = and_then (all_shared rules (in_order rules gs) []) (
 abbrev pub key_given : Given → Key
 key_given g = key g.variable g.member g.period
 
--- one key more, which is not there yet
-abbrev pub with_key : List Key → Key → ℕ → Result (List Key) SituationFault
-with_key ks k line = if list_any (same_key k) ks then Err (at_line line InconsistentInput) else Ok (ks ++ k ∷ [])
-
 -- one more, while they are read: no two of one variable, member and period
 abbrev pub and_given : List Given → Given → Result (List Given) SituationFault
 and_given gs g = if list_any (λ h. same_key (key_given g) (key_given h)) gs then Err (at_line g.line InconsistentInput) else Ok (gs ++ g ∷ [])

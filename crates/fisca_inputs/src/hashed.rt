@@ -3,11 +3,8 @@
 use crate::key::Key;
 use crate::page::Page;
 use fisca_hashes::KeyHasher;
-use indexmap::{IndexMap, IndexSet};
+use indexmap::IndexMap;
 use std::hash::BuildHasherDefault;
-
-/// Keys, each once.
-pub(crate) type Keys = IndexSet<Key, BuildHasherDefault<KeyHasher>>;
 
 /// A number of each key.
 pub(crate) type Numbers = IndexMap<Key, u32, BuildHasherDefault<KeyHasher>>;

@@ -1,7 +1,7 @@
 //! The table of inputs.
 
-ghost use Rattle.std.specs.Prelude.{◌≡◌, ◌<◌, ◌⊎◌, ℕ, [], ◌∷◌, false, true, IfOk, OnOk};
-ghost use Rattle.std.specs.List.{AllByRecursion};
+ghost use Rattle.std.specs.Prelude.{◌≡◌, ◌<◌, ◌⊎◌, ◌==◌, ℕ, [], ◌∷◌, false, true, IfOk, OnOk};
+ghost use Rattle.std.specs.List.{AllByRecursion, list_all};
 ghost use Rattle.std.specs.Map.{keys_of};
 ghost use Rattle.fisca_inputs.specs.Anew.{set_keys};
 ghost use Rattle.fisca_inputs.specs.Inputs.{without_marked};
@@ -24,11 +24,12 @@ pub(crate) const LIMIT: usize = 100_000;
 /// For how many rows there is room at once.
 const ROOM: usize = 144;
 
-/// The inputs of a situation: a value for each key that has one, seen as the list of its entries.
+/// The inputs of a situation: a value for each key that has one, seen as the list of its entries. The table, which takes half a KiB beside
+/// its lists, stands in a box, since situations are handed on.
 #[derive(Drop)]
 pub struct Inputs {
     alloc: Global,
-    table: Table,
+    table: Box<Table>,
 }
 
 impl Model for Inputs {
@@ -36,18 +37,18 @@ impl Model for Inputs {
 
     ghost Value = { Entries };
 
-    ghost view = { λ i. i.table.entries.items };
+    ghost view = { λ i. i.table.value.entries.items };
 }
 
 impl Inputs {
     /// None.
-    pub(crate) fn new(alloc: Global) -> Inputs
-        ensures { result ≡ [] }
+    pub(crate) fn new(alloc: Global) -> Result<Inputs, AllocError>
+        ensures { IfOk result (λ i. i ≡ []) }
     {
-        Inputs {
+        Ok(Inputs {
             alloc,
-            table: Table::new(alloc),
-        }
+            table: Box::new(alloc, Table::new(alloc))?,
+        })
     }
 
     /// Makes room for so many more entries.
@@ -102,6 +103,13 @@ impl Inputs {
         ensures first { IfOk result (λ rows. AllByRecursion (HaveFirst self.now) rows.entries) }
     {
         rows_among(alloc, self.table.entries.as_slice())
+    }
+
+    /// Whether each value is of a first member.
+    pub(crate) fn are_of_first(&self) -> bool
+        ensures { result ≡ list_all (λ e. e.0.member == 0) self.now }
+    {
+        self.table.entries.iter().all(|entry| entry.0.member == 0)
     }
 
     /// Gives this value to a key, where it has one: no key comes or goes. It costs one look-up, and takes no memory.

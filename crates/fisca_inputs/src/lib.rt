@@ -20,7 +20,7 @@ mod table;
 pub use across::{meets, overlaps};
 pub use fault::{SituationFault, SituationKind};
 pub use fisca_hashes::KeyHasher;
-pub use given::{Given, GivenInputs, Value};
+pub use given::{Given, Value};
 pub use inputs::Inputs;
 pub use key::{Key, NOTES};
 pub use law::{defaults_stand_beside, shares_add_up};

@@ -1,6 +1,8 @@
 //! All given inputs, one after another.
 
-ghost use Rattle.std.specs.Prelude.{◌≡◌, map, slice_get};
+ghost use Rattle.std.specs.Prelude.{◌≡◌, map, nat_lt, slice_get};
+ghost use Rattle.std.specs.List.{list_all};
+ghost use Rattle.fisca_inputs.specs.Defaults.{rows_of, with_defaults};
 ghost use Rattle.fisca_inputs.specs.Outcomes.{Becomes, Tells};
 ghost use Rattle.fisca_inputs.specs.Inputs.{inputs_of};
 ghost use Rattle.fisca_inputs.specs.Rules.{rule_of};
@@ -35,6 +37,13 @@ fn room_for(variables: &[Variable<'_>], givens: &[Given]) -> usize {
     room.min(LIMIT)
 }
 
+/// Whether no entity has two members.
+fn are_alone(counts: &[u32]) -> bool
+    ensures { result ≡ list_all (λ c. nat_lt c 2) counts.now }
+{
+    counts.iter().all(|count| *count < 2)
+}
+
 impl Inputs {
     /// The inputs of a situation: those that are given, in the order of the file, beside the variables of a rule set and the number of
     /// members of each entity, by its place.
@@ -55,12 +64,29 @@ impl Inputs {
         ensures { Tells (λ i. i) (inputs_of (map rule_of variables.now) counts.now givens.now) result }
     {
         let sorted = in_order(alloc, variables, givens)?;
-        let mut inputs = Inputs::new(alloc);
+        let mut inputs = Inputs::new(alloc)?;
         inputs.reserve(room_for(variables, givens))?;
         inputs.put_givens(variables, &sorted)?;
-        let rows = inputs.rows(alloc)?;
-        inputs.put_defaults(variables, counts, givens, &rows)?;
+        inputs.put_all_defaults(alloc, variables, counts, givens)?;
         Ok(inputs)
+    }
+
+    /// Puts the defaults beside what some members have. Where no entity has two members, and inputs are of first members alone, there are none.
+    #[tactic(auto, using(crate::proofs::Alone::none_beside))]
+    fn put_all_defaults(
+        &mut self,
+        alloc: Global,
+        variables: &[Variable<'_>],
+        counts: &[u32],
+        givens: &[Given],
+    ) -> Result<(), SituationFault>
+        ensures { Becomes (with_defaults (map rule_of variables.now) counts.now givens.now (rows_of self.old) self.old) self.new result }
+    {
+        if are_alone(counts) && self.are_of_first() {
+            return Ok(());
+        }
+        let rows = self.rows(alloc)?;
+        self.put_defaults(variables, counts, givens, &rows)
     }
 
     /// Puts a given input by what its variable says. `UnknownVariable` at its line where there is none.

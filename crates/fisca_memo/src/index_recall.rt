@@ -19,6 +19,9 @@ use indexmap::IndexMap;
 use std::alloc::{AllocError, Global};
 use std::hash::BuildHasherDefault;
 
+/// For how many values there is room at once.
+const ROOM: usize = 20;
+
 /// What is kept under keys, found by the hash of keys that inputs have.
 type Entries = IndexMap<Key, Stamped, BuildHasherDefault<KeyHasher>>;
 
@@ -89,11 +92,22 @@ fn put_at(entries: &mut Entries, place: usize, key: &Key, stamped: Stamped)
     }
 }
 
+/// Makes room for some values where none is kept yet.
+fn make_room(entries: &mut Entries) -> Result<(), AllocError>
+    ensures { entries.new.entries ≡ entries.old.entries }
+{
+    if entries.is_empty() {
+        entries.reserve(ROOM)?;
+    }
+    Ok(())
+}
+
 /// Puts this under the key, found by its hash, and says at which place it stands then.
 fn put(entries: &mut Entries, key: Key, stamped: Stamped) -> Result<usize, AllocError>
     ensures ok { OnOk result ((k : declared.Key) → lookup (same_key k) entries.new.entries ≡ (if same_key k key then Some stamped else lookup (same_key k) entries.old.entries)) }
     ensures err { OnErr result (entries.new.entries ≡ entries.old.entries) }
 {
+    make_room(entries)?;
     let Stamped { known, kept_at } = stamped;
     let (place, _kept) = entries.insert_full(key, Stamped { known, kept_at })?;
     Ok(place)

@@ -6,8 +6,7 @@ use crate::conditions::Conditions;
 use crate::moved::MovedInputs;
 use fisca_calc::Columns;
 use fisca_grid::Axes;
-use fisca_inputs::GivenInputs;
-use fisca_situations::Situation;
+use fisca_situations::{GivenInputs, Situation};
 
 /// A grid, and the input that each of its axes moves.
 #[derive(Drop)]

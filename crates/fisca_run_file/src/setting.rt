@@ -13,9 +13,9 @@ ghost use Rattle.fisca_yaml.specs.Views.{node};
 
 use crate::neutral::marks_in;
 use fisca_calc::{RunFileFault, RunFileKind, default_in};
-use fisca_inputs::{GivenInputs, Inputs, SituationKind};
+use fisca_inputs::{Inputs, SituationKind};
 use fisca_members::Members;
-use fisca_situations::{Reading, Situation, reading_of};
+use fisca_situations::{GivenInputs, Reading, Situation, reading_of};
 use fisca_tables::Tables;
 use fisca_time::Period;
 use fisca_yaml::Tree;

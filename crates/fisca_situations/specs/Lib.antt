@@ -1,5 +1,6 @@
 pub mod Axes
 pub mod Cuts
+pub mod GivenKeys
 pub mod Reading
 pub mod Sets
 pub mod Situations

@@ -8,9 +8,10 @@ ghost use Rattle.fisca_yaml.specs.Views.{node, entries_view};
 ghost use Rattle.fisca_situations.specs.Reading as spec;
 ghost use Rattle.fisca_situations.specs.Views.{place as place_view};
 
+use crate::given_inputs::GivenInputs;
 use crate::place::Place;
 use crate::said::{Said, said_of};
-use fisca_inputs::{Given, GivenInputs, SituationFault, SituationKind, Value, key_period, takes};
+use fisca_inputs::{Given, SituationFault, SituationKind, Value, key_period, takes};
 use fisca_tables::Tables;
 use fisca_time::{Period, TimeFault, Unit};
 use fisca_yaml::{Entry, Tree};

@@ -5,6 +5,7 @@ mod axis;
 mod axis_slot;
 mod cuts;
 mod given;
+mod given_inputs;
 mod law;
 mod place;
 mod putting;
@@ -17,6 +18,7 @@ mod variables;
 
 pub use axis_slot::slot_of;
 pub use cuts::cut_for;
+pub use given_inputs::GivenInputs;
 pub use law::inputs_are_of_their_types;
 pub use putting::{push_input, put_in};
 pub use reading::{Reading, reading_of};

@@ -9,8 +9,9 @@ ghost use Rattle.fisca_tables.specs.Known.{tables as known};
 ghost use Rattle.fisca_yaml.specs.Views.{node};
 ghost use Rattle.fisca_situations.specs.Situations as spec;
 
+use crate::given_inputs::GivenInputs;
 use crate::sections::inputs_given;
-use fisca_inputs::{GivenInputs, SituationFault, SituationKind};
+use fisca_inputs::{SituationFault, SituationKind};
 use fisca_members::{Input, Kind, Members, MembersFault, input_of, members_in, titles_of};
 use fisca_tables::Tables;
 use fisca_time::Period;

@@ -10,8 +10,9 @@ ghost use Rattle.fisca_yaml.specs.Views.{node, entries_view};
 ghost use Rattle.fisca_situations.specs.Reading as spec;
 
 use crate::given::fault_at;
+use crate::given_inputs::GivenInputs;
 use crate::variables::member_given;
-use fisca_inputs::{GivenInputs, SituationFault, SituationKind};
+use fisca_inputs::{SituationFault, SituationKind};
 use fisca_members::{Input, RoleTable, Section};
 use fisca_tables::{Entity, Role, Tables};
 use fisca_time::Period;

@@ -6,8 +6,9 @@ ghost use Rattle.fisca_yaml.specs.Views.{node, entries_view};
 ghost use Rattle.fisca_situations.specs.Reading as spec;
 
 use crate::given::{fault_at, variable_given};
+use crate::given_inputs::GivenInputs;
 use crate::place::Place;
-use fisca_inputs::{GivenInputs, SituationFault, SituationKind};
+use fisca_inputs::{SituationFault, SituationKind};
 use fisca_members::RoleTable;
 use fisca_tables::{Tables, Variable};
 use fisca_time::Period;

@@ -177,7 +177,8 @@ class Checks:
 
     def leave_open(self, asked, texts, doubles=()):
         """Lays out the crate with these texts in place of its own, and proofs for the doubles of functions. Each function but these, and but those of
-        the cycles of calls that they are in, keeps its contract, and has a loop without an end for its body and a hole for its proof."""
+        the cycles of calls that they are in, keeps its contract, and has a loop without an end for its body and a hole for its proof. A `drop` stays as
+        it is: what a function lets go is part of its own proof."""
         shutil.rmtree(self.folder)
         for part in PROVED:
             if (self.crate / part).is_dir():
@@ -188,7 +189,7 @@ class Checks:
         cycles = {it.cycle for some in found.values() for it in some if it.known_as in asked}
         for path, text in texts.items():
             for it in reversed(found[path]):
-                if it.known_as not in asked and it.cycle not in cycles:
+                if it.known_as not in asked and it.cycle not in cycles and not it.known_as.endswith("::drop"):
                     attributes = CYCLE.sub("", text[it.attributes : it.start])
                     text = text[: it.attributes] + attributes + text[it.start : it.body] + "{ loop {} }" + text[it.end :]
                     self.put_hole(it)

@@ -1,8 +1,9 @@
 -- The inputs at a position are of the types of their variables.
-use Rattle.std.proofs.Common.{◌≡◌, ℕ, zero, suc, List, [], ◌∷◌, map, slice_get, true, Option, Some, None, refl, ap, sym, subst, ◌∙◌}
+use Rattle.std.proofs.Common.{◌≡◌, ℕ, List, [], map, Option, Some, None, codes, ap, sym, subst, ◌∙◌}
 use Rattle.std.specs.Prelude.{Ok, option_map}
+use Rattle.std.specs.Option.{unwrap_or}
 use Rattle.fisca_calc.specs.Calc.{default_in}
-use Rattle.fisca_eval.proofs.Fitting.{fits_left}
+use Rattle.fisca_eval.proofs.Fitting.{defaults_typed, fits_left}
 use Rattle.fisca_eval.proofs.Worlds.{tables_known}
 use Rattle.fisca_eval.specs.Told.{IsReady}
 use Rattle.fisca_grid.specs.AxesRow.{values_of}
@@ -10,15 +11,12 @@ use Rattle.fisca_grid.specs.Grid.{axes_at}
 use Rattle.fisca_inputs.proofs.Typed.{then_ok, inputs_typed, input_typed}
 use Rattle.fisca_inputs.specs.Entries.{Entries}
 use Rattle.fisca_inputs.specs.Inputs.{inputs_of, without_marked}
-use Rattle.fisca_inputs.specs.Rules.{Rule, default_of, rule_of}
+use Rattle.fisca_inputs.specs.Rules.{rule_of}
 use Rattle.fisca_inputs.specs.Seen.{value_seen}
-use Rattle.fisca_inputs.specs.Typed.{DefaultsTyped, GivensTyped, IsValueOf, is_typed}
+use Rattle.fisca_inputs.specs.Typed.{DefaultsTyped, GivensTyped, IsValueOf}
 use Rattle.fisca_inputs.specs.declared.given.Given.{Given}
-use Rattle.fisca_inputs.specs.declared.given.Value.{Value}
 use Rattle.fisca_rosters.specs.Lookup.{counts_of}
 use Rattle.fisca_num.specs.Number.{Number}
-use Rattle.fisca_rules.specs.Rules.{known_by}
-use Rattle.fisca_rules.specs.Safety.{DefaultsFit}
 use Rattle.fisca_rules.specs.Views.{rule_set}
 use Rattle.fisca_rules.specs.declared.rule_set.RuleSet.{RuleSet}
 use Rattle.fisca_memo.proofs.Files.{read_from}
@@ -30,33 +28,10 @@ use Rattle.fisca_run_file.specs.Moved.{put_all_in}
 use Rattle.fisca_run_file.specs.Positions.{inputs_with, moved_at, situation_with, with_values}
 use Rattle.fisca_run_file.specs.RunFiles.{RunFile}
 use Rattle.fisca_situations.specs.Situations.{Situation}
-use Rattle.fisca_eval.proofs.SourceLookups.{default_at, default_typed, type_at}
 use Rattle.fisca_eval.specs.Sound.{InputsFit}
 use Rattle.fisca_tables.specs.Known.{tables as known}
-use Rattle.fisca_tables.specs.declared.variable.Variable.{Variable}
-use Rattle.fisca_variables.specs.VariableForms.{written}
 use Rattle.fisca_yaml.specs.Find.{get, line_at}
 use Rattle.fisca_yaml.specs.Node.{Node, null}
-use Rattle.std.proofs.Common.{codes}
-use Rattle.std.specs.Option.{unwrap_or}
-
--- Defaults
-
--- the variable whose default it is
-declared_at : (vs : List Variable) (x : ℕ) (r : Rule) (w : Value) → slice_get (map rule_of vs) x ≡ Some r → r.default ≡ Some w
-    → (v : Variable) × (slice_get (map written vs) x ≡ Some (written v)) × (default_of v.default_value ≡ Some w)
-declared_at [] x r w h k = cc
-declared_at (v ∷ vs) zero r w h k = let same : rule_of v ≡ r = cc in (v, refl, ap (λ (z : Rule). z.default) same ∙ k)
-declared_at (v ∷ vs) (suc x) r w h k = declared_at vs x r w h k
-
-defaults_typed : (r : RuleSet) → DefaultsFit (rule_set r) → DefaultsTyped (known_by (rule_set r)) (map rule_of r.tables.variables)
-defaults_typed r fit x rule w h k =
-    let c = known_by (rule_set r) in
-    let found = declared_at r.tables.variables x rule w h k in
-    let v = written found.0 in
-    let vs = (rule_set r).variables in
-    subst (λ t. is_typed c t (value_seen w) ≡ true) (sym (type_at vs x v found.1))
-    (default_typed c v.value_type v.default_value w (default_at c.enums vs fit x v found.1) found.2)
 
 -- Positions
 

@@ -18,7 +18,7 @@ use Rattle.fisca_time.specs.Period.{Span}
 use Rattle.fisca_verdicts.specs.Read.{IsRead}
 use Rattle.fisca_yaml.specs.Node.{Node}
 use Rattle.fisca_verdicts.specs.Report.{IsReport, failed_of, passed_of, report_text}
-use Rattle.fisca_verdicts.specs.Tests.{Test, tests_of}
+use Rattle.fisca_verdicts.specs.Tests.{tests_of}
 use Rattle.fisca_verdicts.specs.declared.all.Verdict.{Verdict}
 use Rattle.fisca_rule_files.specs.declared.refusal.Refusal.{Refusal}
 use Rattle.fisca_commands.specs.Test.{IsTested, IsWritten, Testing, scene_in, simulation_in}

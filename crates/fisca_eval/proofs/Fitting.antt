@@ -1,8 +1,7 @@
 -- The inputs of a situation are of the types of their variables.
 use Rattle.std.proofs.Common.{◌≡◌, ℕ, zero, suc, List, [], ◌∷◌, map, slice_get, Bool, true, false, cond, not, Option, Some, None, Result, Ok, Err, codes, refl, ap, sym, subst, ◌∙◌}
-use Rattle.std.specs.Prelude.{◌&&◌}
 use Rattle.std.specs.Option.{unwrap_or}
-use Rattle.std.proofs.lemmas.Bool.{eqb-true}
+use Rattle.std.proofs.lemmas.Bool.{and_parts, eqb-true}
 use Rattle.std.proofs.lemmas.Map.Entries.{lookup-filter-keys}
 use Rattle.fisca_calc.specs.Calc.{Calc, calc_by, calc_of, columns_in, default_in, file_checked, situation_in}
 use Rattle.fisca_calc.specs.Faults.{told}
@@ -42,7 +41,7 @@ declared_at [] x r w h k = cc
 declared_at (v ∷ vs) zero r w h k = let same : rule_of v ≡ r = cc in (v, refl, ap (λ (z : Rule). z.default) same ∙ k)
 declared_at (v ∷ vs) (suc x) r w h k = declared_at vs x r w h k
 
-defaults_typed : (r : RuleSet) → DefaultsFit (rule_set r) → DefaultsTyped (known_by (rule_set r)) (map rule_of r.tables.variables)
+pub defaults_typed : (r : RuleSet) → DefaultsFit (rule_set r) → DefaultsTyped (known_by (rule_set r)) (map rule_of r.tables.variables)
 defaults_typed r fit x rule w h k =
     let c = known_by (rule_set r) in
     let found = declared_at r.tables.variables x rule w h k in
@@ -83,13 +82,9 @@ calc_fits rules safe n c h =
 
 -- Neutralised variables
 
-first : (a b : Bool) → (a && b) ≡ true → a ≡ true
-first true b h = refl
-first false b h = h
-
 -- keys that are the same have one variable
 same_mark : (marks : List Bool) (k q : Key) → same_key k q ≡ true → not (is_marked marks q.variable) ≡ not (is_marked marks k.variable)
-same_mark marks k q h = ap (λ x. not (is_marked marks x)) (sym (eqb-true k.variable q.variable (first _ _ h)))
+same_mark marks k q h = ap (λ x. not (is_marked marks x)) (sym (eqb-true k.variable q.variable (and_parts _ _ h).0))
 
 kept_is : (b : Bool) (o : Option Value) (w : Value) → cond b o None ≡ Some w → o ≡ Some w
 kept_is true o w h = h

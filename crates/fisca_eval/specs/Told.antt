@@ -1,5 +1,5 @@
 -- What an evaluator answers, as the code has it.
-use Rattle.std.specs.Prelude.{◌≡◌, Result, Ok, Err}
+use Rattle.std.specs.Prelude.{Result, Ok, Err}
 use Rattle.fisca_answers.specs.Answers.{answer}
 use Rattle.fisca_answers.specs.Inquiry as inquiry
 use Rattle.fisca_answers.specs.Inquiry.{Cause, Fault}

@@ -1,8 +1,8 @@
 -- Where no entity has two members, and inputs are of first members alone, no default stands beside an input.
-use Rattle.std.proofs.Common.{◌≡◌, ◌<◌, ltb-true, ℕ, zero, suc, List, [], ◌∷◌, ◌++◌, Bool, true, false, Option, Some, None, refl, sym, ap, ◌∙◌, arith, if◌then◌else◌, ◌&&◌, slice_get}
+use Rattle.std.proofs.Common.{◌≡◌, ◌<◌, ltb-true, ℕ, zero, suc, List, [], ◌∷◌, ◌++◌, Bool, true, false, Option, Some, None, refl, sym, ap, ◌∙◌, arith, if◌then◌else◌, slice_get}
 use Rattle.std.specs.Prelude.{◌==◌, nat_lt, Ok}
 use Rattle.std.specs.List.{AllByRecursion, list_all, list_any}
-use Rattle.std.proofs.lemmas.Bool.{eqb-true}
+use Rattle.std.proofs.lemmas.Bool.{and_parts, eqb-true}
 use Rattle.fisca_params.specs.Results.{and_then}
 use Rattle.fisca_time.specs.Period.{Span}
 use Rattle.fisca_inputs.specs.Defaults.{and_row, beside, beside_by, count_of, first_line, row_key, row_of, row_with, rows_with, rows_of, with_defaults}
@@ -13,18 +13,10 @@ use Rattle.fisca_inputs.specs.declared.given.Value.{Value}
 use Rattle.fisca_inputs.specs.declared.key.Key.{Key}
 use Rattle.fisca_inputs.proofs.First.{all_in}
 
-left : (a b : Bool) → (a && b) ≡ true → a ≡ true
-left true b h = refl
-left false b h = h
-
-right : (a b : Bool) → (a && b) ≡ true → b ≡ true
-right true b h = h
-right false b h = cc
-
 small : (cs : List ℕ) (i : ℕ) → list_all (λ c. nat_lt c 2) cs ≡ true → nat_lt (count_of cs i) 2 ≡ true
 small [] i h = refl
-small (c ∷ cs) zero h = left (nat_lt c 2) (list_all (λ d. nat_lt d 2) cs) h
-small (c ∷ cs) (suc i) h = small cs i (right (nat_lt c 2) (list_all (λ d. nat_lt d 2) cs) h)
+small (c ∷ cs) zero h = (and_parts (nat_lt c 2) (list_all (λ d. nat_lt d 2) cs) h).0
+small (c ∷ cs) (suc i) h = small cs i (and_parts (nat_lt c 2) (list_all (λ d. nat_lt d 2) cs) h).1
 
 module _ (es : Entries) where
   -- the first member has a value for the variable and period of each of these keys
@@ -50,8 +42,8 @@ module _ (es : Entries) where
   rows_have : (fs : Entries) (ks : List Key) → list_all (λ e. e.0.member == 0) fs ≡ true → AllByRecursion (λ e. has es e.0 ≡ true) fs → Have ks → Have (rows_with ks fs)
   rows_have [] ks first own all = all
   rows_have (e ∷ fs) ks first own all =
-      rows_have fs (and_row ks (row_key e.0)) (right (e.0.member == 0) (list_all (λ f. f.0.member == 0) fs) first) own.1
-      (with_row ks (row_key e.0) all (first_of e.0 (left (e.0.member == 0) (list_all (λ f. f.0.member == 0) fs) first) own.0))
+      let both = and_parts (e.0.member == 0) (list_all (λ f. f.0.member == 0) fs) first in
+      rows_have fs (and_row ks (row_key e.0)) both.1 own.1 (with_row ks (row_key e.0) all (first_of e.0 both.0 own.0))
 
   -- Defaults
 

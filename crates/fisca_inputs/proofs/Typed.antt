@@ -1,10 +1,10 @@
 -- Inputs are of their variables' types where what is given is, and the defaults are.
 use Rattle.std.proofs.Common.{◌≡◌, sym, subst, ℕ, List, [], ◌∷◌, ◌++◌, map, length, pos, Bool, true, false, cond, Option, Some, None, slice_get, refl, if◌then◌else◌}
-use Rattle.std.specs.Prelude.{Result, Ok, Err, nat_lt, ◌==◌, ◌&&◌}
+use Rattle.std.specs.Prelude.{Result, Ok, Err, nat_lt, ◌==◌}
 use Rattle.std.specs.List.{range_with_len}
 use Rattle.std.specs.Map.{lookup}
 use Rattle.std.specs.Ordering.{int_eq, is_lt}
-use Rattle.std.proofs.lemmas.Bool.{eqb-true}
+use Rattle.std.proofs.lemmas.Bool.{and_parts, eqb-true}
 use Rattle.fisca_meaning.specs.Dialogues as meaning
 use Rattle.fisca_meaning.specs.Questions.{fits, variable_type}
 use Rattle.fisca_num.specs.Number.{Number}
@@ -183,13 +183,9 @@ module _ (c : Tables) where
   input_typed [] all k w h = cc
   input_typed (e ∷ es) all k w h = by (same_key k e.0) refl h (input_typed es all.1 k w)
     where
-      first : (a b : Bool) → (a && b) ≡ true → a ≡ true
-      first true b q = refl
-      first false b q = q
-
       by : (b : Bool) → same_key k e.0 ≡ b → cond b (Some e.1) (lookup (same_key k) es) ≡ Some w → (value_at es k ≡ Some w → IsValueOf c k.variable (value_seen w)) → IsValueOf c k.variable (value_seen w)
       by true s q more =
           let here : e.1 ≡ w = cc in
-          let variable : k.variable ≡ e.0.variable = eqb-true k.variable e.0.variable (first _ _ s) in
+          let variable : k.variable ≡ e.0.variable = eqb-true k.variable e.0.variable (and_parts _ _ s).0 in
           subst (λ y. IsValueOf c k.variable (value_seen y)) here (subst (λ y. IsValueOf c y (value_seen e.1)) (sym variable) all.0)
       by false s q more = more q

@@ -13,16 +13,13 @@ use crate::fault::{SituationFault, SituationKind};
 use crate::given::Value;
 use crate::hashed::Numbers;
 use crate::key::Key;
-use crate::table::Table;
+use crate::table::{ROOM, Table};
 use std::alloc::{AllocError, Global};
 use std::hash::BuildHasherDefault;
 use std::marker::Model;
 
 /// The largest number of inputs.
 pub(crate) const LIMIT: usize = 100_000;
-
-/// For how many rows there is room at once.
-const ROOM: usize = 144;
 
 /// The inputs of a situation: a value for each key that has one, seen as the list of its entries. The table, which takes half a KiB beside
 /// its lists, stands in a box, since situations are handed on.

@@ -20,8 +20,8 @@ use std::hash::BuildHasherDefault;
 /// For how many members numbers stand side by side.
 const PAGE: u32 = 64;
 
-/// For how many pages there is room at once.
-const ROOM: usize = 144;
+/// For how many pages, or rows of inputs, there is room at once.
+pub(crate) const ROOM: usize = 144;
 
 /// How many slots there are, which variables share.
 const SLOTS: usize = 256;

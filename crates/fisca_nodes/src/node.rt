@@ -8,7 +8,6 @@ use std::rc::Rc;
 /// What is worked out for an expression. Enums, their members, variables and entities are given by their places, and a
 /// local by how many with a value come before it; moves lead from the period of the formula to the one that is meant.
 #[cycle(node)]
-#[derive(Drop)]
 pub enum Node {
     /// A number.
     Literal(Fraction),
@@ -46,6 +45,35 @@ pub enum Node {
     Parameter(Box<Parameter>),
     /// The sum of a scale.
     ScaleSum(Box<ScaleSum>),
+}
+
+/// A loop, since a `select` has one choice in the next for each of its conditions, of which a module has room for 150,000: they need no
+/// stack. All other nodes are as deep as the expression that they come from, at most 120.
+impl Drop for Node {
+    #[cycle(dropping)]
+    fn drop(mut self) {
+        loop {
+            match self {
+                Node::Choose(_, pair) => {
+                    let Pair { left: _, right } = Box::into_inner(pair);
+                    self = right;
+                }
+                Node::Literal(_) | Node::Truth(_) | Node::Member(_, _) | Node::Local(_) => return,
+                Node::DatePart(_, _) => return,
+                Node::Ask(_) => return,
+                Node::HasRole(_, _) => return,
+                Node::Count(_) => return,
+                Node::Total(_, _) => return,
+                Node::Negative(_) | Node::Opposite(_) => return,
+                Node::Arithmetic(_, _) => return,
+                Node::Logic(_, _) => return,
+                Node::Comparison(_, _) => return,
+                Node::Same(_) => return,
+                Node::Parameter(_) => return,
+                Node::ScaleSum(_) => return,
+            }
+        }
+    }
 }
 
 /// The operands of an operation, side by side.

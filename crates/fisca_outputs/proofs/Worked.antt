@@ -1,26 +1,16 @@
 -- The definition of expected values, worked out on small tests.
 use Rattle.std.proofs.Common.{◌≡◌, ℕ, ◌+◌, ◌-◌, ◌*◌, List, [], ◌∷◌, map, codes, refl, sym, lit<}
 use Rattle.std.specs.Prelude.{ℤ, pos, Bool, true, false, Option, Some, None, Result, Ok, Err}
+use Rattle.fisca_situations.proofs.Country.{country}
 use Rattle.fisca_inputs.specs.declared.given.Value.{Value}
 use Rattle.fisca_inputs.specs.declared.given.Value.TheVariants as v
 use Rattle.fisca_rosters.specs.declared.entity_members.EntityMembers.{EntityMembers}
 use Rattle.fisca_num.specs.Literal.{number_of_literal, number_of_parts, digits_ratio}
-use Rattle.fisca_num.specs.Number.{Number, whole_number, zero_number}
+use Rattle.fisca_num.specs.Number.{Number, whole_number}
 use Rattle.fisca_num.specs.Operations.{only_number_of}
 use Rattle.fisca_num.specs.declared.faults.NumFault.TheVariants as number_fault
 use Rattle.std.proofs.Math.Nat.{eq-one_of_dvd-one}
-use Rattle.fisca_tables.specs.declared.entity.Entity.{Entity}
-use Rattle.fisca_tables.specs.declared.role.Role.{Role}
-use Rattle.fisca_tables.specs.declared.tables.Tables.{Tables}
-use Rattle.fisca_tables.specs.declared.variable.DeclaredType.{DeclaredType}
-use Rattle.fisca_tables.specs.declared.variable.DeclaredType.TheVariants as type
-use Rattle.fisca_tables.specs.declared.variable.DefaultValue.{DefaultValue}
-use Rattle.fisca_tables.specs.declared.variable.DefaultValue.TheVariants as default
-use Rattle.fisca_tables.specs.declared.variable.SetInput.{SetInput}
-use Rattle.fisca_tables.specs.declared.variable.SetInput.TheVariants as shared
-use Rattle.fisca_tables.specs.declared.variable.Variable.{Variable}
 use Rattle.fisca_time.specs.Period.{Span, eternity, months}
-use Rattle.fisca_time.specs.declared.unit.Unit.{Unit}
 use Rattle.fisca_time.specs.declared.unit.Unit.TheVariants as unit
 use Rattle.fisca_yaml.specs.Flow.{flow_value, series}
 use Rattle.fisca_yaml.specs.Grouping.{document, block}
@@ -29,73 +19,6 @@ use Rattle.fisca_outputs.specs.Faults.{bad_at}
 use Rattle.fisca_outputs.specs.Outputs.{Output}
 use Rattle.fisca_outputs.specs.Reading.{dated_read, entry_read, member_read, named_read, outputs_in, outputs_of, section_by, section_read, value_in, values_read, variable_read}
 use Rattle.fisca_outputs.specs.declared.fault.OutputFault.{OutputFault}
-
--- Persons in households, and some variables
-
-abbrev parent : Role
-parent = record {
-  key = codes "parent";
-  plural = Some (codes "parents");
-  label = None;
-  doc = None;
-  max = None;
-  subroles = codes "first_parent" ∷ codes "second_parent" ∷ [];
-}
-
-abbrev child : Role
-child = record { key = codes "child"; plural = Some (codes "children"); label = None; doc = None; max = None; subroles = [] }
-
-abbrev household : Entity
-household = record {
-  constant = codes "Household";
-  key = codes "household";
-  plural = codes "households";
-  label = None;
-  doc = None;
-  is_person = false;
-  roles = parent ∷ child ∷ [];
-}
-
-abbrev person : Entity
-person = record { constant = codes "Person"; key = codes "person"; plural = codes "persons"; label = None; doc = None; is_person = true; roles = [] }
-
-abbrev variable : List ℕ → ℕ → DeclaredType → DefaultValue → Unit → Option SetInput → Variable
-variable name entity t d u s = record {
-  «module» = 0;
-  line = 1;
-  name = name;
-  entity = entity;
-  value_type = t;
-  definition_period = u;
-  default_value = d;
-  end = None;
-  set_input = s;
-  label = None;
-  documentation = None;
-  unit = None;
-  reference = [];
-  formulas = [];
-}
-
-abbrev none : DefaultValue
-none = default.Number zero_number
-
-abbrev country : Tables
-country = record {
-  entities = household ∷ person ∷ [];
-  enums = record { name = codes "Occupancy"; members = (codes "tenant", codes "Tenant") ∷ (codes "owner", codes "Owner") ∷ [] } ∷ [];
-  variables =
-      variable (codes "salary") 1 type.Float none unit.Month (Some shared.DivideByPeriod)
-      ∷ variable (codes "age") 1 type.Int none unit.Month (Some shared.DispatchByPeriod)
-      ∷ variable (codes "insured") 1 type.Bool (default.Bool false) unit.Month None
-      ∷ variable (codes "occupancy") 0 (type.Enum 0) (default.Member 0) unit.Month None
-      ∷ variable (codes "yearly_tax") 0 type.Float none unit.Year None
-      ∷ variable (codes "born") 1 type.Date (default.Date None) unit.Eternity None
-      ∷ variable (codes "height") 1 type.Float none unit.Eternity None
-      ∷ variable (codes "nickname") 1 type.Text (default.Text None) unit.Month None
-      ∷ [];
-  parameters = [];
-}
 
 -- two persons of one name and a third, who live together
 

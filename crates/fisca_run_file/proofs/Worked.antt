@@ -1,6 +1,7 @@
 -- The definition of run files, worked out on small ones.
 use Rattle.std.proofs.Common.{◌≡◌, ℕ, ◌*◌, List, [], ◌∷◌, codes, pos, negsuc, refl, sym, lit<}
 use Rattle.std.specs.Prelude.{Bool, true, false, map, Option, Some, None, Result, Ok, Err}
+use Rattle.fisca_situations.proofs.Country.{child, households, nought, person, variable}
 use Rattle.fisca_calc.specs.declared.fault.RunFileFault.{RunFileFault}
 use Rattle.fisca_calc.specs.declared.fault.RunFileKind.{RunFileKind}
 use Rattle.fisca_calc.specs.declared.fault.RunFileKind.TheVariants as kind
@@ -16,17 +17,10 @@ use Rattle.fisca_num.specs.Number.{zero_number, one_number, whole_number}
 use Rattle.fisca_num.specs.Operations.{only_number_of}
 use Rattle.fisca_situations.specs.Reading.{dated_given, entry_given, inputs_given, member_below, named_given, section_by, section_given, value_given, variable_given}
 use Rattle.fisca_situations.specs.Situations.{reading_in, reading_of}
-use Rattle.fisca_tables.specs.declared.entity.Entity.{Entity}
-use Rattle.fisca_tables.specs.declared.role.Role.{Role}
 use Rattle.fisca_tables.specs.declared.tables.Tables.{Tables}
-use Rattle.fisca_tables.specs.declared.variable.DeclaredType.{DeclaredType}
 use Rattle.fisca_tables.specs.declared.variable.DeclaredType.TheVariants as type
-use Rattle.fisca_tables.specs.declared.variable.DefaultValue.TheVariants as default
-use Rattle.fisca_tables.specs.declared.variable.SetInput.{SetInput}
 use Rattle.fisca_tables.specs.declared.variable.SetInput.TheVariants as sharing
-use Rattle.fisca_tables.specs.declared.variable.Variable.{Variable}
 use Rattle.fisca_time.specs.Period.{Span, eternity, months}
-use Rattle.fisca_time.specs.declared.unit.Unit.{Unit}
 use Rattle.fisca_time.specs.declared.unit.Unit.TheVariants as unit
 use Rattle.fisca_yaml.specs.Flow.{flow_value, series}
 use Rattle.fisca_yaml.specs.Grouping.{document, block}
@@ -36,52 +30,17 @@ use Rattle.fisca_run_file.specs.SaidAxes.{axis_of, axis_said, spec_said, with_li
 
 -- Persons in households, and some variables
 
-abbrev child : Role
-child = record { key = codes "child"; plural = Some (codes "children"); label = None; doc = None; max = None; subroles = [] }
-
-abbrev household : Entity
-household = record {
-  constant = codes "Household";
-  key = codes "household";
-  plural = codes "households";
-  label = None;
-  doc = None;
-  is_person = false;
-  roles = child ∷ [];
-}
-
-abbrev person : Entity
-person = record { constant = codes "Person"; key = codes "person"; plural = codes "persons"; label = None; doc = None; is_person = true; roles = [] }
-
-abbrev variable : List ℕ → ℕ → DeclaredType → Unit → Option SetInput → Variable
-variable name entity t u s = record {
-  «module» = 0;
-  line = 1;
-  name = name;
-  entity = entity;
-  value_type = t;
-  definition_period = u;
-  default_value = default.Number zero_number;
-  end = None;
-  set_input = s;
-  label = None;
-  documentation = None;
-  unit = None;
-  reference = [];
-  formulas = [];
-}
-
 abbrev country : Tables
 country = record {
-  entities = household ∷ person ∷ [];
+  entities = households (child ∷ []) ∷ person ∷ [];
   enums = [];
   variables =
-      variable (codes "salary") 1 type.Float unit.Month (Some sharing.DivideByPeriod)
-      ∷ variable (codes "rent") 0 type.Float unit.Month None
-      ∷ variable (codes "age") 1 type.Int unit.Month (Some sharing.DispatchByPeriod)
-      ∷ variable (codes "height") 1 type.Float unit.Eternity None
-      ∷ variable (codes "owns") 1 type.Bool unit.Month None
-      ∷ variable (codes "born") 1 type.Date unit.Eternity None
+      variable (codes "salary") 1 type.Float nought unit.Month (Some sharing.DivideByPeriod)
+      ∷ variable (codes "rent") 0 type.Float nought unit.Month None
+      ∷ variable (codes "age") 1 type.Int nought unit.Month (Some sharing.DispatchByPeriod)
+      ∷ variable (codes "height") 1 type.Float nought unit.Eternity None
+      ∷ variable (codes "owns") 1 type.Bool nought unit.Month None
+      ∷ variable (codes "born") 1 type.Date nought unit.Eternity None
       ∷ [];
   parameters = [];
 }

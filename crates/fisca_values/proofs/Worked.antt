@@ -1,10 +1,10 @@
 -- The definitions of casts, persons and totals, worked out on small ones.
-use Rattle.std.proofs.Common.{◌≡◌, ℕ, ℤ, pos, negsuc, List, [], ◌∷◌, ◌<◌, ◌^◌, unsigned_abs, refl, lit<}
+use Rattle.std.proofs.Common.{◌≡◌, ℕ, ℤ, pos, negsuc, [], ◌∷◌, ◌<◌, ◌^◌, unsigned_abs, refl, lit<}
 use Rattle.std.specs.Prelude.{true, false, Some, None, ◌==◌, if◌then◌else◌}
 use Rattle.fisca_meaning.specs.Dialogues.{Dialogue, number, bool, member, gives, fails, stuck, computed, too_wide}
 use Rattle.fisca_meaning.specs.Meaning.{total_over}
 use Rattle.fisca_meaning.specs.Questions.{Groups}
-use Rattle.fisca_num.specs.Number.{Number, zero_number, one_number, whole_number}
+use Rattle.fisca_num.specs.Number.{zero_number, one_number, whole_number}
 use Rattle.fisca_num.specs.Operations.{number_over}
 use Rattle.fisca_num.specs.Rational.{IsLowest, IsWithin}
 use Rattle.fisca_tables.specs.declared.variable.DeclaredType.TheVariants as declared

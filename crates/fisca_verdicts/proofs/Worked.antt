@@ -1,6 +1,7 @@
 -- The definition of files of tests, worked out on small ones.
 use Rattle.std.proofs.Common.{◌≡◌, ℕ, List, [], ◌∷◌, map, length, codes, refl, sym, lit<}
 use Rattle.std.specs.Prelude.{pos, negsuc, Bool, true, false, is_some, Option, Some, None, Result, Ok, Err}
+use Rattle.fisca_situations.proofs.Country.{country}
 use Rattle.fisca_inputs.specs.declared.fault.SituationKind.TheVariants as situation
 use Rattle.fisca_members.specs.Members.{members_in}
 use Rattle.fisca_members.specs.Persons.{with_person}
@@ -9,18 +10,6 @@ use Rattle.fisca_num.specs.Number.{one_number, whole_number, zero_number}
 use Rattle.fisca_num.specs.Operations.{only_number_of}
 use Rattle.fisca_situations.specs.Reading.{dated_given, entry_given, inputs_given, member_below, named_given, section_by, section_given, value_given, variable_given}
 use Rattle.fisca_situations.specs.Situations.{reading_in, reading_of}
-use Rattle.fisca_tables.specs.declared.entity.Entity.{Entity}
-use Rattle.fisca_tables.specs.declared.role.Role.{Role}
-use Rattle.fisca_tables.specs.declared.tables.Tables.{Tables}
-use Rattle.fisca_tables.specs.declared.variable.DeclaredType.{DeclaredType}
-use Rattle.fisca_tables.specs.declared.variable.DeclaredType.TheVariants as type
-use Rattle.fisca_tables.specs.declared.variable.DefaultValue.{DefaultValue}
-use Rattle.fisca_tables.specs.declared.variable.DefaultValue.TheVariants as default
-use Rattle.fisca_tables.specs.declared.variable.SetInput.{SetInput}
-use Rattle.fisca_tables.specs.declared.variable.SetInput.TheVariants as shared
-use Rattle.fisca_tables.specs.declared.variable.Variable.{Variable}
-use Rattle.fisca_time.specs.declared.unit.Unit.{Unit}
-use Rattle.fisca_time.specs.declared.unit.Unit.TheVariants as unit
 use Rattle.fisca_yaml.specs.Flow.{flow_value, series}
 use Rattle.fisca_yaml.specs.Grouping.{document, block}
 use Rattle.fisca_yaml.specs.Node.{Node}
@@ -30,73 +19,6 @@ use Rattle.fisca_verdicts.specs.Tests.{Test, test_by, test_of, tests_of}
 use Rattle.fisca_verdicts.specs.declared.fault.TestFault.{TestFault}
 use Rattle.fisca_verdicts.specs.declared.fault.TestKind.{TestKind}
 use Rattle.fisca_verdicts.specs.declared.fault.TestKind.TheVariants as kind
-
--- Persons in households, and some variables
-
-abbrev parent : Role
-parent = record {
-  key = codes "parent";
-  plural = Some (codes "parents");
-  label = None;
-  doc = None;
-  max = None;
-  subroles = codes "first_parent" ∷ codes "second_parent" ∷ [];
-}
-
-abbrev child : Role
-child = record { key = codes "child"; plural = Some (codes "children"); label = None; doc = None; max = None; subroles = [] }
-
-abbrev household : Entity
-household = record {
-  constant = codes "Household";
-  key = codes "household";
-  plural = codes "households";
-  label = None;
-  doc = None;
-  is_person = false;
-  roles = parent ∷ child ∷ [];
-}
-
-abbrev person : Entity
-person = record { constant = codes "Person"; key = codes "person"; plural = codes "persons"; label = None; doc = None; is_person = true; roles = [] }
-
-abbrev variable : List ℕ → ℕ → DeclaredType → DefaultValue → Unit → Option SetInput → Variable
-variable name entity t d u s = record {
-  «module» = 0;
-  line = 1;
-  name = name;
-  entity = entity;
-  value_type = t;
-  definition_period = u;
-  default_value = d;
-  end = None;
-  set_input = s;
-  label = None;
-  documentation = None;
-  unit = None;
-  reference = [];
-  formulas = [];
-}
-
-abbrev none : DefaultValue
-none = default.Number zero_number
-
-abbrev country : Tables
-country = record {
-  entities = household ∷ person ∷ [];
-  enums = record { name = codes "Occupancy"; members = (codes "tenant", codes "Tenant") ∷ (codes "owner", codes "Owner") ∷ [] } ∷ [];
-  variables =
-      variable (codes "salary") 1 type.Float none unit.Month (Some shared.DivideByPeriod)
-      ∷ variable (codes "age") 1 type.Int none unit.Month (Some shared.DispatchByPeriod)
-      ∷ variable (codes "insured") 1 type.Bool (default.Bool false) unit.Month None
-      ∷ variable (codes "occupancy") 0 (type.Enum 0) (default.Member 0) unit.Month None
-      ∷ variable (codes "yearly_tax") 0 type.Float none unit.Year None
-      ∷ variable (codes "born") 1 type.Date (default.Date None) unit.Eternity None
-      ∷ variable (codes "height") 1 type.Float none unit.Eternity None
-      ∷ variable (codes "nickname") 1 type.Text (default.Text None) unit.Month None
-      ∷ [];
-  parameters = [];
-}
 
 -- of a test: its name, whether it has an absolute and a relative margin, how many inputs it has after sharing, and how many values it expects
 record Shown : Type 0 where

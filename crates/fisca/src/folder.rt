@@ -28,11 +28,11 @@ impl<'a, R: Files + AllocGlobal + Clone + Drop> DiskFolder<'a, R> {
         }
     }
 
-    /// Whether a path of the machine leads to a folder.
-    fn leads_to_folder(&self, path: &str) -> bool {
+    /// Whether a path of the machine leads to a folder, or this where it leads nowhere.
+    fn leads_to_folder(&self, path: &str, otherwise: bool) -> bool {
         match fs::metadata(self.rt, path) {
             Ok(found) => found.is_dir(),
-            Err(_) => false,
+            Err(_) => otherwise,
         }
     }
 }
@@ -55,7 +55,8 @@ impl<R: Files + AllocGlobal + Clone + Drop> RuleFolder for DiskFolder<'_, R> {
             match entry {
                 Ok(entry) => {
                     let name = String::from_str(self.rt.alloc(), entry.file_name())?;
-                    let is_folder = self.leads_to_folder(entry.path().as_str());
+                    // A broken link `parameters` or `variables` is no file to be passed over: it cannot be listed.
+                    let is_folder = self.leads_to_folder(entry.path().as_str(), path.is_empty());
                     entries.push(FolderEntry::new(name, is_folder))?;
                 }
                 Err(error) => return none_for(error.kind()),

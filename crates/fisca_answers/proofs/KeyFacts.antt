@@ -4,7 +4,7 @@ use Rattle.std.specs.Prelude.{◌||◌, ◌&&◌, ◌==◌, nat_lt, IsTrue, cond
 use Rattle.std.specs.Ordering.{eq_by_cmp, is_eq, nat_cmp, ordering_then}
 use Rattle.std.specs.declared.cmp.Ordering.{Ordering}
 use Rattle.std.specs.declared.cmp.Ordering.TheVariants.{Less, Equal, Greater}
-use Rattle.std.proofs.lemmas.Bool.{cases_Bool, false≢true, ltb-true}
+use Rattle.std.proofs.lemmas.Bool.{cases_Bool, false≢true, ltb-true, and_parts}
 use Rattle.fisca_time.specs.Period.{Span, eternity, months, days, span_cmp, is_period}
 use Rattle.fisca_time.specs.Unit.{rank}
 use Rattle.fisca_time.specs.declared.unit.Unit.{Unit}
@@ -67,11 +67,6 @@ has_behind (x ∷ xs) last k = ap (λ b. same_key x k || b) (has_behind xs last 
 
 -- The four facts
 
-split : (a b : Bool) → (a && b) ≡ true → (a ≡ true) × (b ≡ true)
-split true true h = (refl, refl)
-split true false h = absurd (false≢true h)
-split false b h = absurd (false≢true h)
-
 same_rank : (u v : Unit) → (rank u == rank v) ≡ true → u ≡ v
 same_rank unit.Day unit.Day h = refl
 same_rank unit.Month unit.Month h = refl
@@ -102,13 +97,13 @@ equal_span eternity (months v g m) h = absurd (false≢true h)
 equal_span eternity (days g m) h = absurd (false≢true h)
 equal_span (months u f n) eternity h = absurd (false≢true h)
 equal_span (months u f n) (months v g m) h =
-    let a = split (rank u == rank v) _ h in
-    let b = split (f == g) _ a.1 in
+    let a = and_parts (rank u == rank v) _ h in
+    let b = and_parts (f == g) _ a.1 in
     λ i. months_by (same_rank u v a.0 i, eqb-true f g b.0 i, eqb-true n m b.1 i)
 equal_span (months u f n) (days g m) h = absurd (false≢true h)
 equal_span (days f n) eternity h = absurd (false≢true h)
 equal_span (days f n) (months v g m) h = absurd (false≢true h)
-equal_span (days f n) (days g m) h = let a = split (f == g) _ h in λ i. days_by (eqb-true f g a.0 i, eqb-true n m a.1 i)
+equal_span (days f n) (days g m) h = let a = and_parts (f == g) _ h in λ i. days_by (eqb-true f g a.0 i, eqb-true n m a.1 i)
 
 span_same : (p : Span) → same_span p p ≡ true
 span_same eternity = refl
@@ -120,8 +115,8 @@ key_by t = record { variable = t.0; member = t.1; period = t.2 }
 
 pub equal_key : (a b : Key) → same_key a b ≡ true → a ≡ b
 equal_key a b h =
-    let p = split (a.variable == b.variable) _ h in
-    let q = split (a.member == b.member) _ p.1 in
+    let p = and_parts (a.variable == b.variable) _ h in
+    let q = and_parts (a.member == b.member) _ p.1 in
     λ i. key_by (eqb-true a.variable b.variable p.0 i, eqb-true a.member b.member q.0 i, equal_span a.period b.period q.1 i)
 
 pub key_same : (a b : Key) → a ≡ b → same_key a b ≡ true

@@ -1,5 +1,5 @@
 -- The definition of files of `fisca calc`, worked out on small ones.
-use Rattle.std.proofs.Common.{◌≡◌, ℕ, ◌*◌, List, [], ◌∷◌, codes, refl}
+use Rattle.std.proofs.Common.{◌≡◌, ℕ, List, [], ◌∷◌, codes, refl}
 use Rattle.std.specs.Prelude.{Option, Some, None, Result, Ok, Err}
 use Rattle.fisca_situations.proofs.Country.{child, households, nought, person, variable}
 use Rattle.fisca_inputs.specs.Entries.{key}
@@ -9,9 +9,10 @@ use Rattle.fisca_members.specs.Members.{members_in}
 use Rattle.fisca_members.specs.Persons.{with_person}
 use Rattle.fisca_situations.specs.Reading.{dated_given, entry_given, inputs_given, member_below, named_given, section_by, section_given, value_given, variable_given}
 use Rattle.fisca_situations.specs.Situations.{reading_in, reading_of}
+use Rattle.fisca_situations.proofs.Shown.{january}
 use Rattle.fisca_tables.specs.declared.tables.Tables.{Tables}
 use Rattle.fisca_tables.specs.declared.variable.DeclaredType.TheVariants as type
-use Rattle.fisca_time.specs.Period.{Span, eternity, months}
+use Rattle.fisca_time.specs.Period.{eternity}
 use Rattle.fisca_time.specs.declared.unit.Unit.TheVariants as unit
 use Rattle.fisca_yaml.specs.Flow.{flow_value, series}
 use Rattle.fisca_yaml.specs.Grouping.{document, block}
@@ -46,9 +47,6 @@ of_node (Some n) = Some (keys_of (calc_of country n))
 -- the columns that a file says, or its first fault
 abbrev read : List ℕ → Option (Result (List Key) RunFileFault)
 read text = of_node (document text)
-
-abbrev january : Span
-january = months unit.Month (12 * 2017) 1
 
 abbrev fault : ℕ → RunFileKind → Option (Result (List Key) RunFileFault)
 fault line k = Some (Err (record { line = line; kind = k }))

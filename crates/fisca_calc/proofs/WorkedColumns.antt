@@ -5,7 +5,7 @@ use Rattle.fisca_inputs.specs.Entries.{key}
 use Rattle.fisca_inputs.specs.declared.given.Value.TheVariants as v
 use Rattle.fisca_inputs.specs.declared.key.Key.{Key}
 use Rattle.fisca_rosters.specs.declared.entity_members.EntityMembers.{EntityMembers}
-use Rattle.fisca_time.specs.Period.{Span, eternity, months}
+use Rattle.fisca_time.specs.Period.{eternity, months}
 use Rattle.fisca_time.specs.declared.unit.Unit.{Unit}
 use Rattle.fisca_time.specs.declared.unit.Unit.TheVariants as unit
 use Rattle.fisca_typing.specs.Tables.{Tables, Variable}
@@ -14,6 +14,7 @@ use Rattle.fisca_typing.specs.declared.kinds.ValueType.TheVariants as type
 use Rattle.fisca_calc.specs.Columns.{column_of}
 use Rattle.fisca_calc.specs.Texts.{value_text}
 use Rattle.fisca_calc.specs.Written.{Parts, parts_of, text_of_parts}
+use Rattle.fisca_situations.proofs.Shown.{january}
 
 -- How columns are written
 
@@ -65,10 +66,7 @@ members names = record { names = names; homes = [] }
 abbrev couple : List EntityMembers
 couple = members (codes "home" ∷ []) ∷ members (codes "Ann" ∷ codes "Bob" ∷ []) ∷ []
 
--- January 2017, and a text's key there
-abbrev january : Span
-january = months unit.Month 24204 1
-
+-- a text's key in January 2017
 abbrev named : List ℕ → Option Key
 named text = column_of country couple (Some january) text
 

@@ -1,5 +1,6 @@
 -- Counting up to the limits.
 use Rattle.std.proofs.Common.{◌≡◌, ◌∙◌, sym, ℕ, suc, ◌+◌, min, max, nat_le, List, [], ◌∷◌, Bool, true, false, ◌&&◌, if◌then◌else◌, Some, None, refl, ap, arith}
+use Rattle.std.proofs.lemmas.Bool.{and_parts}
 use Rattle.fisca_expressions.specs.Tree.{Argument}
 use Rattle.fisca_expressions.specs.Views.{series_of}
 use Rattle.fisca_typing.specs.Sizes.{Size, Sized, none, beside, above, capped, size_all, size_in, is_small}
@@ -67,19 +68,10 @@ last_counted ls m xs f h p = sym (ap capped (series_counted ls m xs) ∙ h ∙ a
 within : (n c : ℕ) → nat_le n c ≡ true → min n (suc c) ≡ n
 within n c h = grind arith
 
-first-true : (a b : Bool) → (a && b) ≡ true → a ≡ true
-first-true true b h = refl
-first-true false b h = h
-
-second-true : (a b : Bool) → (a && b) ≡ true → b ≡ true
-second-true true b h = h
-second-true false b h = cc
-
 pub small_capped : (s : Size) → is_small s ≡ true → capped s ≡ s
 small_capped s h =
-    let low = first-true (nat_le s.height 120) (nat_le s.nodes 20_000) h in
-    let few = second-true (nat_le s.height 120) (nat_le s.nodes 20_000) h in
-    alike (within s.height 120 low) (within s.nodes 20_000 few)
+    let parts = and_parts (nat_le s.height 120) (nat_le s.nodes 20_000) h in
+    alike (within s.height 120 parts.0) (within s.nodes 20_000 parts.1)
 
 le-counted : (n c : ℕ) → nat_le (min n (suc c)) c ≡ nat_le n c
 le-counted n c = grind arith

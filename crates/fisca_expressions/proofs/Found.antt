@@ -1,7 +1,7 @@
 -- What is read is spelled so: the tree in front is spelled by what was taken.
 use Rattle.std.proofs.Common.{◌≡◌, ℕ, ◌<◌, ◌≤◌, zero, suc, List, [], ◌∷◌, ◌++◌, length, true, false, ◌⊎◌, inl, inr, Option, Some, None, refl, sym, ap, ap₂, subst, ◌∙◌, arith, append_assoc}
 use Rattle.std.specs.Prelude.{◌&&◌, ◌==◌, Ok, if◌then◌else◌, is_some, nat_lt, nat_le}
-use Rattle.std.proofs.lemmas.Bool.{and_from, ltb-true, ltb-false, le-leb, eqb-true, eqb-false}
+use Rattle.std.proofs.lemmas.Bool.{and_from, ltb-true, ltb-false, le-leb, eqb-true, eqb-false, and_parts}
 use Rattle.fisca_tokens.specs.declared.fault.Kind.TheVariants as kind
 use Rattle.fisca_expressions.specs.declared.sign.Sign.{Sign}
 use Rattle.fisca_expressions.specs.declared.sign.Sign.TheVariants as sign
@@ -25,7 +25,7 @@ use Rattle.fisca_expressions.specs.declared.tree.Place.{Place}
 use Rattle.fisca_expressions.specs.Tree.{Tree, Series, Argument, name, number, text, bracketed, attribute, applied, prefixed, binary, compare, nothing, last, next, positional, keyword, entry, height, height_all, height_of}
 use Rattle.fisca_expressions.specs.Spelling.{spelling, spelling_all, spelling_of, fits, fits_all, fits_in, level, takes_positional, takes_keyword, takes_entry, takes_many, place_behind, place_in, allows, place_behind_suffix}
 use Rattle.fisca_expressions.specs.Reading.{Reader, and_then, pure, refuse, tail, begins, joint_ahead, comparison_ahead, keyword_ahead, expect, take_name, argument, argument_by, mapped, stop, series, enclosed, opened, operand, joined, climb, compared, compared_by, onward, expression, reads}
-use Rattle.fisca_expressions.proofs.Steps.{and_then_ok, made_ok, then_ok, else_ok, chosen, both, begun, mark_of, joined-mark, compared-mark, begins-so, keyword-is, take_name-ok, expect-ok, fine}
+use Rattle.fisca_expressions.proofs.Steps.{and_then_ok, made_ok, then_ok, else_ok, chosen, begun, mark_of, joined-mark, compared-mark, begins-so, keyword-is, take_name-ok, expect-ok, fine}
 
 -- how tightly what follows an expression may join, at most
 abbrev pub edge : Tree → ℕ
@@ -151,7 +151,7 @@ module _ (md : Mode) (inner : ℕ → Reader Tree) (d : ℕ) (sound : Sound md d
         → (((begins mark.Comma a.1 && takes_many p) ≡ true) × (and_then (series inner (place_behind p a.0) end n (tail a.1)) (λ xs. pure (next a.0 xs)) ≡ fine x)) ⊎ (((begins mark.Comma a.1 && takes_many p) ≡ false) × (fine (last a.0, a.1) ≡ fine x))
         → FoundSeries md p d ts x
     further again a f (inl (goes, e)) =
-        let comma : (begins mark.Comma a.1 ≡ true) × (takes_many p ≡ true) = both (begins mark.Comma a.1) (takes_many p) goes in
+        let comma : (begins mark.Comma a.1 ≡ true) × (takes_many p ≡ true) = and_parts (begins mark.Comma a.1) (takes_many p) goes in
         let m = made_ok (series inner (place_behind p a.0) end n (tail a.1)) (next a.0) x e in
         let s = again (place_behind p a.0) (tail a.1) m.0 m.1 in
         let rest : a.1 ≡ sign.Mark mark.Comma ∷ (spelling_all m.0.0 ++ m.0.1) = begun mark.Comma a.1 comma.0 ∙ ap (λ r. sign.Mark mark.Comma ∷ r) s.spelled in
@@ -168,7 +168,7 @@ module _ (md : Mode) (inner : ℕ → Reader Tree) (d : ℕ) (sound : Sound md d
         → FoundSeries md p d ts x
     first again (inl (closes, e)) =
         let q : (nothing, ts) ≡ x = cc in
-        let ends : (begins end ts ≡ true) × (takes_many p ≡ true) = both (begins end ts) (takes_many p) closes in
+        let ends : (begins end ts ≡ true) × (takes_many p ≡ true) = and_parts (begins end ts) (takes_many p) closes in
         subst (FoundSeries md p d ts) q (record { spelled = refl; fit = ends.1; low = omega arith })
     first again (inr (more, e)) =
         let a = and_then_ok (argument inner p ts) _ x e in

@@ -1,7 +1,7 @@
 -- What is spelled so is read: a tree whose tokens stand in front is the one that reading finds.
 use Rattle.std.proofs.Common.{◌≡◌, ◌≢◌, ℕ, ◌+◌, ◌-◌, ◌<◌, ◌≤◌, zero, suc, List, [], ◌∷◌, ◌++◌, length, Bool, true, false, Some, None, refl, ap, ◌∙◌, arith, append_assoc, length-append}
 use Rattle.std.specs.Prelude.{◌&&◌, Ok, Err, if◌then◌else◌, is_some, nat_lt, nat_le}
-use Rattle.std.proofs.lemmas.Bool.{lt-ltb, leb-true, le-ltb}
+use Rattle.std.proofs.lemmas.Bool.{lt-ltb, leb-true, le-ltb, and_parts, and_left, and_from}
 use Rattle.std.proofs.Math.Dec.{eqb-suc-zero}
 use Rattle.fisca_expressions.specs.declared.sign.Sign.{Sign}
 use Rattle.fisca_expressions.specs.declared.sign.Sign.TheVariants as sign
@@ -27,7 +27,7 @@ use Rattle.fisca_expressions.specs.declared.tree.Place.TheVariants as place
 use Rattle.fisca_expressions.specs.Tree.{Tree, Series, Argument, name, number, text, bracketed, attribute, applied, prefixed, binary, compare, nothing, last, next, positional, keyword, entry, height, height_all, height_of}
 use Rattle.fisca_expressions.specs.Spelling.{spelling, spelling_all, spelling_of, fits, fits_all, fits_in, level, takes_positional, takes_keyword, takes_entry, takes_many, place_behind, place_in, allows, place_behind_suffix}
 use Rattle.fisca_expressions.specs.Reading.{Outcome, Reader, and_then, pure, tail, begins, joint_ahead, comparison_ahead, keyword_ahead, expect, argument, argument_by, mapped, stop, series, enclosed, opened, operand, joined, climb, unchained, compared, compared_by, expression, reads}
-use Rattle.fisca_expressions.proofs.Steps.{both, same_self, joint_of-operator, joint_of-opening, comparison_of-mark, joint_of-comparison, beginning_of-opening, beginning_of-prefix}
+use Rattle.fisca_expressions.proofs.Steps.{same_self, joint_of-operator, joint_of-opening, comparison_of-mark, joint_of-comparison, beginning_of-opening, beginning_of-prefix}
 use Rattle.fisca_expressions.proofs.Found.{edge, binds-small, binds-some}
 
 pub height-some : (e : Tree) → 1 ≤ height e
@@ -194,13 +194,6 @@ no_positional place.InCall e = cc
 no_positional place.BehindKeyword e = cc
 no_positional place.InMap e = refl
 
-and_false : (a b : Bool) → a ≡ false → (a && b) ≡ false
-and_false a b e = ap (λ a. a && b) e
-
-and_true : (a b : Bool) → a ≡ true → b ≡ true → (a && b) ≡ true
-and_true true b e f = f
-and_true false b e f = cc
-
 -- how many turns a series takes
 abbrev turns : Series → ℕ
 turns nothing = 1
@@ -231,12 +224,12 @@ module _ (md : Mode) (inner : ℕ → Reader Tree) (d : ℕ) (all : Complete md 
   argument-read : (p : Place) (a : Argument) (rest : List Sign) → fits_in md p a ≡ true → height_of a ≤ d → Closed rest → argument inner p (spelling_of a ++ rest) ≡ Ok (a, rest)
   unfolding argument
   argument-read p (positional e) rest fit low c =
-      let f = both (takes_positional p) (fits md e) fit in
+      let f = and_parts (takes_positional p) (fits md e) fit in
       ap (λ o. argument_by inner p o (spelling e ++ rest)) (not-keyword e rest c.equal) ∙ taken (takes_positional p) (and_then (inner 0 (spelling e ++ rest)) (λ e. pure (positional e))) _ f.0
       ∙ ap (λ r. and_then r (λ e. pure (positional e))) (all.whole e rest f.1 low c)
   argument-read p (entry k e) rest fit low c =
-      let f = both (takes_entry p) (fits md k && fits md e) fit in
-      let g = both (fits md k) (fits md e) f.1 in
+      let f = and_parts (takes_entry p) (fits md k && fits md e) fit in
+      let g = and_parts (fits md k) (fits md e) f.1 in
       let us = sign.Mark mark.Colon ∷ (spelling e ++ rest) in
       let ts = spelling k ++ us in
       ap (argument inner p) (append_assoc (spelling k) (sign.Mark mark.Colon ∷ spelling e) rest)
@@ -247,7 +240,7 @@ module _ (md : Mode) (inner : ℕ → Reader Tree) (d : ℕ) (all : Complete md 
       ∙ ap (λ r. and_then r (λ _. λ ts. and_then (inner 0 ts) (λ e. pure (entry k e)))) (taken {X = Outcome (Unit {0})} (same_mark mark.Colon mark.Colon) (Ok (tt, spelling e ++ rest)) _ (same_self mark.Colon))
       ∙ ap (λ r. and_then r (λ e. pure (entry k e))) (all.whole e rest g.1 (omega arith) c)
   argument-read p (keyword k e) rest fit low c =
-      let f = both (takes_keyword p && is_name k) (fits md e) fit in
+      let f = and_parts (takes_keyword p && is_name k) (fits md e) fit in
       let ts = sign.Word k ∷ sign.Mark mark.Equal ∷ (spelling e ++ rest) in
       ap (λ o. argument_by inner p o ts) (taken (same_mark mark.Equal mark.Equal) (Some k) None (same_self mark.Equal)) ∙ taken (takes_keyword p && is_name k) (and_then (inner 0 (spelling e ++ rest)) (λ e. pure (keyword k e))) _ f.0
       ∙ ap (λ r. and_then r (λ e. pure (keyword k e))) (all.whole e rest f.1 low c)
@@ -257,21 +250,21 @@ module _ (md : Mode) (inner : ℕ → Reader Tree) (d : ℕ) (all : Complete md 
   series-read p m zero nothing rest c many fit low = absurd (omega arith)
   series-read p m zero (last a) rest c many fit low = absurd (omega arith)
   series-read p m zero (next a xs) rest c many fit low = absurd (omega arith)
-  series-read p m (suc n) nothing rest c many fit low = taken (same_mark m m && takes_many p) _ _ (and_true (same_mark m m) (takes_many p) (same_self m) fit)
+  series-read p m (suc n) nothing rest c many fit low = taken (same_mark m m && takes_many p) _ _ (and_from (same_mark m m) (takes_many p) (same_self m) fit)
   series-read p m (suc n) (last a) rest c many fit low =
       let ts = sign.Mark m ∷ rest in
-      left_out (begins m (spelling_of a ++ ts) && takes_many p) _ _ (and_false (begins m (spelling_of a ++ ts)) (takes_many p) (not-closed-of m a ts c))
+      left_out (begins m (spelling_of a ++ ts) && takes_many p) _ _ (and_left (begins m (spelling_of a ++ ts)) (takes_many p) (not-closed-of m a ts c))
       ∙ ap (λ r. and_then r (λ a rest. if begins mark.Comma rest && takes_many p then and_then (series inner (place_behind p a) m n (tail rest)) (λ xs. pure (next a xs)) else Ok (last a, rest))) (argument-read p a ts fit low (closed m rest c))
-      ∙ left_out (same_mark m mark.Comma && takes_many p) _ _ (and_false (same_mark m mark.Comma) (takes_many p) c.comma)
+      ∙ left_out (same_mark m mark.Comma && takes_many p) _ _ (and_left (same_mark m mark.Comma) (takes_many p) c.comma)
   series-read p m (suc n) (next a xs) rest c many fit low =
-      let h = both (takes_many p) (fits_in md p a && fits_all md (place_behind p a) xs) fit in
-      let f = both (fits_in md p a) (fits_all md (place_behind p a) xs) h.1 in
+      let h = and_parts (takes_many p) (fits_in md p a && fits_all md (place_behind p a) xs) fit in
+      let f = and_parts (fits_in md p a) (fits_all md (place_behind p a) xs) h.1 in
       let us = spelling_all xs ++ sign.Mark m ∷ rest in
       let ts = sign.Mark mark.Comma ∷ us in
       ap (series inner p m (suc n)) (append_assoc (spelling_of a) (sign.Mark mark.Comma ∷ spelling_all xs) (sign.Mark m ∷ rest))
-      ∙ left_out (begins m (spelling_of a ++ ts) && takes_many p) _ _ (and_false (begins m (spelling_of a ++ ts)) (takes_many p) (not-closed-of m a ts c))
+      ∙ left_out (begins m (spelling_of a ++ ts) && takes_many p) _ _ (and_left (begins m (spelling_of a ++ ts)) (takes_many p) (not-closed-of m a ts c))
       ∙ ap (λ r. and_then r (λ a rest. if begins mark.Comma rest && takes_many p then and_then (series inner (place_behind p a) m n (tail rest)) (λ xs. pure (next a xs)) else Ok (last a, rest))) (argument-read p a ts f.0 (omega (arith, low)) (closed-comma us))
-      ∙ taken (same_mark mark.Comma mark.Comma && takes_many p) _ _ (and_true (same_mark mark.Comma mark.Comma) (takes_many p) (same_self mark.Comma) h.0)
+      ∙ taken (same_mark mark.Comma mark.Comma && takes_many p) _ _ (and_from (same_mark mark.Comma mark.Comma) (takes_many p) (same_self mark.Comma) h.0)
       ∙ ap (λ r. and_then r (λ xs. pure (next a xs))) (series-read (place_behind p a) m n xs rest c (omega arith) f.1 (omega (arith, low)))
 
   enclosed-read : (p : Place) (m : Mark) (xs : Series) (rest : List Sign) → Closer m → fits_all md p xs ≡ true → height_all xs ≤ d → enclosed inner p m (spelling_all xs ++ sign.Mark m ∷ rest) ≡ Ok (xs, rest)
@@ -322,20 +315,20 @@ module _ (md : Mode) (inner : ℕ → Reader Tree) (d : ℕ) (all : Complete md 
   reaches (number t) least rest some most fit low on follows = at_once least (number t) rest refl
   reaches (text t) least rest some most fit low on follows = at_once least (text t) rest refl
   reaches (bracketed b xs) least rest some most fit low on follows =
-      let f = both (allows md b) (fits_all md (place_in md b) xs) fit in
+      let f = and_parts (allows md b) (fits_all md (place_in md b) xs) fit in
       at_once least (bracketed b xs) rest (
       ap (λ k. opened inner md k (sign.Mark (opening_mark b) ∷ ((spelling_all xs ++ sign.Mark (closing_mark b) ∷ []) ++ rest))) (beginning_of-opening b)
       ∙ taken (allows md b) (and_then (enclosed inner (place_in md b) (closing_mark b) ((spelling_all xs ++ sign.Mark (closing_mark b) ∷ []) ++ rest)) (λ xs. pure (bracketed b xs))) _ f.0
       ∙ ap (λ ts. and_then (enclosed inner (place_in md b) (closing_mark b) ts) (λ xs. pure (bracketed b xs))) (append_assoc (spelling_all xs) (sign.Mark (closing_mark b) ∷ []) rest)
       ∙ ap (λ r. and_then r (λ xs. pure (bracketed b xs))) (enclosed-read (place_in md b) (closing_mark b) xs rest (closer b) f.1 (omega arith)))
   reaches (prefixed p e) least rest some most fit low on follows =
-      let f = both (fits md e) (nat_le 5 (level e)) fit in
+      let f = and_parts (fits md e) (nat_le 5 (level e)) fit in
       at_once least (prefixed p e) rest (
       ap (λ b. opened inner md b (sign.Mark (prefix_mark p) ∷ (spelling e ++ rest))) (beginning_of-prefix p)
       ∙ ap (λ r. and_then r (λ e. pure (prefixed p e))) (all.tighter 5 e rest (omega arith) (omega arith) f.0 (omega arith) (leb-true 5 (level e) f.1) follows))
   reaches (attribute e t) least rest some most fit low on follows =
-      let f = both (fits md e) (nat_le 6 (level e) && is_name t) fit in
-      let g = both (nat_le 6 (level e)) (is_name t) f.1 in
+      let f = and_parts (fits md e) (nat_le 6 (level e) && is_name t) fit in
+      let g = and_parts (nat_le 6 (level e)) (is_name t) f.1 in
       let six : 6 ≤ level e = leb-true 6 (level e) g.0 in
       let ts = sign.Mark mark.Dot ∷ sign.Word t ∷ rest in
       behind least joint.Access e (attribute e t) ts rest (omega arith) refl (omega arith) low (append_assoc (spelling e) (sign.Mark mark.Dot ∷ sign.Word t ∷ []) rest)
@@ -344,8 +337,8 @@ module _ (md : Mode) (inner : ℕ → Reader Tree) (d : ℕ) (all : Complete md 
   reaches (applied s e xs) least rest some most fit low on follows =
       let b = bracket_of s in
       let p = place_behind_suffix s in
-      let f = both (fits md e) (nat_le 6 (level e) && fits_all md p xs) fit in
-      let g = both (nat_le 6 (level e)) (fits_all md p xs) f.1 in
+      let f = and_parts (fits md e) (nat_le 6 (level e) && fits_all md p xs) fit in
+      let g = and_parts (nat_le 6 (level e)) (fits_all md p xs) f.1 in
       let six : 6 ≤ level e = leb-true 6 (level e) g.0 in
       let us = spelling_all xs ++ sign.Mark (closing_mark b) ∷ rest in
       let ts = sign.Mark (opening_mark b) ∷ us in
@@ -358,9 +351,9 @@ module _ (md : Mode) (inner : ℕ → Reader Tree) (d : ℕ) (all : Complete md 
       (ap (λ r. and_then r (λ xs. pure (applied s e xs))) (enclosed-read p (closing_mark b) xs rest (closer b) g.1 (omega arith)))
       (reaches e least ts some most f.0 (omega arith) (omega arith) (omega arith))
   reaches (binary o a b) least rest some most fit low on follows =
-      let f = both (fits md a && nat_le (binds o) (level a)) (fits md b && nat_le (suc (binds o)) (level b)) fit in
-      let l = both (fits md a) (nat_le (binds o) (level a)) f.0 in
-      let r = both (fits md b) (nat_le (suc (binds o)) (level b)) f.1 in
+      let f = and_parts (fits md a && nat_le (binds o) (level a)) (fits md b && nat_le (suc (binds o)) (level b)) fit in
+      let l = and_parts (fits md a) (nat_le (binds o) (level a)) f.0 in
+      let r = and_parts (fits md b) (nat_le (suc (binds o)) (level b)) f.1 in
       let left : binds o ≤ level a = leb-true (binds o) (level a) l.1 in
       let right : suc (binds o) ≤ level b = leb-true (suc (binds o)) (level b) r.1 in
       let small : binds o ≤ 4 = binds-small o in
@@ -389,9 +382,9 @@ module _ (md : Mode) (inner : ℕ → Reader Tree) (d : ℕ) (all : Complete md 
   whole-read : (e : Tree) (rest : List Sign) → fits md e ≡ true → height e ≤ suc d → Closed rest → and_then (start 1 (spelling e ++ rest)) (compared inner (suc d)) ≡ Ok (e, rest)
   unfolding compared
   whole-read (compare o a b) rest fit low c =
-      let f = both (fits md a && nat_le 1 (level a)) (fits md b && nat_le 1 (level b)) fit in
-      let l = both (fits md a) (nat_le 1 (level a)) f.0 in
-      let r = both (fits md b) (nat_le 1 (level b)) f.1 in
+      let f = and_parts (fits md a && nat_le 1 (level a)) (fits md b && nat_le 1 (level b)) fit in
+      let l = and_parts (fits md a) (nat_le 1 (level a)) f.0 in
+      let r = and_parts (fits md b) (nat_le 1 (level b)) f.1 in
       let ts = sign.Mark (comparison_mark o) ∷ (spelling b ++ rest) in
       let loose_a : tightness (joint_ahead ts) ≡ 0 = ap tightness (joint_of-comparison o) in
       let loose_b : tightness (joint_ahead rest) ≡ 0 = loose rest c in

@@ -50,10 +50,6 @@ pub chosen : {X : Type 0} (b : Bool) (x y z : X) → (if b then x else y) ≡ z 
 chosen true x y z e = inl (refl, e)
 chosen false x y z e = inr (refl, e)
 
-pub both : (a b : Bool) → (a && b) ≡ true → (a ≡ true) × (b ≡ true)
-both true b e = (refl, e)
-both false b e = cc
-
 -- marks
 
 begun-mark : (m n : Mark) (ts : List Sign) → same_mark n m ≡ true → sign.Mark n ∷ ts ≡ sign.Mark m ∷ ts

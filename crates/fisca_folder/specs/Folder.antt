@@ -1,5 +1,5 @@
 -- Which files of a folder are the rule set's, in which order, how deep and how many, and what is refused.
-use Rattle.std.specs.Prelude.{◌≡◌, ℕ, zero, suc, ◌+◌, ◌<◌, ◌≤◌, ◌^◌, ◌++◌, ◌∷◌, [], List, length, map, take, All, IsSorted, IsPermutation, Bool, true, false, not, ◌||◌, if◌then◌else◌, codes, Option, Some, None, is_some, unwrap_or, Result, Ok, Err, ⊤, String, string_bytes}
+use Rattle.std.specs.Prelude.{◌≡◌, ℕ, zero, suc, ◌+◌, ◌<◌, ◌≤◌, ◌^◌, ◌++◌, ◌∷◌, [], List, length, map, take, All, IsSorted, IsPermutation, Bool, true, false, not, ◌&&◌, ◌||◌, if◌then◌else◌, codes, Option, Some, None, is_some, unwrap_or, Result, Ok, Err, ⊤, String, string_bytes}
 use Rattle.std.specs.declared.alloc.Global.{Global}
 use Rattle.std.specs.List.{filter, fold, list_any}
 use Rattle.std.specs.Str.{IsUtf8, bytes_eq}
@@ -44,9 +44,13 @@ files_in path entries = filter is_rule_path (map (path_in path) (filter (λ entr
 abbrev pub named : List ℕ → List Entry → List (List ℕ)
 named name entries = if list_any (λ entry. bytes_eq entry.name name) entries then name ∷ [] else []
 
+-- this name, where a folder has it: a file that has it is no rule file
+abbrev pub folder_named : List ℕ → List Entry → List (List ℕ)
+folder_named name entries = if list_any (λ entry. entry.is_folder && bytes_eq entry.name name) entries then name ∷ [] else []
+
 -- the folders `parameters` and `variables`, where they are there
 abbrev pub top_of : List Entry → List (List ℕ)
-top_of entries = named (codes "parameters") entries ++ named (codes "variables") entries
+top_of entries = folder_named (codes "parameters") entries ++ folder_named (codes "variables") entries
 
 -- the file `entities.py`, where it is there
 abbrev pub top_files_of : List Entry → List (List ℕ)

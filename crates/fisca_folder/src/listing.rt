@@ -1,10 +1,10 @@
 //! Which files of a folder are the rule set's.
 
-ghost use Rattle.std.specs.Prelude.{◌≡◌, Some, ◌+◌, ◌++◌, ◌≤◌, ℕ, length, map, string_bytes, IfOk, OnOk, MatchResult, IsSorted};
+ghost use Rattle.std.specs.Prelude.{◌≡◌, Some, ◌+◌, ◌++◌, ◌≤◌, ◌&&◌, [], ◌∷◌, if◌then◌else◌, ℕ, length, map, string_bytes, IfOk, OnOk, MatchResult, IsSorted};
 ghost use Rattle.std.specs.String.{string_cmp};
 ghost use Rattle.std.specs.List.{list_any};
 ghost use Rattle.std.specs.Str.{bytes_eq};
-ghost use Rattle.fisca_folder.specs.Folder.{Folder, AreRulePaths, IsListFault, found_on_top, found_deeper, found_in, named, top_of, top_files_of, with_folder};
+ghost use Rattle.fisca_folder.specs.Folder.{Folder, AreRulePaths, IsListFault, found_on_top, found_deeper, found_in, top_of, top_files_of, with_folder};
 ghost use Rattle.fisca_folder.specs.FolderSteps.{looked_at, with_entry};
 
 use super::folder::{FolderEntry, FolderFault, RuleFolder};
@@ -76,8 +76,18 @@ fn folders_on_top(alloc: Global, entries: &[FolderEntry]) -> Result<Vec<String>,
     ensures { IfOk result (λ top. map (λ path. string_bytes path) top.items ≡ top_of entries.now) }
 {
     let mut top = Vec::new(alloc);
-    add_named(alloc, entries, "parameters", &mut top)?;
-    add_named(alloc, entries, "variables", &mut top)?;
+    add_where(
+        alloc,
+        has_folder(entries, "parameters"),
+        "parameters",
+        &mut top,
+    )?;
+    add_where(
+        alloc,
+        has_folder(entries, "variables"),
+        "variables",
+        &mut top,
+    )?;
     Ok(top)
 }
 
@@ -86,20 +96,20 @@ fn files_on_top(alloc: Global, entries: &[FolderEntry]) -> Result<Vec<String>, A
     ensures { IfOk result (λ top. map (λ path. string_bytes path) top.items ≡ top_files_of entries.now) }
 {
     let mut top = Vec::new(alloc);
-    add_named(alloc, entries, "entities.py", &mut top)?;
+    add_where(alloc, has(entries, "entities.py"), "entities.py", &mut top)?;
     Ok(top)
 }
 
-/// Adds this name, where an entry has it.
-fn add_named(
+/// Adds this name, where it is there.
+fn add_where(
     alloc: Global,
-    entries: &[FolderEntry],
+    is_there: bool,
     name: &str,
     paths: &mut Vec<String>,
 ) -> Result<(), AllocError>
-    ensures { OnOk result (map (λ path. string_bytes path) paths.new.items ≡ map (λ path. string_bytes path) paths.old.items ++ named name.now entries.now) }
+    ensures { OnOk result (map (λ path. string_bytes path) paths.new.items ≡ map (λ path. string_bytes path) paths.old.items ++ (if is_there then name.now ∷ [] else [])) }
 {
-    if has(entries, name) {
+    if is_there {
         paths.push(String::from_str(alloc, name)?)?;
     }
     Ok(())
@@ -110,6 +120,15 @@ fn has(entries: &[FolderEntry], name: &str) -> bool
     ensures { result ≡ list_any (λ entry. bytes_eq entry.name name.now) entries.now }
 {
     entries.iter().any(|entry| entry.name() == name)
+}
+
+/// Whether a folder has this name. A file that has it is no rule file.
+fn has_folder(entries: &[FolderEntry], name: &str) -> bool
+    ensures { result ≡ list_any (λ entry. entry.is_folder && bytes_eq entry.name name.now) entries.now }
+{
+    entries
+        .iter()
+        .any(|entry| entry.is_folder() && entry.name() == name)
 }
 
 /// What is found in one level more.

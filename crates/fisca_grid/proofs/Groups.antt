@@ -1,7 +1,7 @@
 -- Axes in groups: faults, sizes and places, group by group.
 use Rattle.std.proofs.Common.{◌≡◌, ℕ, zero, suc, ◌+◌, ◌-◌, ◌*◌, ◌/◌, ◌%◌, ◌<◌, ◌≤◌, min, nat_lt, cond, Bool, true, false, not, ◌==◌, ◌||◌, List, [], ◌∷◌, ◌++◌, length, map, take, drop, sum, Option, Some, None, slice_get, refl, sym, ap, ap₂, ◌∙◌, arith, ⊎_elim, append_assoc, length-append}
 use Rattle.std.proofs.Math.Nat.{div-div-eq-div-mul, mul_assoc, mul-zero, mul-pos, mul-le-mul_right, le-mul_of_pos_right}
-use Rattle.std.proofs.lemmas.Bool.{cases_lt, eqb-true, not-false}
+use Rattle.std.proofs.lemmas.Bool.{cases_lt, eqb-true, not-false, or_parts}
 use Rattle.std.proofs.lemmas.Bool.Decides.{nat_tests}
 use Rattle.std.proofs.lemmas.List.{length-map, length-drop, take-map, drop-map, take-append-drop}
 use Rattle.std.proofs.lemmas.List.Sums.{sum_by-cons}
@@ -64,10 +64,6 @@ some_count axis e =
     let t : is_count axis.count ≡ true = is_first (is_count axis.count) _ e in
     grind (arith, nat_tests, t)
 
-pub either_false : (a b : Bool) → (a || b) ≡ false → (a ≡ false) × (b ≡ false)
-either_false true b e = absurd (cc)
-either_false false b e = (refl, e)
-
 -- a grid of axes without a fault has a position
 pub some_positions : (axes : List AxisSpec) (lengths : List ℕ) → first_axis_fault axes ≡ None → list_any (λ size. size == 0) lengths ≡ false → sum lengths ≡ length axes → 0 < size_of (groups_of axes lengths)
 some_positions axes [] right full all = omega arith
@@ -75,11 +71,11 @@ some_positions axes (zero ∷ lengths) right full all = absurd (cc)
 some_positions [] (suc n ∷ lengths) right full all = absurd (omega (arith, sum_first (suc n) lengths))
 some_positions (axis ∷ axes) (suc n ∷ lengths) right full all =
     let rest : length (drop n axes) ≡ length axes - n = length-drop n axes in
-    let later : 0 < size_of (groups_of (drop n axes) lengths) = some_positions (drop n axes) lengths (accepted_drop n axes (accepted_first axis axes right).1) (either_false (suc n == 0) _ full).1 (omega (arith, sum_first (suc n) lengths)) in
+    let later : 0 < size_of (groups_of (drop n axes) lengths) = some_positions (drop n axes) lengths (accepted_drop n axes (accepted_first axis axes right).1) (or_parts (suc n == 0) _ full).1 (omega (arith, sum_first (suc n) lengths)) in
     mul-pos (some_count axis (accepted_first axis axes right).0) later
 
 pub alike_first : (group : List AxisSpec) (groups : List (List AxisSpec)) → list_any has_two_counts (group ∷ groups) ≡ false → (has_two_counts group ≡ false) × (list_any has_two_counts groups ≡ false)
-alike_first group groups e = either_false _ _ e
+alike_first group groups e = or_parts _ _ e
 
 same_place : (n c q : ℕ) → not (n == c) ≡ false → q % n ≡ q % c
 same_place n c q e = let same : n ≡ c = eqb-true n c (not-false (n == c) e) in ap (λ n. q % n) same
@@ -87,7 +83,7 @@ same_place n c q e = let same : n ≡ c = eqb-true n c (not-false (n == c) e) in
 same_places : (c q : ℕ) (axes : List Axis) → list_any (λ (axis : AxisSpec). not (axis.count == c)) (specs_of axes) ≡ false → map (turned q) axes ≡ map (λ axis. (axis, q % c)) (specs_of axes)
 same_places c q [] e = refl
 same_places c q (axis ∷ axes) e =
-    let both = either_false (not (axis.spec.count == c)) _ e in
+    let both = or_parts (not (axis.spec.count == c)) _ e in
     ap₂ (λ (place : ℕ) (rest : List (AxisSpec × ℕ)). (axis.spec, place) ∷ rest) (same_place axis.spec.count c q both.0) (same_places c q axes both.1)
 
 second_of : (a b w : Bool) → a ≡ false → (a || b) ≡ w → b ≡ w
@@ -116,7 +112,7 @@ back_of n rest = sym (drop-map (λ (axis : Axis). axis.spec) n rest)
 
 pub group_alike : (rest : List Axis) (n : ℕ) (lengths : List ℕ) → list_any has_two_counts (groups_of (specs_of rest) (n ∷ lengths)) ≡ false → (has_two_counts (specs_of (take n rest)) ≡ false) × (list_any has_two_counts (groups_of (specs_of (drop n rest)) lengths) ≡ false)
 group_alike rest n lengths e =
-    let both = either_false (has_two_counts (take n (specs_of rest))) _ e in
+    let both = or_parts (has_two_counts (take n (specs_of rest))) _ e in
     (ap has_two_counts (front_of n rest) ∙ both.0, ap (λ axes. list_any has_two_counts (groups_of axes lengths)) (back_of n rest) ∙ both.1)
 
 pub group_pace : (rest : List Axis) (n : ℕ) (lengths : List ℕ) (pace whole : ℕ) → pace * size_of (groups_of (specs_of rest) (n ∷ lengths)) ≡ whole → pace * count_of (specs_of (take n rest)) * size_of (groups_of (specs_of (drop n rest)) lengths) ≡ whole
@@ -159,7 +155,7 @@ few_axes axes groups e = let few : nat_lt 16 axes ≡ false = limited _ _ _ e in
 pub few_groups : (lengths : List ℕ) → list_any (λ size. size == 0) lengths ≡ false → length lengths ≤ sum lengths
 few_groups [] full = omega arith
 few_groups (zero ∷ lengths) full = absurd (cc)
-few_groups (suc n ∷ lengths) full = omega (arith, sum_first (suc n) lengths, few_groups lengths (either_false (suc n == 0) _ full).1)
+few_groups (suc n ∷ lengths) full = omega (arith, sum_first (suc n) lengths, few_groups lengths (or_parts (suc n == 0) _ full).1)
 
 -- what is placed of a first group and of the others
 pub turn_group : (old new : List (AxisSpec × ℕ)) (axes rest : List Axis) (lengths : List ℕ) (n position pace : ℕ) (whole : List (AxisSpec × ℕ))

@@ -4,7 +4,7 @@ use Rattle.std.specs.Int.{bit_at}
 use Rattle.std.specs.Int.Bits.{bit_or}
 use Rattle.std.proofs.lemmas.Nat.Bits.{bit_at_or, bit_at-lt, bit_at-zero}
 use Rattle.std.proofs.lemmas.List.{append-nil}
-use Rattle.std.proofs.lemmas.Bool.{false≢true}
+use Rattle.std.proofs.lemmas.Bool.{false≢true, or_left, or_right}
 use Rattle.fisca_meaning.specs.Dialogues.{Value, Key}
 use Rattle.fisca_answers.specs.Answers.{Sources, known, formula, value_within}
 use Rattle.fisca_answers.specs.Chains.{IsDefinite, IsHeight, asked}
@@ -31,14 +31,6 @@ reads_both left right wheel = ap (λ n. n == 1) (bit_at_or left right wheel) ∙
 
 pub reads_none : (wheel : ℕ) → reads_wheel 0 wheel ≡ false
 reads_none wheel = ap (λ n. n == 1) (bit_at-zero wheel)
-
-or_left : (a b : Bool) → a ≡ true → (a || b) ≡ true
-or_left true b h = refl
-or_left false b h = absurd (false≢true h)
-
-or_right : (a b : Bool) → b ≡ true → (a || b) ≡ true
-or_right true b h = refl
-or_right false b h = h
 
 or_cases : (a b : Bool) → (a || b) ≡ true → (a ≡ true) ⊎ (b ≡ true)
 or_cases true b h = inl refl

@@ -4,7 +4,7 @@ use Rattle.std.specs.Prelude.{◌⊎◌, Result, Ok, Err, nat_lt, ◌==◌}
 use Rattle.std.specs.List.{range_with_len, list_any}
 use Rattle.std.specs.Cmp.{both_ways}
 use Rattle.std.specs.Ordering.{eq_by_cmp}
-use Rattle.std.proofs.lemmas.Bool.{cases_lt, eqb-true, eq-eqb, lt-ltb, ltb-true}
+use Rattle.std.proofs.lemmas.Bool.{cases_lt, eqb-true, eq-eqb, lt-ltb, ltb-true, or_right}
 use Rattle.fisca_params.specs.Results.{and_then}
 use Rattle.fisca_time.specs.Period.{span_cmp}
 use Rattle.fisca_typing.specs.Tables.{otherwise}
@@ -45,16 +45,12 @@ or_false : (b : Bool) → b ≡ (b || false)
 or_false true = refl
 or_false false = refl
 
-or_true : (a b : Bool) → b ≡ true → (a || b) ≡ true
-or_true true b h = refl
-or_true false b h = h
-
 in_range : (m a n : ℕ) → a ≤ m → m < a + n → list_any (λ j. m == j) (range_with_len a n) ≡ true
 in_range m a zero low high = absurd (omega arith)
 in_range m a (suc n) low high = by (cases_lt a m) (λ h. in_range m (a + 1) n h (omega arith))
   where
     by : (a < m) ⊎ (m ≤ a) → (a + 1 ≤ m → list_any (λ j. m == j) (range_with_len (a + 1) n) ≡ true) → ((m == a) || list_any (λ j. m == j) (range_with_len (a + 1) n)) ≡ true
-    by (inl p) more = or_true (m == a) (list_any (λ j. m == j) (range_with_len (a + 1) n)) (more (omega arith))
+    by (inl p) more = or_right (m == a) (list_any (λ j. m == j) (range_with_len (a + 1) n)) (more (omega arith))
     by (inr p) more = ap (λ b. b || list_any (λ j. m == j) (range_with_len (a + 1) n)) (eq-eqb m a (omega arith))
 
 of_range : (m a n : ℕ) → list_any (λ j. m == j) (range_with_len a n) ≡ true → m < a + n
@@ -176,7 +172,7 @@ module _ (rules : List Rule) (counts : List ℕ) (q : Key) where
       by true e h more =
           let same : same_key (row_key q) (row_key r) ≡ true = laws-law.congr (row_key q) (row_key k) (row_key r) t ∙ row_like k r e in
           ap (λ b. b || among rows) same
-      by false e h more = or_true (same_key (row_key q) (row_key r)) (among rows) (more h)
+      by false e h more = or_right (same_key (row_key q) (row_key r)) (among rows) (more h)
 
   among-behind : (ks : List Key) (k : Key) → among (ks ++ k ∷ []) ≡ (among ks || same_key (row_key q) (row_key k))
   among-behind [] k = by (same_key (row_key q) (row_key k))

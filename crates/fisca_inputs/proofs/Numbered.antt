@@ -181,7 +181,7 @@ stands_numbered n (e ∷ es) k (suc i) own value once there same =
     ap (λ b. if b then n else numbered_from (suc n) (keys_of es) k) (not_first k e es i once (key_stands es k i own value there same))
     ∙ (stands_numbered (suc n) es k i own value (IsDistinct-tail same_key e.0 (keys_of es) once) there same ∙ omega arith)
 
--- Slots of variables
+-- Buckets of variables
 
 pub key_parts : (q k : Key) → same_key q k ≡ true → (q.variable ≡ k.variable) × (q.member ≡ k.member) × (eq_by_cmp span_cmp q.period k.period ≡ true)
 key_parts q k h =
@@ -189,20 +189,20 @@ key_parts q k h =
     let two = and_parts (q.member == k.member) (eq_by_cmp span_cmp q.period k.period) one.1 in
     (eqb-true q.variable k.variable one.0, eqb-true q.member k.member two.0, two.1)
 
--- a key has no entry where no variable of its slot has one
-pub slot_free : (occupied : List Bool) (es : Entries) (k : Key) → AreOccupied occupied es → slice_index_or occupied (k.variable % 256) false ≡ false → has es k ≡ false
-slot_free occupied es k kept free = by (has es k) refl
+-- a key has no entry where no variable of its bucket has one
+pub bucket_free : (occupied : List Bool) (es : Entries) (k : Key) → AreOccupied occupied es → slice_index_or occupied (k.variable % 256) false ≡ false → has es k ≡ false
+bucket_free occupied es k kept free = by (has es k) refl
   where
     by : (b : Bool) → has es k ≡ b → has es k ≡ false
     by true there = absurd (false≢true (sym free ∙ kept k there))
     by false none = none
 
-still_occupied : (occupied : List Bool) (slot other : ℕ) → slice_index_or occupied slot false ≡ true → slice_index_or (slice_set occupied other true) slot false ≡ true
-still_occupied [] slot other h = h
+still_occupied : (occupied : List Bool) (bucket other : ℕ) → slice_index_or occupied bucket false ≡ true → slice_index_or (slice_set occupied other true) bucket false ≡ true
+still_occupied [] bucket other h = h
 still_occupied (o ∷ occupied) zero zero h = refl
 still_occupied (o ∷ occupied) zero (suc other) h = h
-still_occupied (o ∷ occupied) (suc slot) zero h = h
-still_occupied (o ∷ occupied) (suc slot) (suc other) h = still_occupied occupied slot other h
+still_occupied (o ∷ occupied) (suc bucket) zero h = h
+still_occupied (o ∷ occupied) (suc bucket) (suc other) h = still_occupied occupied bucket other h
 
 -- One entry more
 
@@ -228,14 +228,14 @@ module _ (es new : Entries) (key : Key) (x : Value) (free : has es key ≡ false
   behind_once once =
       subst (IsDistinct same_key) (sym (ap keys_of is ∙ keys_behind es key x)) (IsDistinct-push laws-law (keys_of es) key once (sym (has_keys es key) ∙ free))
 
-  pub behind_occupied : (occupied : List Bool) (slot : ℕ) → slot ≡ key.variable % 256 → slot < length occupied → AreOccupied occupied es → AreOccupied (slice_set occupied slot true) new
-  behind_occupied occupied slot own within kept k there = by (has es k) refl (same_key k key) refl (sym (ap (λ fs. has fs k) is ∙ has_behind es key x k) ∙ there)
+  pub behind_occupied : (occupied : List Bool) (bucket : ℕ) → bucket ≡ key.variable % 256 → bucket < length occupied → AreOccupied occupied es → AreOccupied (slice_set occupied bucket true) new
+  behind_occupied occupied bucket own within kept k there = by (has es k) refl (same_key k key) refl (sym (ap (λ fs. has fs k) is ∙ has_behind es key x k) ∙ there)
     where
-      by : (a : Bool) → has es k ≡ a → (b : Bool) → same_key k key ≡ b → (a || b) ≡ true → slice_index_or (slice_set occupied slot true) (k.variable % 256) false ≡ true
-      by true before b e h = still_occupied occupied (k.variable % 256) slot (kept k before)
+      by : (a : Bool) → has es k ≡ a → (b : Bool) → same_key k key ≡ b → (a || b) ≡ true → slice_index_or (slice_set occupied bucket true) (k.variable % 256) false ≡ true
+      by true before b e h = still_occupied occupied (k.variable % 256) bucket (kept k before)
       by false none true same h =
-          let at : slot ≡ k.variable % 256 = own ∙ ap (λ v. v % 256) (sym (key_parts k key same).0) in
-          subst (λ s. slice_index_or (slice_set occupied slot true) s false ≡ true) at (get_or-set_same occupied slot true false within)
+          let at : bucket ≡ k.variable % 256 = own ∙ ap (λ v. v % 256) (sym (key_parts k key same).0) in
+          subst (λ s. slice_index_or (slice_set occupied bucket true) s false ≡ true) at (get_or-set_same occupied bucket true false within)
       by false none false other h = absurd (false≢true h)
 
   pub behind_numbered : (old pages : Pages) (number : ℕ) → number ≡ suc (length es) → AreNumbered old es

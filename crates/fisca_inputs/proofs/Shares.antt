@@ -5,7 +5,7 @@ use Rattle.std.specs.List.{AllZip, list_any}
 use Rattle.std.specs.Ordering.{int_eq}
 use Rattle.std.proofs.lemmas.Int.{ints}
 use Rattle.std.proofs.Math.Nat.{zero-mul}
-use Rattle.std.proofs.lemmas.Bool.{eqb-true, eq-eqb}
+use Rattle.std.proofs.lemmas.Bool.{eqb-true, eq-eqb, or_right}
 use Rattle.std.proofs.lemmas.Bool.Decides.{Decides-int_eq}
 use Rattle.fisca_num.specs.Number.{Number, zero_number}
 use Rattle.fisca_num.specs.Operations.{number_of, difference_of}
@@ -90,11 +90,7 @@ module _ (share : Number) (d : ℕ) (es after : Entries) (whole : List Key)
       let itself : (same_key k k || list_any (same_key k) ks) ≡ true = ap (λ b. b || list_any (same_key k) ks) (laws-law.refl k) in
       let inside : list_any (same_key k) whole ≡ true = within k itself in
       let there : value_at after k ≡ otherwise (value_at es k) (Some (v.Number share)) = looked k ∙ ap (λ b. otherwise (value_at es k) (if b then Some (v.Number share) else None)) inside in
-      (record { number = h.0.number; has_it = sym there ∙ h.0.has; is = h.0.is }, ends ks ys (λ q e. within q (second (same_key q k) (list_any (same_key q) ks) e)) h.1)
-    where
-      second : (a b : Bool) → b ≡ true → (a || b) ≡ true
-      second true b e = refl
-      second false b e = e
+      (record { number = h.0.number; has_it = sym there ∙ h.0.has; is = h.0.is }, ends ks ys (λ q e. within q (or_right (same_key q k) (list_any (same_key q) ks) e)) h.1)
 
 -- where all parts had something, nothing is left
 none_left : (line : ℕ) (es : Entries) (r n : Number) (d : ℕ) (ks : List Key) (ys : List ℤ) → count_free es ks ≡ 0 → rest_of line es ks n ≡ Ok r → r.numerator ≡ pos 0

@@ -35,7 +35,7 @@ numbered_from n (q ∷ qs) k = if same_key k q then n else numbered_from (suc n)
 abbrev pub AreNumbered : Pages → Entries → Type 0
 AreNumbered pages es = (k : Key) → number_of pages k ≡ numbered_from 1 (keys_of es) k
 
--- the slots of the variables that have entries are occupied
+-- the buckets of the variables that have entries are occupied
 abbrev pub AreOccupied : List Bool → Entries → Type 0
 AreOccupied occupied es = (k : Key) → has es k ≡ true → slice_index_or occupied (k.variable % 256) false ≡ true
 

@@ -23,8 +23,8 @@ const PAGE: u32 = 64;
 /// For how many pages, or rows of inputs, there is room at once.
 pub(crate) const ROOM: usize = 144;
 
-/// How many slots there are, which variables share.
-const SLOTS: usize = 256;
+/// How many buckets there are, which variables share.
+const BUCKETS: usize = 256;
 
 /// Keys with their values, in the order in which they came. The number of a key is one more than the place of its entry, and 0 where it has none.
 #[derive(Drop)]
@@ -33,12 +33,12 @@ pub(crate) struct Table {
     pages: Pages,
     /// Where keys may stand that were given another value last: those that an axis moves are looked for again and again.
     noted: [u32; NOTES],
-    /// Whether a variable of the slot may have an entry. Most that are asked for have none, which this tells without a hash.
-    occupied: [bool; SLOTS],
+    /// Whether a variable of the bucket may have an entry. Most that are asked for have none, which this tells without a hash.
+    occupied: [bool; BUCKETS],
     ghost once: { AreOnce entries.items } by { Prim.hlevel props },
     ghost notes: { length noted ≡ 64 },
-    ghost slots: { length occupied ≡ 256 },
-    ghost own_slots: { AreOccupied occupied entries.items },
+    ghost buckets: { length occupied ≡ 256 },
+    ghost own_buckets: { AreOccupied occupied entries.items },
     ghost few: { length entries.items < 4_294_967_296 },
     ghost numbered: { AreNumbered pages.entries entries.items },
 }
@@ -72,12 +72,12 @@ fn number(pages: &Pages, key: &Key) -> u32
     }
 }
 
-/// The slot of the variable of a key.
+/// The bucket of the variable of a key.
 #[inline(always)]
-fn slot_of(key: &Key) -> usize
+fn bucket_of(key: &Key) -> usize
     ensures { result ≡ key.now.variable % 256 }
 {
-    key.variable % SLOTS
+    key.variable % BUCKETS
 }
 
 /// Whether the entry of a key stands at a place.
@@ -176,7 +176,7 @@ impl Table {
             entries: Vec::new(alloc),
             pages: IndexMap::with_hasher(alloc, BuildHasherDefault::new()),
             noted: [0; NOTES],
-            occupied: [false; SLOTS],
+            occupied: [false; BUCKETS],
         }
     }
 
@@ -193,7 +193,7 @@ impl Table {
     fn place(&self, key: &Key) -> Option<usize>
         ensures { MatchOption result (spec.has self.now.entries.items key.now ≡ false) (StandsAt self.now.entries.items key.now) }
     {
-        if !self.occupied[slot_of(key)] {
+        if !self.occupied[bucket_of(key)] {
             return None;
         }
         let noted = self.noted[key.note()] as usize;
@@ -234,7 +234,7 @@ impl Table {
         self.entries.push((key, value))?;
         match note(&mut self.pages, alloc, &key, number) {
             Ok(()) => {
-                self.occupied[slot_of(&key)] = true;
+                self.occupied[bucket_of(&key)] = true;
                 Ok(())
             }
             Err(_) => {

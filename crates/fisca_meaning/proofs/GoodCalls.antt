@@ -1,7 +1,7 @@
 -- What functions give is typed.
 use Rattle.std.proofs.Common.{◌≡◌, ℕ, suc, List, [], ◌∷◌, length, Bool, true, false, refl, sym, subst, arith, Option, Some, None}
 use Rattle.std.specs.Prelude.{⊤, ◌==◌, ◌&&◌, if◌then◌else◌, Result, Ok, Err, codes}
-use Rattle.std.proofs.lemmas.Bool.{eqb-true}
+use Rattle.std.proofs.lemmas.Bool.{eqb-true, and_parts}
 use Rattle.fisca_expressions.specs.Words.{is}
 use Rattle.fisca_params.specs.Results.{and_then}
 use Rattle.fisca_tokens.specs.declared.fault.Kind.{Kind}
@@ -107,10 +107,6 @@ common_all-below t (v ∷ vs) u e =
     let x = steps (common t v.value_type) (λ s. common_all s vs) u e in let b = common-below t v.value_type x.0 x.1 in let r = common_all-below x.0 vs u x.2 in
     (below-trans t x.0 u b.0 r.0, (below-trans v.value_type x.0 u b.1 r.0, r.1))
 
-both : (a b : Bool) → (a && b) ≡ true → (a ≡ true) × (b ≡ true)
-both true b e = (refl, e)
-both false b e = cc
-
 -- the rest of a selection has a type below
 abbrev IsBelow : Tables → List Sort → Node → ValueType → Bool → Type 0
 IsBelow c G n t p = (u : ValueType) × (is_below u t ≡ true) × IsTyped c G n u p
@@ -119,13 +115,13 @@ selected-below : (c : Tables) (G : List Sort) (cs vs : List Typed) (rest : Node)
 selected-below c G [] vs rest t p bools a b all r = r
 selected-below c G (q ∷ cs) [] rest t p bools a b all r = r
 selected-below c G (q ∷ cs) (v ∷ vs) rest t p bools a b all r =
-    let k = both (is_bool q.value_type) (all_bools cs) bools in let i = selected-below c G cs vs rest t p k.1 a.1 b.1 all.1 r in
+    let k = and_parts (is_bool q.value_type) (all_bools cs) bools in let i = selected-below c G cs vs rest t p k.1 a.1 b.1 all.1 r in
     (t, below-self t, (v.value_type, i.0, all.0, i.1, as_bool c G q.node q.value_type p k.0 a.0, b.0, i.2))
 
 selected-typed : (c : Tables) (G : List Sort) (cs : List Typed) (v : Typed) (vs : List Typed) (rest : Node) (t : ValueType) (p : Bool) → (length cs == suc (length vs)) ≡ true → all_bools cs ≡ true → AllAt c G cs p → AllAt c G (v ∷ vs) p → AllBelow (v ∷ vs) t → IsBelow c G rest t p → IsTyped c G (selected cs (v ∷ vs) rest) t p
 selected-typed c G [] v vs rest t p n bools a b all r = absurd (omega (arith, eqb-true 0 (suc (length vs)) n))
 selected-typed c G (q ∷ cs) v vs rest t p n bools a b all r =
-    let k = both (is_bool q.value_type) (all_bools cs) bools in let i = selected-below c G cs vs rest t p k.1 a.1 b.1 all.1 r in
+    let k = and_parts (is_bool q.value_type) (all_bools cs) bools in let i = selected-below c G cs vs rest t p k.1 a.1 b.1 all.1 r in
     (v.value_type, i.0, all.0, i.1, as_bool c G q.node q.value_type p k.0 a.0, b.0, i.2)
 
 select_typed-good : (c : Tables) (G : List Sort) (t : ValueType) (cs : List Typed) (v : Typed) (vs ds : List Typed) (rest : Node) → (length cs == suc (length vs)) ≡ true → all_bools cs ≡ true → AllValues c G cs → AllValues c G (v ∷ vs) → AllBelow (v ∷ vs) t → AllValues c G ds → ((p : Bool) → AllAt c G ds p → IsBelow c G rest t p) → OkIs (IsGood c G) (select_typed t cs (v ∷ vs) ds rest)
@@ -149,7 +145,7 @@ default-good c G t cs v vs (Some d) n bools a b all good =
 values-good : (c : Tables) (G : List Sort) (cs vs : List Typed) (d : Option Typed) → AllValues c G cs → AllValues c G vs → OptionGood c G d → OkIs (IsGood c G) (select_values cs vs d)
 values-good c G cs [] d a b good = tt
 values-good c G cs (v ∷ vs) d a b good =
-    if_is (IsGood c G) (all_bools cs && (length cs == suc (length vs))) _ _ (λ e. let k = both (all_bools cs) (length cs == suc (length vs)) e in
+    if_is (IsGood c G) (all_bools cs && (length cs == suc (length vs))) _ _ (λ e. let k = and_parts (all_bools cs) (length cs == suc (length vs)) e in
     then_eq (IsGood c G) (common_all v.value_type vs) _ (λ t h. default-good c G t cs v vs d k.1 k.0 a b (common_all-below v.value_type vs t h) good)) (λ _. tt)
 
 select-good : (c : Tables) (G : List Sort) (x y : Thing) (d : Result (Option Typed) Kind) → IsGood c G x → IsGood c G y → OkIs (OptionGood c G) d → OkIs (IsGood c G) (select_of x y d)

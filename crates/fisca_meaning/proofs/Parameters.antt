@@ -2,6 +2,7 @@
 use Rattle.std.proofs.Common.{◌≡◌, ℕ, zero, suc, ◌<◌, List, [], ◌∷◌, length, Bool, true, false, refl, arith, Option, Some, None}
 use Rattle.std.specs.Prelude.{◌&&◌, slice_get, option_map, Result, Ok, Err}
 use Rattle.std.specs.List.{list_all}
+use Rattle.std.proofs.lemmas.Bool.{and_parts}
 use Rattle.fisca_num.specs.Number.{Number}
 use Rattle.fisca_time.specs.Instant.{CivilDate}
 use Rattle.fisca_params.specs.Dates.{value_at}
@@ -40,14 +41,10 @@ value-safe c (vt.Enum e) (Some (content.Bools ds)) day is = cc
 value-safe c t (Some content.Unusable) day is = tt
 value-safe c t (Some (content.Scale s)) day is = tt
 
-both : (a b : Bool) → (a && b) ≡ true → (a ≡ true) × (b ≡ true)
-both true b e = (refl, e)
-both false b e = cc
-
 pub place-safe : (c : Tables) (t : ValueType) (ns : List TreeNode) (places : List ℕ) (i : ℕ) (day : CivilDate) → list_all (has_kind t) (kinds_at ns places) ≡ true → i < length places → IsSafe c t (at_place (slice_get places i) (λ place. parameter_value (value_in (content_at ns place) day)))
 place-safe c t ns [] i day all below = absurd (omega (arith, below))
-place-safe c t ns (p ∷ ps) zero day all below = value-safe c t (content_at ns p) day (both (has_kind t (kind_of (content_at ns p))) _ all).0
-place-safe c t ns (p ∷ ps) (suc i) day all below = place-safe c t ns ps i day (both (has_kind t (kind_of (content_at ns p))) _ all).1 (omega (arith, below))
+place-safe c t ns (p ∷ ps) zero day all below = value-safe c t (content_at ns p) day (and_parts (has_kind t (kind_of (content_at ns p))) _ all).0
+place-safe c t ns (p ∷ ps) (suc i) day all below = place-safe c t ns ps i day (and_parts (has_kind t (kind_of (content_at ns p))) _ all).1 (omega (arith, below))
 
 pub scale-safe : (c : Tables) (o : Result Number ParamFault) → IsSafe c vt.Number (scale_value o)
 scale-safe c (Ok n) = refl

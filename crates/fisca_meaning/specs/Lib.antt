@@ -1,4 +1,5 @@
 pub mod Answers
+pub mod Codes
 pub mod Dialogues
 pub mod Meaning
 pub mod Questions

@@ -2,6 +2,7 @@
 use Rattle.std.proofs.Common.{◌≡◌, ℕ, List, [], ◌∷◌, map, Bool, true, false, Option, Some, None, is_some, slice_get, refl, sym, ap, subst, ◌∙◌, ◌||◌}
 use Rattle.std.specs.Prelude.{⊤, Result, Ok, Err}
 use Rattle.std.specs.List.{list_any}
+use Rattle.std.proofs.lemmas.Bool.{or_right}
 use Rattle.fisca_inputs.specs.Defaults.{beside, beside_by, count_of, first_line, row_of, row_with, rows_of, with_defaults}
 use Rattle.fisca_inputs.specs.Entries.{Entries, has, same_key, value_at}
 use Rattle.fisca_inputs.specs.Inputs.{inputs_of}
@@ -17,10 +18,6 @@ use Rattle.fisca_params.specs.Results.{and_then}
 use Rattle.fisca_memo.proofs.Anew.{Agrees, Anew, IsEven, all_set, fewer, kept_by, kept_set, keys_set, outside, set, shared_set, there_after}
 use Rattle.fisca_memo.proofs.Both.{Moving, here, keys_of}
 use Rattle.fisca_memo.proofs.Shared.{CanShare, Disjoint, Each, Pairwise, given_of, order_here, order_moving, order_read, rows_by, rows_keys}
-
-either_last : (a b : Bool) → b ≡ true → (a || b) ≡ true
-either_last true b h = refl
-either_last false b h = h
 
 module _ (rules : List Rule) (to : Anew) (even : IsEven to) where
   -- it can be shared, and keys get what stands there anew
@@ -53,7 +50,7 @@ module _ (rules : List Rule) (to : Anew) (even : IsEven to) where
   free_after r t u es new h is apart free s at longer moved q inside = by (list_any (same_key q) (keys_of r t.given)) refl
     where
       by : (b : Bool) → list_any (same_key q) (keys_of r t.given) ≡ b → value_at new q ≡ None
-      by true there = absurd (apart r s is at longer (either_last (is_some t.value) (is_some u.value) moved) q there inside)
+      by true there = absurd (apart r s is at longer (or_right (is_some t.value) (is_some u.value) moved) q there inside)
       by false out = outside r t.given es new h q out ∙ free s at longer moved q inside
 
   all_free_after : (r : Rule) (t : Moving) (us : List Moving) (es new : Entries) → shared r t.given es ≡ Ok new → slice_get rules t.given.variable ≡ Some r

@@ -3,7 +3,7 @@ use Rattle.std.proofs.Common.{◌≡◌, ℕ, suc, pos, List, [], ◌∷◌, ◌
 use Rattle.std.specs.Prelude.{⊤, Result, Ok, Err, nat_lt, ◌==◌}
 use Rattle.std.specs.List.{list_any}
 use Rattle.std.specs.Ordering.{int_eq}
-use Rattle.std.proofs.lemmas.Bool.{eqb-true, ltb-true}
+use Rattle.std.proofs.lemmas.Bool.{eqb-true, ltb-true, or_right}
 use Rattle.fisca_inputs.proofs.Looked.{looked-put, looked-put_all}
 use Rattle.fisca_inputs.specs.Entries.{Entries, key, same_key, value_at, has, limit, put, put_free, put_all}
 use Rattle.fisca_inputs.specs.Faults.{at_line}
@@ -200,11 +200,7 @@ abbrev pub At : (Key → Type 0) → List Key → Type 0
 At P ks = (q : Key) → list_any (same_key q) ks ≡ true → P q
 
 pub behind : (P : Key → Type 0) (k : Key) (ks : List Key) → At P (k ∷ ks) → At P ks
-behind P k ks all q inside = all q (second (same_key q k) (list_any (same_key q) ks) inside)
-  where
-    second : (a b : Bool) → b ≡ true → (a || b) ≡ true
-    second true b e = refl
-    second false b e = e
+behind P k ks all q inside = all q (or_right (same_key q k) (list_any (same_key q) ks) inside)
 
 pub first : (P : Key → Type 0) (k : Key) (ks : List Key) → At P (k ∷ ks) → P k
 first P k ks all = all k (ap (λ b. b || list_any (same_key k) ks) (laws-law.refl k))

@@ -6,7 +6,7 @@ use Rattle.std.specs.List.{list_any, range_with_len}
 use Rattle.std.specs.Ordering.{eq_by_cmp, is_eq, nat_cmp, ordering_then}
 use Rattle.std.specs.declared.cmp.Ordering.{Ordering}
 use Rattle.std.specs.declared.cmp.Ordering.TheVariants.{Less, Equal, Greater}
-use Rattle.std.proofs.lemmas.Bool.{and_parts, eqb-true, eq-eqb, leb-true, lt-ltb}
+use Rattle.std.proofs.lemmas.Bool.{and_parts, eqb-true, eq-eqb, leb-true, lt-ltb, or_right}
 use Rattle.std.proofs.lemmas.List.FromFn.{length-map-range_with_len}
 use Rattle.fisca_inputs.proofs.Numbered.{key_parts}
 use Rattle.fisca_inputs.specs.Entries.{key, same_key}
@@ -154,14 +154,10 @@ own_ends Year (months Eternity first size) h other own = cc
 own_ends Year (days first size) h other own = cc
 own_ends Eternity p h other own = cc
 
-or_last : (a b : Bool) → b ≡ true → (a || b) ≡ true
-or_last true b h = refl
-or_last false b h = h
-
 before_end : (p q : Span) → start_day p < stop_day q → starts_before p q ≡ true
 before_end p q h =
-    or_last (is_eternal p) (is_eternal q || nat_lt (start_day p) (stop_day q))
-    (or_last (is_eternal q) (nat_lt (start_day p) (stop_day q)) (lt-ltb (start_day p) (stop_day q) h))
+    or_right (is_eternal p) (is_eternal q || nat_lt (start_day p) (stop_day q))
+    (or_right (is_eternal q) (nat_lt (start_day p) (stop_day q)) (lt-ltb (start_day p) (stop_day q) h))
 
 -- two periods in which the same ends share a day
 common_day : (unit : Unit) (first : ℕ) (p q : Span) → EndsIn unit first p → EndsIn unit first q → shares_day p q ≡ true
@@ -194,7 +190,7 @@ in_parts q x m (p ∷ ps) h = by (same_key q (key x m p)) refl h (in_parts q x m
         → (list_any (same_key q) (map (λ p. key x m p) ps) ≡ true → (q.variable ≡ x) × (q.member ≡ m) × (list_any (eq_by_cmp span_cmp q.period) ps ≡ true))
         → (q.variable ≡ x) × (q.member ≡ m) × ((eq_by_cmp span_cmp q.period p || list_any (eq_by_cmp span_cmp q.period) ps) ≡ true)
     by true same e later = let parts = key_parts q (key x m p) same in (parts.0, parts.1, ap (λ b. b || list_any (eq_by_cmp span_cmp q.period) ps) parts.2)
-    by false other e later = let more = later e in (more.0, more.1, or_last (eq_by_cmp span_cmp q.period p) (list_any (eq_by_cmp span_cmp q.period) ps) more.2)
+    by false other e later = let more = later e in (more.0, more.1, or_right (eq_by_cmp span_cmp q.period p) (list_any (eq_by_cmp span_cmp q.period) ps) more.2)
 
 pub part_key : (r : Rule) (g : Given) (q : Key) → list_any (same_key q) (parts_of r g) ≡ true → IsKeyOf r.unit g q
 part_key r g q h =

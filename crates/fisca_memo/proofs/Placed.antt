@@ -4,9 +4,8 @@ use Rattle.std.specs.Prelude.{⊤, ◌==◌}
 use Rattle.std.specs.Cmp.{both_ways}
 use Rattle.std.specs.List.{list_any}
 use Rattle.std.specs.Ordering.{eq_by_cmp}
-use Rattle.std.proofs.lemmas.Bool.{eqb-true, eq-eqb}
+use Rattle.std.proofs.lemmas.Bool.{eqb-true, eq-eqb, or_parts}
 use Rattle.std.proofs.lemmas.List.Folds.{list_any-append}
-use Rattle.fisca_grid.proofs.Groups.{either_false}
 use Rattle.fisca_inputs.specs.Entries.{same_key}
 use Rattle.fisca_inputs.specs.Inputs.{key_given}
 use Rattle.fisca_inputs.specs.contracts.key.KeyEq.TheImpl.Laws.{laws-law}
@@ -141,7 +140,7 @@ NoneOverlaps given before (g ∷ gs) = (is_overlap given before g ≡ false) × 
 met_none : (x m : ℕ) (p : Span) (gs : List Given) → meets gs x m p ≡ false → overlaps gs x m p ≡ false
 met_none x m p [] none = refl
 met_none x m p (g ∷ gs) none =
-    let parts = either_false (is_across x m p g) (meets gs x m p) none in
+    let parts = or_parts (is_across x m p g) (meets gs x m p) none in
     ap₂ (λ a b. a || b) (ap (λ a. a && is_other p g) parts.0) (met_none x m p gs parts.1)
 
 module _ (P : Moving → Type 0) where
@@ -159,7 +158,7 @@ module _ (P : Moving → Type 0) where
   each_replaced t z [] same all others = tt
   each_replaced t z (u ∷ us) same all others =
       let parts =
-      either_false (across u z && is_other z.given.period u.given) (overlaps (map given_of us) z.given.variable z.given.member z.given.period) others in
+      or_parts (across u z && is_other z.given.period u.given) (overlaps (map given_of us) z.given.variable z.given.member z.given.period) others in
       (turned u z (apart_from_new u z parts.0 (replaced t z u same all.0)), each_replaced t z us same all.1 parts.1)
 
   placed_apart : (ts : List Moving) (z : Moving) → Pairwise P Apart ts → P z → overlaps (map given_of ts) z.given.variable z.given.member z.given.period ≡ false
@@ -168,7 +167,7 @@ module _ (P : Moving → Type 0) where
   placed_apart (t ∷ ts) z sound p others = by (same_key (key_of t) (key_of z)) refl (placed_apart ts z sound.1.1 p parts.1)
     where
       parts : ((across t z && is_other z.given.period t.given) ≡ false) × (overlaps (map given_of ts) z.given.variable z.given.member z.given.period ≡ false)
-      parts = either_false (across t z && is_other z.given.period t.given) (overlaps (map given_of ts) z.given.variable z.given.member z.given.period) others
+      parts = or_parts (across t z && is_other z.given.period t.given) (overlaps (map given_of ts) z.given.variable z.given.member z.given.period) others
 
       by : (b : Bool) → same_key (key_of t) (key_of z) ≡ b → Pairwise P Apart (place ts z) → Pairwise P Apart (if b then z ∷ ts else t ∷ place ts z)
       by true same more = (p, (each_replaced t z ts same sound.1.0 parts.1, sound.1.1))
@@ -182,7 +181,7 @@ module _ (P : Moving → Type 0) where
       → list_any test (map given_of (place ts z)) ≡ false
   placed_of test [] z none here_too = ap (λ b. b || false) here_too
   placed_of test (t ∷ ts) z none here_too =
-      let parts = either_false (test t.given) (list_any test (map given_of ts)) none in
+      let parts = or_parts (test t.given) (list_any test (map given_of ts)) none in
       by (same_key (key_of t) (key_of z)) parts.0 parts.1 (placed_of test ts z parts.1 here_too)
     where
       by : (b : Bool) → test t.given ≡ false → list_any test (map given_of ts) ≡ false → list_any test (map given_of (place ts z)) ≡ false
@@ -192,8 +191,8 @@ module _ (P : Moving → Type 0) where
 
   of_more : (given before : List Given) (ts : List Moving) (z : Moving) → IsOf given before ts → IsOf given (before ++ z.given ∷ []) (place ts z)
   of_more given before ts z of test none_given none_before =
-      let parts = either_false (list_any test before) (list_any test (z.given ∷ [])) (sym (list_any-append test before (z.given ∷ [])) ∙ none_before) in
-      placed_of test ts z (of test none_given parts.0) (either_false (test z.given) false parts.1).0
+      let parts = or_parts (list_any test before) (list_any test (z.given ∷ [])) (sym (list_any-append test before (z.given ∷ [])) ∙ none_before) in
+      placed_of test ts z (of test none_given parts.0) (or_parts (test z.given) false parts.1).0
 
   abbrev pub AllOf : List Moving → Type 0
   AllOf [] = ⊤
@@ -207,7 +206,7 @@ module _ (P : Moving → Type 0) where
       let x = z.given.variable in
       let m = z.given.member in
       let p = z.given.period in
-      let parts = either_false (meets before x m p) (overlaps given x m p) none.0 in
+      let parts = or_parts (meets before x m p) (overlaps given x m p) none.0 in
       let others = of (λ g. is_across x m p g && is_other p g) parts.1 (met_none x m p before parts.0) in
       all_placed given (before ++ z.given ∷ []) (place ts z) zs (of_more given before ts z of) none.1 (placed_apart ts z sound all.0 others) all.1
 

@@ -3,10 +3,10 @@ use Rattle.std.proofs.Common.{◌≡◌, ℕ, suc, ◌+◌, List, [], ◌∷◌,
 use Rattle.std.specs.Prelude.{⊤, Result, Ok, Err, nat_lt, option_map}
 use Rattle.std.specs.List.{list_any}
 use Rattle.std.specs.Option.{unwrap_or}
+use Rattle.std.proofs.lemmas.Bool.{or_parts}
 use Rattle.fisca_calc.specs.Calc.{default_in}
 use Rattle.fisca_calc.specs.Faults.{fault_at}
 use Rattle.fisca_calc.specs.declared.fault.RunFileKind.TheVariants as kind
-use Rattle.fisca_grid.proofs.Groups.{either_false}
 use Rattle.fisca_grid.specs.AxesRow.{values_of}
 use Rattle.fisca_grid.specs.Grid.{axes_at, axes_fault, groups_of}
 use Rattle.fisca_grid.specs.declared.axes.AxesFault.{AxesFault}
@@ -73,7 +73,7 @@ given_behind : (gs : List Given) (g : Given) → AreGiven gs → is_period g.per
     → AreGiven (gs ++ g ∷ [])
 given_behind [] g all period other = (period, (tt, tt))
 given_behind (h ∷ gs) g all period other =
-    let parts = either_false (same_key (key_given g) (key_given h)) (list_any (λ k. same_key (key_given g) (key_given k)) gs) other in
+    let parts = or_parts (same_key (key_given g) (key_given h)) (list_any (λ k. same_key (key_given g) (key_given k)) gs) other in
     (all.0, (each_behind h g gs all.1.0 (laws-law.symm (key_given h) (key_given g) ∙ parts.0), given_behind gs g all.1.1 period parts.1))
 
 one_given : (gs : List Given) (g : Given) (hs : List Given) → AreGiven gs → is_period g.period ≡ true → and_given gs g ≡ Ok hs → AreGiven hs

@@ -4,9 +4,8 @@ use Rattle.std.specs.Prelude.{◌⊎◌, nat_le}
 use Rattle.std.specs.Cmp.{unsigned_ties}
 use Rattle.std.specs.List.{list_any}
 use Rattle.std.specs.Ordering.{eq_by_cmp, is_eq, is_lt, nat_cmp, ordering_then}
-use Rattle.std.proofs.lemmas.Bool.{and_parts, eqb-true, eq-eqb, leb-true, lt-ltb}
+use Rattle.std.proofs.lemmas.Bool.{and_parts, eqb-true, eq-eqb, leb-true, lt-ltb, or_parts}
 use Rattle.std.proofs.lemmas.List.Folds.{list_any-append}
-use Rattle.fisca_grid.proofs.Groups.{either_false}
 use Rattle.fisca_inputs.specs.Entries.{same_key}
 use Rattle.fisca_inputs.specs.Order.{given_cmp}
 use Rattle.fisca_inputs.specs.Rules.{Rule}
@@ -213,12 +212,12 @@ IsMet g before = (x m : ℕ) (p : Span) → meets before x m p ≡ false → is_
 
 met_more : (g h : Given) (before : List Given) → IsMet g before → IsMet g (before ++ h ∷ [])
 met_more g h before met x m p none =
-    met x m p (either_false (meets before x m p) (list_any (is_across x m p) (h ∷ [])) (sym (list_any-append (is_across x m p) before (h ∷ [])) ∙ none)).0
+    met x m p (or_parts (meets before x m p) (list_any (is_across x m p) (h ∷ [])) (sym (list_any-append (is_across x m p) before (h ∷ [])) ∙ none)).0
 
 met_last : (g : Given) (before : List Given) → IsMet g (before ++ g ∷ [])
 met_last g before x m p none =
-    let parts = either_false (meets before x m p) (list_any (is_across x m p) (g ∷ [])) (sym (list_any-append (is_across x m p) before (g ∷ [])) ∙ none) in
-    (either_false (is_across x m p g) false parts.1).0
+    let parts = or_parts (meets before x m p) (list_any (is_across x m p) (g ∷ [])) (sym (list_any-append (is_across x m p) before (g ∷ [])) ∙ none) in
+    (or_parts (is_across x m p g) false parts.1).0
 
 module _ (P : Moving → Type 0) (period : (t : Moving) → P t → is_period t.given.period ≡ true) where
   each_apart : (z : Moving) (given before : List Given) (us : List Moving) → P z → AllOf P us → IsMet z.given before → NoneOverlaps given before (map given_of us)
@@ -227,7 +226,7 @@ module _ (P : Moving → Type 0) (period : (t : Moving) → P t → is_period t.
   each_apart z given before (u ∷ us) p all met none =
       let x = u.given.variable in
       let m = u.given.member in
-      let apart : across z u ≡ false = met x m u.given.period (either_false (meets before x m u.given.period) (overlaps given x m u.given.period) none.0).0 in (
+      let apart : across z u ≡ false = met x m u.given.period (or_parts (meets before x m u.given.period) (overlaps given x m u.given.period) none.0).0 in (
         record { keys = other_keys z u (period z p) (period u all.0) apart; days = λ moved. apart },
         each_apart z given (before ++ u.given ∷ []) us p all.1 (met_more z.given u.given before met) none.1,
       )

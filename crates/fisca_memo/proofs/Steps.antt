@@ -3,10 +3,10 @@ use Rattle.std.proofs.Common.{◌≡◌, ℕ, zero, suc, ◌*◌, ◌/◌, ◌%�
 use Rattle.std.specs.Prelude.{◌==◌, nat_le, sum}
 use Rattle.std.specs.List.{list_any}
 use Rattle.std.specs.Option.{option_or}
-use Rattle.std.proofs.lemmas.Bool.{and_parts, eqb-true, leb-true}
+use Rattle.std.proofs.lemmas.Bool.{and_parts, eqb-true, leb-true, or_parts}
 use Rattle.std.proofs.lemmas.Int.{ints, unsigned_abs-mul}
 use Rattle.std.proofs.lemmas.Nat.{mul-le}
-use Rattle.fisca_grid.proofs.Groups.{alike_first, either_false, fault_first, left_grouped, length-axes_at, sum_first}
+use Rattle.fisca_grid.proofs.Groups.{alike_first, fault_first, left_grouped, length-axes_at, sum_first}
 use Rattle.fisca_grid.proofs.Sizes.{abs-line}
 use Rattle.fisca_grid.proofs.Steps.{below_within, bound_size, bound_value, number_fits, on_line, same_number_of, step_on_line}
 use Rattle.fisca_grid.specs.Axes.{IsLine, axis_fault, first_axis_fault, is_bound, is_count, step_of, steps_of}
@@ -147,7 +147,7 @@ group_values : (count position : ℕ) (group : List AxisSpec) (rest : List (Axis
     → AreValues (map (λ axis. (axis, position % count)) group ++ rest)
 group_values count position [] rest some right alike values = values
 group_values count position (axis ∷ group) rest some right alike values =
-    let parts = either_false (not (axis.count == count)) (list_any (λ axis. not (axis.count == count)) group) alike in
+    let parts = or_parts (not (axis.count == count)) (list_any (λ axis. not (axis.count == count)) group) alike in
     let same : axis.count ≡ count = eqb-true axis.count count (not_false (axis.count == count) parts.0) in
     let inside : position % count < axis.count = omega arith in
     let step = step_at axis (position % count) right.0 inside in

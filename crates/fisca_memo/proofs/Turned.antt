@@ -2,6 +2,7 @@
 use Rattle.std.proofs.Common.{◌≡◌, true≢false, ℕ, List, [], ◌∷◌, map, Bool, true, false, Option, Some, None, is_some, slice_get, refl, sym, ap, ap₂, subst, ◌∙◌, inl, inr, if◌then◌else◌, ◌||◌}
 use Rattle.std.specs.Prelude.{⊤, Result, Ok, Err}
 use Rattle.std.specs.List.{list_any}
+use Rattle.std.proofs.lemmas.Bool.{or_right}
 use Rattle.fisca_inputs.specs.Entries.{Entries, same_key}
 use Rattle.fisca_inputs.specs.Inputs.{inputs_of}
 use Rattle.fisca_inputs.specs.Rules.{Rule}
@@ -175,11 +176,7 @@ module _ (rules : List Rule) where
 
     placed_apart : (t z : Moving) → IsPlaced zs t → IsPlaced zs z → Apart t z → IsMoved z → KeysApart t z
     placed_apart t z p q apart is =
-        keys_apart t z p.sound.period q.sound.period p.normal q.normal (apart.days (either_last (is_some t.value) (is_some z.value) is))
-      where
-        either_last : (a b : Bool) → b ≡ true → (a || b) ≡ true
-        either_last true b h = refl
-        either_last false b h = h
+        keys_apart t z p.sound.period q.sound.period p.normal q.normal (apart.days (or_right (is_some t.value) (is_some z.value) is))
 
     pub keys_of_zs : Pairwise (IsPlaced zs) KeysApart zs
     keys_of_zs =

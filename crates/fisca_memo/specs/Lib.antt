@@ -1,5 +1,4 @@
 pub mod Asked
-pub mod Codes
 pub mod Counted
 pub mod Counting
 pub mod Evaluators

@@ -4,7 +4,7 @@ ghost use Rattle.std.specs.Prelude.{◌≡◌, IfSome, length};
 ghost use Rattle.std.proofs.Props.{props};
 ghost use Rattle.fisca_eval.specs.Views.{simulation as simulation_view};
 ghost use Rattle.fisca_inputs.specs.Seen.{key_seen};
-ghost use Rattle.fisca_memo.specs.Codes.{dialogues_are_a_set};
+ghost use Rattle.fisca_meaning.specs.Codes.{dialogues_are_a_set};
 ghost use Rattle.fisca_memo.specs.Plans as spec;
 ghost use Rattle.fisca_rules.specs.Views.{rule_set};
 

@@ -48,7 +48,7 @@ pub enum Node {
 }
 
 /// A loop, since a `select` has one choice in the next for each of its conditions, of which a module has room for 150,000: they need no
-/// stack. All other nodes are as deep as the expression that they come from, at most 120.
+/// stack. Other nodes make two levels at most of each of the 120 that an expression may have with its locals put in.
 impl Drop for Node {
     #[cycle(dropping)]
     fn drop(mut self) {

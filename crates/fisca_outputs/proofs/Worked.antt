@@ -1,15 +1,12 @@
 -- The definition of expected values, worked out on small tests.
-use Rattle.std.proofs.Common.{◌≡◌, ℕ, ◌+◌, ◌-◌, ◌*◌, List, [], ◌∷◌, map, codes, refl, sym, lit<}
-use Rattle.std.specs.Prelude.{ℤ, pos, Bool, true, false, Option, Some, None, Result, Ok, Err}
+use Rattle.std.proofs.Common.{◌≡◌, ℕ, ◌*◌, List, [], ◌∷◌, map, codes, refl, lit<}
+use Rattle.std.specs.Prelude.{ℤ, pos, true, false, Option, Some, None, Result, Ok, Err}
 use Rattle.fisca_situations.proofs.Country.{country}
-use Rattle.fisca_inputs.specs.declared.given.Value.{Value}
-use Rattle.fisca_inputs.specs.declared.given.Value.TheVariants as v
+use Rattle.fisca_situations.proofs.Literals.{five, seven, hundred, two_hundred, half_literal}
+use Rattle.fisca_situations.proofs.Shown.{Shown, number, bool, member, shown, month, january}
 use Rattle.fisca_rosters.specs.declared.entity_members.EntityMembers.{EntityMembers}
-use Rattle.fisca_num.specs.Literal.{number_of_literal, number_of_parts, digits_ratio}
-use Rattle.fisca_num.specs.Number.{Number, whole_number}
-use Rattle.fisca_num.specs.Operations.{only_number_of}
+use Rattle.fisca_num.specs.Literal.{number_of_literal, number_of_parts}
 use Rattle.fisca_num.specs.declared.faults.NumFault.TheVariants as number_fault
-use Rattle.std.proofs.Math.Nat.{eq-one_of_dvd-one}
 use Rattle.fisca_time.specs.Period.{Span, eternity, months}
 use Rattle.fisca_time.specs.declared.unit.Unit.TheVariants as unit
 use Rattle.fisca_yaml.specs.Flow.{flow_value, series}
@@ -30,16 +27,6 @@ abbrev alone : List EntityMembers
 alone = record { names = codes "person" ∷ []; homes = [] } ∷ record { names = codes "person" ∷ []; homes = [] } ∷ []
 
 -- what is expected: of a variable, of a member, at a period, which value
-data Shown : Type 0 where
-  number : ℤ → ℕ → Shown
-  bool : Bool → Shown
-  member : ℕ → Shown
-
-abbrev shown : Value → Shown
-shown (v.Number n) = number n.numerator n.denominator
-shown (v.Bool b) = bool b
-shown (v.Member i) = member i
-
 record Row : Type 0 where
   variable : ℕ
   member : ℕ
@@ -62,12 +49,6 @@ of_node ms p (Some n) = Some (rows (outputs_of country ms p 9 n))
 abbrev read_at : List EntityMembers → Option Span → List ℕ → Option (Result (List Row) OutputFault)
 read_at ms p text = of_node ms p (document text)
 
-abbrev month : ℕ → ℕ → Span
-month year m = months unit.Month (12 * year + (m - 1)) 1
-
-abbrev january : Span
-january = month 2017 1
-
 abbrev read : List ℕ → Option (Result (List Row) OutputFault)
 read = read_at alone (Some january)
 
@@ -80,15 +61,7 @@ row x m p w = record { variable = x; member = m; period = p; value = w }
 abbrev bad : ℕ → Option (Result (List Row) OutputFault)
 bad line = Some (bad_at line)
 
--- Literals, by their only number
-
-abbrev half : Number
-half = record {
-  numerator = pos 1;
-  denominator = 2;
-  lowest = record { positive = lit< tt; coprime = λ k p q. eq-one_of_dvd-one p };
-  within = record { above = lit< tt; below = lit< tt };
-}
+-- Words that are no numbers
 
 foo : number_of_literal (codes "foo") ≡ Err number_fault.NotANumber
 unfolding number_of_literal number_of_parts
@@ -97,30 +70,6 @@ foo = refl
 true_word : number_of_literal (codes "true") ≡ Err number_fault.NotANumber
 unfolding number_of_literal number_of_parts
 true_word = refl
-
-five : number_of_literal (codes "5") ≡ Ok (whole_number (pos 5) (lit< tt))
-unfolding number_of_literal number_of_parts
-five = sym (only_number_of (digits_ratio false (codes "5") []) (Ok (whole_number (pos 5) (lit< tt))) (record { some = lit< tt; same = refl; lowest = (whole_number (pos 5) (lit< tt)).lowest }))
-
-seven : number_of_literal (codes "7") ≡ Ok (whole_number (pos 7) (lit< tt))
-unfolding number_of_literal number_of_parts
-seven = sym (only_number_of (digits_ratio false (codes "7") []) (Ok (whole_number (pos 7) (lit< tt))) (record { some = lit< tt; same = refl; lowest = (whole_number (pos 7) (lit< tt)).lowest }))
-
-thirty : number_of_literal (codes "30") ≡ Ok (whole_number (pos 30) (lit< tt))
-unfolding number_of_literal number_of_parts
-thirty = sym (only_number_of (digits_ratio false (codes "30") []) (Ok (whole_number (pos 30) (lit< tt))) (record { some = lit< tt; same = refl; lowest = (whole_number (pos 30) (lit< tt)).lowest }))
-
-hundred : number_of_literal (codes "100") ≡ Ok (whole_number (pos 100) (lit< tt))
-unfolding number_of_literal number_of_parts
-hundred = sym (only_number_of (digits_ratio false (codes "100") []) (Ok (whole_number (pos 100) (lit< tt))) (record { some = lit< tt; same = refl; lowest = (whole_number (pos 100) (lit< tt)).lowest }))
-
-two_hundred : number_of_literal (codes "200") ≡ Ok (whole_number (pos 200) (lit< tt))
-unfolding number_of_literal number_of_parts
-two_hundred = sym (only_number_of (digits_ratio false (codes "200") []) (Ok (whole_number (pos 200) (lit< tt))) (record { some = lit< tt; same = refl; lowest = (whole_number (pos 200) (lit< tt)).lowest }))
-
-half_literal : number_of_literal (codes "0.5") ≡ Ok (half)
-unfolding number_of_literal number_of_parts
-half_literal = sym (only_number_of (digits_ratio false (codes "0") (codes "5")) (Ok (half)) (record { some = lit< tt; same = refl; lowest = (half).lowest }))
 
 -- Variables of all members
 

@@ -8,6 +8,7 @@ use Rattle.std.specs.Map.{keys_of}
 use Rattle.std.specs.declared.cmp.Ordering.{Ordering}
 use Rattle.std.specs.declared.cmp.Ordering.TheVariants.{Less, Equal, Greater}
 use Rattle.std.specs.Ordering.{is_lt, match_ordering, nat_cmp}
+use Rattle.std.proofs.lemmas.Bool.{and_from}
 use Rattle.fisca_yaml.specs.declared.tree.Entry.{Entry}
 use Rattle.fisca_yaml.specs.Views.{entries_view}
 use Rattle.fisca_params.specs.Dates.{Dated, date_of_number}
@@ -16,10 +17,6 @@ use Rattle.fisca_params.specs.Content.{are_instants, is_date_map}
 use Rattle.fisca_params.specs.Written.{numbered_pair}
 use Rattle.fisca_params.proofs.Days.{days_cmp}
 use Rattle.fisca_params.proofs.Latest.{IsBehind, first_before, tail_in_order, put-behind}
-
-both : (a b : Bool) → a ≡ true → b ≡ true → (a && b) ≡ true
-both true b p q = q
-both false b p q = cc
 
 pub date_map-some : (es : List Entry) → (length es ≡ 0 → ⊥) → are_instants (entries_view es) ≡ is_date_map (entries_view es)
 date_map-some [] h = absurd (h refl)
@@ -31,7 +28,7 @@ unfolding IsStrictlySortedBy
 in_order-numbers [] h = refl
 in_order-numbers (e ∷ []) h = refl
 in_order-numbers (e ∷ f ∷ fs) h =
-    both (is_before (date_of_number e.0) (date_of_number f.0)) (is_in_order (map numbered_pair (f ∷ fs))) (ap is_lt (days_cmp e.0 f.0 ∙ h.0.0)) (in_order-numbers (f ∷ fs) h.1)
+    and_from (is_before (date_of_number e.0) (date_of_number f.0)) (is_in_order (map numbered_pair (f ∷ fs))) (ap is_lt (days_cmp e.0 f.0 ∙ h.0.0)) (in_order-numbers (f ∷ fs) h.1)
 
 pub map-put : {V : Type 0} (es : List (ℕ × Option V)) (day : ℕ) (v : Option V) →
     map numbered_pair (insert_entry nat_cmp es day v) ≡ put_in_time (record { date = date_of_number day; value = v }) (map numbered_pair es)
@@ -65,7 +62,7 @@ in_order-neighbours : {V : Type 0} (ds : List (Dated V)) → AllAdjacentBelow (�
 in_order-neighbours [] h = refl
 in_order-neighbours (d ∷ []) h = refl
 in_order-neighbours (d ∷ e ∷ es) h =
-    both (is_before d.date e.date) (is_in_order (e ∷ es)) (sym (h zero d (omega arith))) (in_order-neighbours (e ∷ es) (λ k x p. let next : suc k + 1 ≡ suc (k + 1) = omega arith in rw next at (h (suc k) x (omega arith))))
+    and_from (is_before d.date e.date) (is_in_order (e ∷ es)) (sym (h zero d (omega arith))) (in_order-neighbours (e ∷ es) (λ k x p. let next : suc k + 1 ≡ suc (k + 1) = omega arith in rw next at (h (suc k) x (omega arith))))
 
 pub in_order-answer : {V : Type 0} (ds : List (Dated V)) (r : Bool) → IsAllAdjacentAnswer (λ (x y : Dated V) b. b ≡ is_before x.date y.date) ds r → r ≡ true → is_in_order ds ≡ true
 in_order-answer ds true h t = in_order-neighbours ds h

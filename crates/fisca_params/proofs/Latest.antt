@@ -8,6 +8,7 @@ use Rattle.std.specs.declared.cmp.Ordering.{Ordering}
 use Rattle.std.specs.declared.cmp.Ordering.TheVariants.{Less, Equal, Greater}
 use Rattle.std.specs.Ordering.{is_lt, is_le, ordering_reverse}
 use Rattle.std.specs.List.Sorted.{IsPartitionedBy}
+use Rattle.std.proofs.lemmas.Bool.{and_parts}
 use Rattle.fisca_time.specs.Instant.{CivilDate, date_cmp}
 use Rattle.fisca_params.specs.Dates.{Dated}
 use Rattle.fisca_params.specs.Dates.{is_before, latest, is_in_order, put_in_time}
@@ -35,10 +36,6 @@ le-before a b = le_from_reverse (date_cmp a b) ∙ ap (λ o. not (is_lt o)) (sym
 abbrev pub is_reached : {V : Type 0} → CivilDate → Dated V → Bool
 is_reached i d = is_le (date_cmp d.date i)
 
-both_of : (a b : Bool) → (a && b) ≡ true → (a ≡ true) × (b ≡ true)
-both_of true b h = (refl, h)
-both_of false b h = cc
-
 turn : (a b : Bool) → a ≡ not b → a ≡ true → b ≡ false
 turn true true e h = cc
 turn true false e h = refl
@@ -55,14 +52,14 @@ not_so false h = refl
 
 pub tail_in_order : {V : Type 0} (d : Dated V) (ds : List (Dated V)) → is_in_order (d ∷ ds) ≡ true → is_in_order ds ≡ true
 tail_in_order d [] h = refl
-tail_in_order d (e ∷ es) h = (both_of (is_before d.date e.date) (is_in_order (e ∷ es)) h).1
+tail_in_order d (e ∷ es) h = (and_parts (is_before d.date e.date) (is_in_order (e ∷ es)) h).1
 
 -- the first member is before all others
 pub first_before : {V : Type 0} (d : Dated V) (ds : List (Dated V)) → is_in_order (d ∷ ds) ≡ true → (j : ℕ) (x : Dated V) → j < length ds → is_before d.date (get_or ds j x).date ≡ true
 first_before d [] h j x p = absurd (omega arith)
-first_before d (e ∷ es) h zero x p = (both_of (is_before d.date e.date) (is_in_order (e ∷ es)) h).0
+first_before d (e ∷ es) h zero x p = (and_parts (is_before d.date e.date) (is_in_order (e ∷ es)) h).0
 first_before d (e ∷ es) h (suc j) x p =
-    let both : (is_before d.date e.date ≡ true) × (is_in_order (e ∷ es) ≡ true) = both_of (is_before d.date e.date) (is_in_order (e ∷ es)) h in
+    let both : (is_before d.date e.date ≡ true) × (is_in_order (e ∷ es) ≡ true) = and_parts (is_before d.date e.date) (is_in_order (e ∷ es)) h in
     before-trans d.date e.date (get_or es j x).date both.0 (first_before e es both.1 j x (omega arith))
 
 -- no member that is reached comes after one that is not

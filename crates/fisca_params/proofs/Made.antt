@@ -1,6 +1,6 @@
 -- Files that fit, and whose names differ, make a tree.
 use Rattle.std.proofs.Common.{◌≡◌, ℕ, ◌+◌, ◌<◌, ◌≤◌, Bool, true, false, cond, ◌&&◌, eqb, List, [], ◌∷◌, ◌++◌, length, Option, Some, None, Result, Ok, is_none, refl, sym, ◌∙◌, ap, subst, arith, inl, inr, ◌⊎◌, codes, append_assoc, option_map}
-use Rattle.std.proofs.lemmas.Bool.{eqb-true}
+use Rattle.std.proofs.lemmas.Bool.{eqb-true, and_parts}
 use Rattle.std.proofs.lemmas.List.{length-append}
 use Rattle.std.proofs.lemmas.Slice.Eq.{bytes_eq-Decides}
 use Rattle.std.specs.List.{enumerate_from}
@@ -30,16 +30,12 @@ use Rattle.std.proofs.lemmas.Option.{slice_get_within}
 abbrev Bounded : List TreeNode → Type 0
 Bounded t = (place : ℕ) (name : List ℕ) → length t ≤ place → child_of t place name ≡ None
 
-both_true : (a b : Bool) → a && b ≡ true → (a ≡ true) × (b ≡ true)
-both_true true b h = (refl, h)
-both_true false b h = cc
-
 -- a new node is found at its own place alone
 elsewhere : (t : List TreeNode) (parent : ℕ) (name : List ℕ) (c : Content) (place : ℕ) (q : List ℕ) → ((parent ≡ place) × (name ≡ q) → ⊥) → child_of (with_child t parent name c) place q ≡ child_of t place q
 elsewhere t parent name c place q other = child-put t parent name c place q ∙ go (child_of t place q) (eqb parent place && bytes_eq name q) refl
   where
     go : (found : Option ℕ) (b : Bool) → eqb parent place && bytes_eq name q ≡ b → or_else found (cond b (Some (length t)) None) ≡ found
-    go found true e = let h = both_true (eqb parent place) (bytes_eq name q) e in absurd (other (eqb-true parent place h.0, (bytes_eq-Decides name q).0 h.1))
+    go found true e = let h = and_parts (eqb parent place) (bytes_eq name q) e in absurd (other (eqb-true parent place h.0, (bytes_eq-Decides name q).0 h.1))
     go None false e = refl
     go (Some k) false e = refl
 

@@ -2,6 +2,7 @@
 use Rattle.std.proofs.Common.{◌≡◌, ℕ, ◌*◌, List, [], ◌∷◌, codes, pos, negsuc, refl, sym, lit<}
 use Rattle.std.specs.Prelude.{Bool, true, false, map, Option, Some, None, Result, Ok, Err}
 use Rattle.fisca_situations.proofs.Country.{child, households, nought, person, variable}
+use Rattle.fisca_situations.proofs.Literals.{one, two, seven}
 use Rattle.fisca_calc.specs.declared.fault.RunFileFault.{RunFileFault}
 use Rattle.fisca_calc.specs.declared.fault.RunFileKind.{RunFileKind}
 use Rattle.fisca_calc.specs.declared.fault.RunFileKind.TheVariants as kind
@@ -13,7 +14,7 @@ use Rattle.fisca_inputs.specs.declared.key.Key.{Key}
 use Rattle.fisca_members.specs.Members.{members_in}
 use Rattle.fisca_members.specs.Persons.{with_person}
 use Rattle.fisca_num.specs.Literal.{number_of_literal, number_of_parts, digits_ratio}
-use Rattle.fisca_num.specs.Number.{zero_number, one_number, whole_number}
+use Rattle.fisca_num.specs.Number.{zero_number, whole_number}
 use Rattle.fisca_num.specs.Operations.{only_number_of}
 use Rattle.fisca_situations.specs.Reading.{dated_given, entry_given, inputs_given, member_below, named_given, section_by, section_given, value_given, variable_given}
 use Rattle.fisca_situations.specs.Situations.{reading_in, reading_of}
@@ -92,14 +93,6 @@ zero : number_of_literal (codes "0") ≡ Ok zero_number
 unfolding number_of_literal number_of_parts
 zero = sym (only_number_of (digits_ratio false (codes "0") []) (Ok zero_number) (record { some = lit< tt; same = refl; lowest = zero_number.lowest }))
 
-one : number_of_literal (codes "1") ≡ Ok one_number
-unfolding number_of_literal number_of_parts
-one = sym (only_number_of (digits_ratio false (codes "1") []) (Ok one_number) (record { some = lit< tt; same = refl; lowest = one_number.lowest }))
-
-two : number_of_literal (codes "2") ≡ Ok (whole_number (pos 2) (lit< tt))
-unfolding number_of_literal number_of_parts
-two = sym (only_number_of (digits_ratio false (codes "2") []) (Ok (whole_number (pos 2) (lit< tt))) (record { some = lit< tt; same = refl; lowest = (whole_number (pos 2) (lit< tt)).lowest }))
-
 three : number_of_literal (codes "3") ≡ Ok (whole_number (pos 3) (lit< tt))
 unfolding number_of_literal number_of_parts
 three = sym (only_number_of (digits_ratio false (codes "3") []) (Ok (whole_number (pos 3) (lit< tt))) (record { some = lit< tt; same = refl; lowest = (whole_number (pos 3) (lit< tt)).lowest }))
@@ -107,10 +100,6 @@ three = sym (only_number_of (digits_ratio false (codes "3") []) (Ok (whole_numbe
 three_point : number_of_literal (codes "3.0") ≡ Ok (whole_number (pos 3) (lit< tt))
 unfolding number_of_literal number_of_parts
 three_point = sym (only_number_of (digits_ratio false (codes "3") (codes "0")) (Ok (whole_number (pos 3) (lit< tt))) (record { some = lit< tt; same = refl; lowest = (whole_number (pos 3) (lit< tt)).lowest }))
-
-seven : number_of_literal (codes "7") ≡ Ok (whole_number (pos 7) (lit< tt))
-unfolding number_of_literal number_of_parts
-seven = sym (only_number_of (digits_ratio false (codes "7") []) (Ok (whole_number (pos 7) (lit< tt))) (record { some = lit< tt; same = refl; lowest = (whole_number (pos 7) (lit< tt)).lowest }))
 
 most : number_of_literal (codes "1048576") ≡ Ok (whole_number (pos 1048576) (lit< tt))
 unfolding number_of_literal number_of_parts

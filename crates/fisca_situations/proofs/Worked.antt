@@ -1,20 +1,16 @@
 -- The definition of given inputs, worked out on small situations.
-use Rattle.std.proofs.Common.{◌≡◌, ℕ, ◌+◌, ◌-◌, ◌*◌, List, [], ◌∷◌, map, codes, refl, sym, lit<}
-use Rattle.std.specs.Prelude.{ℤ, pos, negsuc, Bool, true, false, Option, Some, None, Result, Ok, Err}
+use Rattle.std.proofs.Common.{◌≡◌, ℕ, ◌*◌, List, [], ◌∷◌, map, codes, refl, lit<}
+use Rattle.std.specs.Prelude.{ℤ, pos, negsuc, true, false, Option, Some, None, Result, Ok, Err}
 use Rattle.fisca_situations.proofs.Country.{country}
+use Rattle.fisca_situations.proofs.Literals.{two, five, seven, thirty, fifty, hundred, two_hundred, eight_hundred, twelve_hundred, wide, one_point, nothing_more, thirty_point, half_literal, least}
+use Rattle.fisca_situations.proofs.Shown.{Shown, number, bool, member, shown, month, january}
 use Rattle.fisca_inputs.specs.Faults.{at_line}
 use Rattle.fisca_inputs.specs.declared.fault.SituationFault.{SituationFault}
 use Rattle.fisca_inputs.specs.declared.fault.SituationKind.{SituationKind}
 use Rattle.fisca_inputs.specs.declared.fault.SituationKind.TheVariants as kind
 use Rattle.fisca_inputs.specs.declared.given.Given.{Given}
-use Rattle.fisca_inputs.specs.declared.given.Value.{Value}
-use Rattle.fisca_inputs.specs.declared.given.Value.TheVariants as v
 use Rattle.fisca_members.specs.Members.{members_in}
 use Rattle.fisca_members.specs.Persons.{with_person}
-use Rattle.fisca_num.specs.Literal.{number_of_literal, number_of_parts, digits_ratio}
-use Rattle.fisca_num.specs.Number.{Number, one_number, whole_number, zero_number}
-use Rattle.fisca_num.specs.Operations.{only_number_of}
-use Rattle.std.proofs.Math.Nat.{eq-one_of_dvd-one}
 use Rattle.fisca_time.specs.Period.{Span, eternity, months}
 use Rattle.fisca_time.specs.declared.unit.Unit.TheVariants as unit
 use Rattle.fisca_yaml.specs.Flow.{flow_value, series}
@@ -29,16 +25,6 @@ use Rattle.fisca_situations.specs.declared.reading.Reading.{Reading}
 use Rattle.fisca_situations.specs.Situations.{reading_in, reading_of}
 
 -- what is given: a variable, a member, a period, a value and a line
-data Shown : Type 0 where
-  number : ℤ → ℕ → Shown
-  bool : Bool → Shown
-  member : ℕ → Shown
-
-abbrev shown : Value → Shown
-shown (v.Number n) = number n.numerator n.denominator
-shown (v.Bool b) = bool b
-shown (v.Member i) = member i
-
 record Row : Type 0 where
   variable : ℕ
   member : ℕ
@@ -65,12 +51,6 @@ of_node p (Some n) = Some (rows (given_in (reading_of country p 1 n)))
 abbrev read_at : Option Span → List ℕ → Option (Result (List Row) SituationFault)
 read_at p text = of_node p (document text)
 
-abbrev month : ℕ → ℕ → Span
-month year m = months unit.Month (12 * year + (m - 1)) 1
-
-abbrev january : Span
-january = month 2017 1
-
 abbrev read : List ℕ → Option (Result (List Row) SituationFault)
 read = read_at (Some january)
 
@@ -79,80 +59,6 @@ row x m p w line = record { variable = x; member = m; period = p; value = w; lin
 
 abbrev fault : ℕ → SituationKind → Option (Result (List Row) SituationFault)
 fault line k = Some (Err (at_line line k))
-
--- Literals, by their only number
-
-abbrev half : Number
-half = record {
-  numerator = pos 1;
-  denominator = 2;
-  lowest = record { positive = lit< tt; coprime = λ k p q. eq-one_of_dvd-one p };
-  within = record { above = lit< tt; below = lit< tt };
-}
-
-two : number_of_literal (codes "2") ≡ Ok (whole_number (pos 2) (lit< tt))
-unfolding number_of_literal number_of_parts
-two = sym (only_number_of (digits_ratio false (codes "2") []) (Ok (whole_number (pos 2) (lit< tt))) (record { some = lit< tt; same = refl; lowest = (whole_number (pos 2) (lit< tt)).lowest }))
-
-five : number_of_literal (codes "5") ≡ Ok (whole_number (pos 5) (lit< tt))
-unfolding number_of_literal number_of_parts
-five = sym (only_number_of (digits_ratio false (codes "5") []) (Ok (whole_number (pos 5) (lit< tt))) (record { some = lit< tt; same = refl; lowest = (whole_number (pos 5) (lit< tt)).lowest }))
-
-seven : number_of_literal (codes "7") ≡ Ok (whole_number (pos 7) (lit< tt))
-unfolding number_of_literal number_of_parts
-seven = sym (only_number_of (digits_ratio false (codes "7") []) (Ok (whole_number (pos 7) (lit< tt))) (record { some = lit< tt; same = refl; lowest = (whole_number (pos 7) (lit< tt)).lowest }))
-
-thirty : number_of_literal (codes "30") ≡ Ok (whole_number (pos 30) (lit< tt))
-unfolding number_of_literal number_of_parts
-thirty = sym (only_number_of (digits_ratio false (codes "30") []) (Ok (whole_number (pos 30) (lit< tt))) (record { some = lit< tt; same = refl; lowest = (whole_number (pos 30) (lit< tt)).lowest }))
-
-fifty : number_of_literal (codes "50") ≡ Ok (whole_number (pos 50) (lit< tt))
-unfolding number_of_literal number_of_parts
-fifty = sym (only_number_of (digits_ratio false (codes "50") []) (Ok (whole_number (pos 50) (lit< tt))) (record { some = lit< tt; same = refl; lowest = (whole_number (pos 50) (lit< tt)).lowest }))
-
-hundred : number_of_literal (codes "100") ≡ Ok (whole_number (pos 100) (lit< tt))
-unfolding number_of_literal number_of_parts
-hundred = sym (only_number_of (digits_ratio false (codes "100") []) (Ok (whole_number (pos 100) (lit< tt))) (record { some = lit< tt; same = refl; lowest = (whole_number (pos 100) (lit< tt)).lowest }))
-
-two_hundred : number_of_literal (codes "200") ≡ Ok (whole_number (pos 200) (lit< tt))
-unfolding number_of_literal number_of_parts
-two_hundred = sym (only_number_of (digits_ratio false (codes "200") []) (Ok (whole_number (pos 200) (lit< tt))) (record { some = lit< tt; same = refl; lowest = (whole_number (pos 200) (lit< tt)).lowest }))
-
-eight_hundred : number_of_literal (codes "800") ≡ Ok (whole_number (pos 800) (lit< tt))
-unfolding number_of_literal number_of_parts
-eight_hundred = sym (only_number_of (digits_ratio false (codes "800") []) (Ok (whole_number (pos 800) (lit< tt))) (record { some = lit< tt; same = refl; lowest = (whole_number (pos 800) (lit< tt)).lowest }))
-
-twelve_hundred : number_of_literal (codes "1200") ≡ Ok (whole_number (pos 1200) (lit< tt))
-unfolding number_of_literal number_of_parts
-twelve_hundred = sym (only_number_of (digits_ratio false (codes "1200") []) (Ok (whole_number (pos 1200) (lit< tt))) (record { some = lit< tt; same = refl; lowest = (whole_number (pos 1200) (lit< tt)).lowest }))
-
-wide : number_of_literal (codes "2147483648") ≡ Ok (whole_number (pos 2147483648) (lit< tt))
-unfolding number_of_literal number_of_parts
-wide = sym (only_number_of (digits_ratio false (codes "2147483648") []) (Ok (whole_number (pos 2147483648) (lit< tt))) (record { some = lit< tt; same = refl; lowest = (whole_number (pos 2147483648) (lit< tt)).lowest }))
-
-one : number_of_literal (codes "1") ≡ Ok (one_number)
-unfolding number_of_literal number_of_parts
-one = sym (only_number_of (digits_ratio false (codes "1") []) (Ok (one_number)) (record { some = lit< tt; same = refl; lowest = (one_number).lowest }))
-
-one_point : number_of_literal (codes "1.0") ≡ Ok (one_number)
-unfolding number_of_literal number_of_parts
-one_point = sym (only_number_of (digits_ratio false (codes "1") (codes "0")) (Ok (one_number)) (record { some = lit< tt; same = refl; lowest = (one_number).lowest }))
-
-nothing_more : number_of_literal (codes "+0") ≡ Ok (zero_number)
-unfolding number_of_literal number_of_parts
-nothing_more = sym (only_number_of (digits_ratio false (codes "0") []) (Ok (zero_number)) (record { some = lit< tt; same = refl; lowest = (zero_number).lowest }))
-
-thirty_point : number_of_literal (codes "30.0") ≡ Ok (whole_number (pos 30) (lit< tt))
-unfolding number_of_literal number_of_parts
-thirty_point = sym (only_number_of (digits_ratio false (codes "30") (codes "0")) (Ok (whole_number (pos 30) (lit< tt))) (record { some = lit< tt; same = refl; lowest = (whole_number (pos 30) (lit< tt)).lowest }))
-
-half_literal : number_of_literal (codes "0.5") ≡ Ok (half)
-unfolding number_of_literal number_of_parts
-half_literal = sym (only_number_of (digits_ratio false (codes "0") (codes "5")) (Ok (half)) (record { some = lit< tt; same = refl; lowest = (half).lowest }))
-
-least : number_of_literal (codes "-2147483648") ≡ Ok (whole_number (negsuc 2147483647) (lit< tt))
-unfolding number_of_literal number_of_parts
-least = sym (only_number_of (digits_ratio true (codes "2147483648") []) (Ok (whole_number (negsuc 2147483647) (lit< tt))) (record { some = lit< tt; same = refl; lowest = (whole_number (negsuc 2147483647) (lit< tt)).lowest }))
 
 -- One person
 

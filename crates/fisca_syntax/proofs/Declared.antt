@@ -2,6 +2,7 @@
 use Rattle.std.proofs.Common.{◌≡◌, ℕ, List, [], ◌∷◌, ◌++◌, length, Bool, true, false, inl, inr, Option, Some, None, refl, sym, ap, subst, ◌∙◌, arith, append-nil}
 use Rattle.std.specs.Prelude.{◌&&◌, Ok, Err, if◌then◌else◌, codes}
 use Rattle.std.specs.Str.{bytes_eq}
+use Rattle.std.proofs.lemmas.Bool.{and_parts}
 use Rattle.fisca_tokens.specs.declared.fault.Kind.TheVariants.{Unsupported}
 use Rattle.fisca_tokens.specs.Texts.{joined}
 use Rattle.fisca_tokens.specs.Tokens.{Lexed, tokens}
@@ -9,7 +10,6 @@ use Rattle.fisca_expressions.specs.declared.sign.Sign.{Sign}
 use Rattle.fisca_expressions.specs.declared.sign.Sign.TheVariants as sign
 use Rattle.fisca_expressions.specs.declared.tree.Mode.TheVariants as mode
 use Rattle.fisca_expressions.specs.Signs.{signs}
-use Rattle.fisca_expressions.proofs.Steps.{both}
 use Rattle.fisca_syntax.specs.declared.heading.Base.{Base}
 use Rattle.fisca_syntax.specs.declared.heading.Base.TheVariants as base
 use Rattle.fisca_syntax.specs.declared.shape.Shape.{Shape}
@@ -95,7 +95,7 @@ module _ (source : List ℕ) (end : ℕ) where
     by true c p q e = let k : entity a ≡ s = cc in subst (λ s. IsModuleLine source l [] (Some s)) k (refl, is, p)
     by false true p q e =
         let k : entities a ≡ s = cc in
-        let r = both (bytes_eq a.name (codes "entities")) (is_list_of_names a.value) q in
+        let r = and_parts (bytes_eq a.name (codes "entities")) (is_list_of_names a.value) q in
         subst (λ s. IsModuleLine source l [] (Some s)) k (refl, is, r.0, r.1)
     by false false p q e = cc
 

@@ -107,6 +107,27 @@ fn rule_files_are_read_in_order_of_their_paths(rt: HostRuntime) -> Result<(), Fa
 }
 
 #[test]
+fn a_file_where_a_folder_is_meant_is_left_out(rt: HostRuntime) -> Result<(), Fail> {
+    let folder = Made {
+        alloc: rt.alloc(),
+        folders: &[
+            ("", &["variables", "parameters/", "entities.py"]),
+            ("parameters", &["variables", "a.yaml"]),
+        ],
+        files: &[
+            ("parameters/a.yaml", b"1"),
+            ("entities.py", b"2"),
+            ("variables", b"3"),
+        ],
+    };
+    assert_eq!(rt;
+        told(rt.alloc(), &folder)?.as_str(),
+        "entities.py=2 parameters/a.yaml=1 "
+    );
+    Ok(())
+}
+
+#[test]
 fn the_first_fault_is_told(rt: HostRuntime) -> Result<(), Fail> {
     let none = Made {
         alloc: rt.alloc(),

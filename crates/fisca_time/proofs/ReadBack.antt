@@ -1,7 +1,7 @@
 -- The text of a period reads as that period.
 use Rattle.std.proofs.Common.{◌≡◌, ℕ, ◌+◌, ◌-◌, ◌*◌, ◌/◌, ◌%◌, ◌^◌, ◌<◌, ◌≤◌, List, [], ◌∷◌, ◌++◌, length, replicate, codes, arith, refl, zero, suc, Bool, true, false, ◌&&◌, ◌||◌, Some, Ok, pos, ◌∙◌, ap, sym, append_assoc, inl, inr}
 use Rattle.std.proofs.Math.Dec.{eqb, ltb}
-use Rattle.std.proofs.lemmas.Bool.{cases_Bool, and_from, and_parts, eq-eqb, eqb-true, lt-ltb}
+use Rattle.std.proofs.lemmas.Bool.{cases_Bool, and_from, and_parts, eq-eqb, eqb-true, lt-ltb, or_right}
 use Rattle.std.proofs.lemmas.Bool.Decides.{nat_tests}
 use Rattle.std.proofs.lemmas.Fmt.{digits_decimal, digits_value-decimal, length-decimal-le, decimal_nonempty}
 use Rattle.std.proofs.lemmas.List.{length-append, length-replicate}
@@ -98,10 +98,6 @@ first_real n from to =
     let long = (days_in_month_bounds (pos (n / 12)) (n % 12 + 1)).1 in
     let r : IsReal (first_of_month n) = record { year = omega arith; month = omega arith; month_end = omega arith; day = omega arith; day_end = omega (arith, long) } in
     on_calendar (first_of_month n) r (omega arith)
-
-or_right : (x y : Bool) → y ≡ true → (x || y) ≡ true
-or_right true y h = refl
-or_right false y h = h
 
 short : (n : ℕ) → n < 10 ^ 2 → n < 2 ^ 64 → is_short_numeral (digits_to 2 n) ≡ true
 short n small room = or_right (is_numeral 1 (digits_to 2 n)) (is_numeral 2 (digits_to 2 n)) (digits_to_numeral 2 n (omega arith) small room)

@@ -1,12 +1,13 @@
 -- The definition of files of tests, worked out on small ones.
 use Rattle.std.proofs.Common.{◌≡◌, ℕ, List, [], ◌∷◌, map, length, codes, refl, sym, lit<}
-use Rattle.std.specs.Prelude.{pos, negsuc, Bool, true, false, is_some, Option, Some, None, Result, Ok, Err}
+use Rattle.std.specs.Prelude.{negsuc, Bool, true, false, is_some, Option, Some, None, Result, Ok, Err}
 use Rattle.fisca_situations.proofs.Country.{country}
+use Rattle.fisca_situations.proofs.Literals.{five, thirty, one, nothing_more}
 use Rattle.fisca_inputs.specs.declared.fault.SituationKind.TheVariants as situation
 use Rattle.fisca_members.specs.Members.{members_in}
 use Rattle.fisca_members.specs.Persons.{with_person}
 use Rattle.fisca_num.specs.Literal.{number_of_literal, number_of_parts, digits_ratio}
-use Rattle.fisca_num.specs.Number.{one_number, whole_number, zero_number}
+use Rattle.fisca_num.specs.Number.{whole_number}
 use Rattle.fisca_num.specs.Operations.{only_number_of}
 use Rattle.fisca_situations.specs.Reading.{dated_given, entry_given, inputs_given, member_below, named_given, section_by, section_given, value_given, variable_given}
 use Rattle.fisca_situations.specs.Situations.{reading_in, reading_of}
@@ -60,30 +61,6 @@ abbrev fault : ℕ → TestKind → Option (Result (List Shown) TestFault)
 fault line k = Some (Err (at_line line k))
 
 -- Literals, by their only number
-
-five : number_of_literal (codes "5") ≡ Ok (whole_number (pos 5) (lit< tt))
-unfolding number_of_literal number_of_parts
-five = sym (only_number_of (digits_ratio false (codes "5") []) (Ok (whole_number (pos 5) (lit< tt))) (record { some = lit< tt; same = refl; lowest = (whole_number (pos 5) (lit< tt)).lowest }))
-
-seven : number_of_literal (codes "7") ≡ Ok (whole_number (pos 7) (lit< tt))
-unfolding number_of_literal number_of_parts
-seven = sym (only_number_of (digits_ratio false (codes "7") []) (Ok (whole_number (pos 7) (lit< tt))) (record { some = lit< tt; same = refl; lowest = (whole_number (pos 7) (lit< tt)).lowest }))
-
-thirty : number_of_literal (codes "30") ≡ Ok (whole_number (pos 30) (lit< tt))
-unfolding number_of_literal number_of_parts
-thirty = sym (only_number_of (digits_ratio false (codes "30") []) (Ok (whole_number (pos 30) (lit< tt))) (record { some = lit< tt; same = refl; lowest = (whole_number (pos 30) (lit< tt)).lowest }))
-
-hundred : number_of_literal (codes "100") ≡ Ok (whole_number (pos 100) (lit< tt))
-unfolding number_of_literal number_of_parts
-hundred = sym (only_number_of (digits_ratio false (codes "100") []) (Ok (whole_number (pos 100) (lit< tt))) (record { some = lit< tt; same = refl; lowest = (whole_number (pos 100) (lit< tt)).lowest }))
-
-one : number_of_literal (codes "1") ≡ Ok (one_number)
-unfolding number_of_literal number_of_parts
-one = sym (only_number_of (digits_ratio false (codes "1") []) (Ok (one_number)) (record { some = lit< tt; same = refl; lowest = (one_number).lowest }))
-
-nothing_more : number_of_literal (codes "+0") ≡ Ok (zero_number)
-unfolding number_of_literal number_of_parts
-nothing_more = sym (only_number_of (digits_ratio false (codes "0") []) (Ok (zero_number)) (record { some = lit< tt; same = refl; lowest = (zero_number).lowest }))
 
 minus_five : number_of_literal (codes "-5") ≡ Ok (whole_number (negsuc 4) (lit< tt))
 unfolding number_of_literal number_of_parts

@@ -1,6 +1,7 @@
 -- A block, by its first line.
 use Rattle.std.proofs.Common.{◌≡◌, ℕ, zero, suc, ◌-◌, ◌<◌, Bool, true, false, ◌||◌, List, [], ◌∷◌, Option, Some, None, option_map, is_some, refl, ap, ◌∙◌, arith}
 use Rattle.std.proofs.lemmas.Bool.Decides.{nat_tests}
+use Rattle.std.proofs.lemmas.Bool.{or_parts}
 use Rattle.fisca_yaml.specs.Node.{Node, null, list}
 use Rattle.fisca_yaml.specs.Rows.{Row, rank, begins_item, is_marker}
 use Rattle.fisca_yaml.specs.Scalars.{Read, entry_of}
@@ -33,11 +34,6 @@ block-item d l ls h e = block-suc d l ls h ∙ step-item (d - 1) (block (d - 1))
 pub block-entry : (d : ℕ) (l : Row) (ls : List Row) → 0 < d → begins_item l.content ≡ false → block d (l ∷ ls) ≡ map_of (entries_of (entry_value (d - 1) (block (d - 1))) (rank l) (groups (rank l) (l ∷ ls)))
 block-entry d l ls h e = block-suc d l ls h ∙ step-entry (d - 1) (block (d - 1)) l ls e
 
--- a line that begins neither a list nor a map
-neither : (a b : Bool) → a || b ≡ false → (a ≡ false) × (b ≡ false)
-neither true b e = absurd (cc)
-neither false b e = (refl, e)
-
 no_entry : (o : Read) → is_some o ≡ false → o ≡ None
 no_entry None e = refl
 no_entry (Some p) e = absurd (cc)
@@ -49,7 +45,7 @@ pub block-closed : (d : ℕ) (l : Row) (ls : List Row) → opens l ≡ false →
 unfolding block
 block-closed zero l ls e = refl
 block-closed (suc d) l ls e =
-    let p = neither (begins_item l.content) (is_some (entry_of l.content)) e in
+    let p = or_parts (begins_item l.content) (is_some (entry_of l.content)) e in
     let g : Group = record { head = l; inside = front (rank l) ls } in
     let none : entry_value d (block d) g ≡ None = ap (entry_with d (block d) g) (no_entry (entry_of l.content) p.1) in
     step-entry d (block d) l ls p.0 ∙ ap map_of (refused (entry_value d (block d)) (rank l) l ls refl none)

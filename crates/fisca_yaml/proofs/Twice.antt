@@ -19,10 +19,6 @@ pub keys-map : (es : List Entry) → keys (entries_view es) ≡ map key es
 keys-map [] = refl
 keys-map (e ∷ es) = ap (λ ks. key e ∷ ks) (keys-map es)
 
-pub either : (a b : Bool) → a || b ≡ false → (a ≡ false) × (b ≡ false)
-either true b e = absurd (cc)
-either false b e = (refl, e)
-
 any_push : (p : List ℕ → Bool) (ks : List (List ℕ)) (k : List ℕ) → list_any p (ks ++ k ∷ []) ≡ list_any p ks || p k
 any_push p [] k = or_false (p k) where
   or_false : (b : Bool) → b || false ≡ b

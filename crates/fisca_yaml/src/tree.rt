@@ -9,7 +9,7 @@ ghost use Rattle.fisca_yaml.specs.Find.{get, get_entry, begins_on, entry_line, l
 use crate::fault::{Kind, YamlFault};
 use crate::plain::is_null_word;
 use fisca_num::Fraction;
-use std::alloc::Global;
+use std::alloc::{AllocError, Global};
 use std::borrow::CowStr;
 use std::marker::Model;
 
@@ -107,6 +107,16 @@ pub(crate) fn push_item<'a>(
     Ok(())
 }
 
+/// Makes room for one entry where there is none: most maps have no other.
+fn reserve_first(entries: &mut Vec<Entry<'_>>) -> Result<(), AllocError>
+    ensures { entries.new.items ≡ entries.old.items }
+{
+    if entries.is_empty() {
+        entries.reserve_exact(1).map_err(AllocError::from)?;
+    }
+    Ok(())
+}
+
 /// Puts an entry at the end.
 #[tactic(auto, using(crate::proofs::Grown::adds_entry))]
 pub(crate) fn push_entry<'a>(
@@ -119,6 +129,7 @@ pub(crate) fn push_entry<'a>(
     ensures err { IfErr result (λ f. (f.kind ≡ Kind.Memory) × (f.line ≡ 0)) }
     ensures kept { OnErr result (entries.new.items ≡ entries.old.items) }
 {
+    reserve_first(entries)?;
     entries.push(Entry { key, line, value })?;
     Ok(())
 }

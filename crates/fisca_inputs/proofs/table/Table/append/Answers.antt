@@ -13,8 +13,8 @@ invariant_of-self-in-Ok c =
     record {
       once = behind_once es c.push.new.self.items c.args.key c.args.value c.requires pushed t.once;
       notes = t.notes;
-      slots = search rules;
-      own_slots = behind_occupied es c.push.new.self.items c.args.key c.args.value c.requires pushed t.occupied c.slot_of.result c.slot_of.ensures (omega (arith, c.slot_of.ensures, t.slots)) t.own_slots;
+      buckets = search rules;
+      own_buckets = behind_occupied es c.push.new.self.items c.args.key c.args.value c.requires pushed t.occupied c.bucket_of.result c.bucket_of.ensures (omega (arith, c.bucket_of.ensures, t.buckets)) t.own_buckets;
       few = omega (arith, longer, number);
       numbered = behind_numbered es c.push.new.self.items c.args.key c.args.value c.requires pushed t.pages.entries c.note.new.pages.entries c.in_ok-number.number (omega (arith, number, c.len.ensures)) t.numbered c.in-Ok.ensures.ok;
     }

@@ -1,11 +1,11 @@
 use Rattle.std.proofs.Common.{sym, ◌∙◌, arith}
-use Rattle.fisca_inputs.proofs.Numbered.{none_numbered, slot_free, stands_by_number}
+use Rattle.fisca_inputs.proofs.Numbered.{none_numbered, bucket_free, stands_by_number}
 use Rattle.fisca_inputs.proofs.table.Table.place.Goals as goal
 
-pub returns-then-not-self-slot_of : goal.returns-then-not-self-slot_of
-returns-then-not-self-slot_of c =
+pub returns-then-not-self-bucket_of : goal.returns-then-not-self-bucket_of
+returns-then-not-self-bucket_of c =
     let t = c.args.self.now in
-    slot_free t.occupied t.entries.items c.args.key.now t.own_slots (rw c.slot_of.ensures at c.if-not-self-slot_of.true)
+    bucket_free t.occupied t.entries.items c.args.key.now t.own_buckets (rw c.bucket_of.ensures at c.if-not-self-bucket_of.true)
 
 pub returns-in-0 : goal.returns-in-0
 returns-in-0 c =

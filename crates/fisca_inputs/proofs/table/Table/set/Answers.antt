@@ -9,8 +9,8 @@ invariant_of-self c =
     record {
       once = set_keeps_once es c.args.key.now c.args.value c.in-Some.place c.index_mut.result.now t.once c.in-Some.ensures c.index_mut.ensures.value;
       notes = search rules;
-      slots = t.slots;
-      own_slots = set_keeps_occupied es c.args.key.now c.args.value c.in-Some.place c.index_mut.result.now t.once c.in-Some.ensures c.index_mut.ensures.value t.occupied t.own_slots;
+      buckets = t.buckets;
+      own_buckets = set_keeps_occupied es c.args.key.now c.args.value c.in-Some.place c.index_mut.result.now t.once c.in-Some.ensures c.index_mut.ensures.value t.occupied t.own_buckets;
       few = search rules;
       numbered = set_keeps_numbers es c.args.key.now c.args.value c.in-Some.place c.index_mut.result.now t.once c.in-Some.ensures c.index_mut.ensures.value t.pages.entries t.numbered;
     }

@@ -26,8 +26,8 @@ invariant_of-self c =
     record {
       once = left_once (λ x. not (is_marked c.args.marks.now x)) t.entries.items c.leave_unmarked.new.entries.items c.leave_unmarked.ensures t.once;
       notes = t.notes;
-      slots = t.slots;
-      own_slots = left_occupied (λ x. not (is_marked c.args.marks.now x)) t.entries.items c.leave_unmarked.new.entries.items c.leave_unmarked.ensures t.occupied t.own_slots;
+      buckets = t.buckets;
+      own_buckets = left_occupied (λ x. not (is_marked c.args.marks.now x)) t.entries.items c.leave_unmarked.new.entries.items c.leave_unmarked.ensures t.occupied t.own_buckets;
       few = omega (arith, left_fewer (λ x. not (is_marked c.args.marks.now x)) t.entries.items c.leave_unmarked.new.entries.items c.leave_unmarked.ensures, t.few);
       numbered = rw c.as_slice.ensures.value at c.renumber_all.ensures;
     }
@@ -38,8 +38,8 @@ invariant_of-self-else-len-count c =
     record {
       once = left_once (λ x. not (is_marked c.args.marks.now x)) t.entries.items c.leave_unmarked.new.entries.items c.leave_unmarked.ensures t.once;
       notes = t.notes;
-      slots = t.slots;
-      own_slots = left_occupied (λ x. not (is_marked c.args.marks.now x)) t.entries.items c.leave_unmarked.new.entries.items c.leave_unmarked.ensures t.occupied t.own_slots;
+      buckets = t.buckets;
+      own_buckets = left_occupied (λ x. not (is_marked c.args.marks.now x)) t.entries.items c.leave_unmarked.new.entries.items c.leave_unmarked.ensures t.occupied t.own_buckets;
       few = omega (arith, left_fewer (λ x. not (is_marked c.args.marks.now x)) t.entries.items c.leave_unmarked.new.entries.items c.leave_unmarked.ensures, t.few);
       numbered = left_numbered (λ x. not (is_marked c.args.marks.now x)) t.entries.items c.leave_unmarked.new.entries.items t.pages.entries c.leave_unmarked_pages.new.pages.entries c.leave_unmarked.ensures
           (omega (arith, c.len-count.ensures, c.len.ensures, c.if-len-count.false))

@@ -1,5 +1,5 @@
 #!/usr/bin/env python3
-"""The allowance of examples/household over many rents by numpy, in floats, which hold these values exactly; the same lines as `fisca run`.
+"""The allowance of tests/rules/household over many rents by numpy, in floats, which hold these values exactly; the same lines as `fisca run`.
 
 numpy_rules.py COUNT BOUND: the rents 0 to COUNT - 1 where the allowance is at least BOUND. Lines are made of columns of bytes, four digits at a time from a
 table, and bytes of 0 are taken out: of what was tried the fastest (a format for each line, and one format for all lines, take twice as long). Up to 10^8.

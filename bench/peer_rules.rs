@@ -1,4 +1,4 @@
-//! The peer of `fisca run` over one axis of rents, as one would write it by hand: the allowance of `examples/household` is code, and so is the date of its
+//! The peer of `fisca run` over one axis of rents, as one would write it by hand: the allowance of `tests/rules/household` is code, and so is the date of its
 //! parameter. The same lines, exact, through one buffer. What stands over from `fisca` is that rents and allowances are exact fractions of two words.
 //!
 //! rustc -O bench/peer_rules.rs; peer_rules COUNT BOUND [--from POSITION]: the rents 0 to COUNT - 1 where the allowance is at least BOUND

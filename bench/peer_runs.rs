@@ -532,9 +532,9 @@ fn parameters_of(rules: &str) -> io::Result<ParamTree> {
     ParamTree::read(&files).map_err(|_| io::Error::other("the parameter files make no tree"))
 }
 
-/// The variables of `examples/household` that its run needs.
+/// The variables of `tests/rules/household` that its run needs.
 fn household() -> io::Result<Rules> {
-    let names = Names { variables: &["rent", "housing_allowance"], parameters: parameters_of("examples/household")? };
+    let names = Names { variables: &["rent", "housing_allowance"], parameters: parameters_of("tests/rules/household")? };
     let allowance = times(names.own("rent"), names.parameter("benefits/housing_allowance"));
     let variables = vec![
         variable(Kind::Float, HOUSEHOLD, Unit::Month, Vec::new()),

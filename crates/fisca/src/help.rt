@@ -23,10 +23,10 @@ that they make together, and prints one line: entities E, variables V, parameter
 refused is told by one line on standard error: fisca: PATH:LINE: FAULT.";
 
 pub const CHECK_EXAMPLE: &str = "Example:
-  fisca check examples/household";
+  fisca check examples/housing";
 
 pub const CHECK_MORE: &str = "Example:
-  fisca check examples/household
+  fisca check examples/housing
 
 FAULT is a word:
   of a parameter file  Tab, BadIndent, DuplicateKey, BadFlow, BadQuote, Unsupported, TooDeep or
@@ -60,10 +60,10 @@ fisca: PATH:LINE: FAULT, and of a value that cannot be worked out fisca: FAULT K
 of those before it.";
 
 pub const CALC_EXAMPLE: &str = "Example:
-  fisca calc examples/household examples/household/calc.yaml";
+  fisca calc examples/housing examples/housing/family.yaml";
 
 pub const CALC_MORE: &str = "Example:
-  fisca calc examples/household examples/household/calc.yaml
+  fisca calc examples/housing examples/housing/family.yaml
 
 FAULT is a word:
   of a rule file       see 'fisca check --help'
@@ -102,10 +102,10 @@ Where there are both margins, both hold. What is refused is told by one line on 
 such as fisca: PATH:LINE: FAULT, and no test is run before all are read.";
 
 pub const TEST_EXAMPLE: &str = "Example:
-  fisca test examples/household examples/household/tests.yaml";
+  fisca test examples/housing examples/housing/tests.yaml";
 
 pub const TEST_MORE: &str = "Example:
-  fisca test examples/household examples/household/tests.yaml
+  fisca test examples/housing examples/housing/tests.yaml
 
 FAULT is a word:
   of a rule file       see 'fisca check --help'
@@ -148,10 +148,10 @@ as fisca: PATH:LINE: FAULT, and of a value that cannot be worked out fisca: posi
 behind the lines before it.";
 
 pub const RUN_EXAMPLE: &str = "Example:
-  fisca run examples/household examples/household/run.yaml --rows 2";
+  fisca run examples/housing examples/housing/grid.yaml --rows 2";
 
 pub const RUN_MORE: &str = "Example:
-  fisca run examples/household examples/household/run.yaml --rows 2
+  fisca run examples/housing examples/housing/grid.yaml --rows 2
 
 FAULT is a word:
   of a rule file       see 'fisca check --help'

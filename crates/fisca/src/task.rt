@@ -184,7 +184,7 @@ fn program_page<'a>(alloc: Global) -> Command<'a>
 {
     Command::new(alloc, "fisca")
         .about(ABOUT)
-        .version("0.1.0")
+        .version("0.2.0")
         .after_help(STATUSES)
         .subcommand_required(true)
         .arg_required_else_help(true)

@@ -1,0 +1,57 @@
+# Completion of fisca for fish. Made by bin/manual from what the program's help says.
+
+# Whether the cursor stands behind COMMAND, and where PLACE is given at that operand of it, counted from 0. COMMAND is
+# empty before there is one.
+function __fisca_at --argument-names command place
+    set -l words (commandline -opc)
+    set -e words[1]
+    set -l found ''
+    set -l at 0
+    set -l is_value no
+    set -l valued 'run --from' 'run --rows' 'axes --keep' 'axes --from' 'axes --rows'
+    for word in $words
+        if test $is_value = yes
+            set is_value no
+        else if string match -q -- '-*' $word
+            contains -- "$found $word" $valued; and set is_value yes
+        else if test -z "$found"
+            set found $word
+        else
+            set at (math $at + 1)
+        end
+    end
+    test "$found" = "$command"; and test -z "$place" -o "$at" = "$place"
+end
+
+complete -c fisca -f
+complete -c fisca -n '__fisca_at \'\'' -a check -d 'Check the rule files of a folder'
+complete -c fisca -n '__fisca_at \'\'' -a calc -d 'Work out values'
+complete -c fisca -n '__fisca_at \'\'' -a test -d 'Run tests of rules'
+complete -c fisca -n '__fisca_at \'\'' -a run -d 'Write the lines of a grid of situations'
+complete -c fisca -n '__fisca_at \'\'' -a axes -d 'List the values of axes'
+complete -c fisca -n '__fisca_at \'\'' -a help -d 'Print this message or the help of the given subcommand(s)'
+complete -c fisca -n '__fisca_at help 0' -a check -d 'Check the rule files of a folder'
+complete -c fisca -n '__fisca_at help 0' -a calc -d 'Work out values'
+complete -c fisca -n '__fisca_at help 0' -a test -d 'Run tests of rules'
+complete -c fisca -n '__fisca_at help 0' -a run -d 'Write the lines of a grid of situations'
+complete -c fisca -n '__fisca_at help 0' -a axes -d 'List the values of axes'
+complete -c fisca -n '__fisca_at help 0' -a help -d 'Print this message or the help of the given subcommand(s)'
+complete -c fisca -n '__fisca_at check 0' -a '(__fish_complete_directories)'
+complete -c fisca -n '__fisca_at calc 0' -a '(__fish_complete_directories)'
+complete -c fisca -n '__fisca_at test 0' -a '(__fish_complete_directories)'
+complete -c fisca -n '__fisca_at run 0' -a '(__fish_complete_directories)'
+complete -c fisca -n '__fisca_at calc 1' -F
+complete -c fisca -n '__fisca_at test 1' -F
+complete -c fisca -n '__fisca_at run 1' -F
+complete -c fisca -n '__fisca_at \'\'' -s h -l help -d 'Print help'
+complete -c fisca -n '__fisca_at \'\'' -s V -l version -d 'Print version'
+complete -c fisca -n '__fisca_at check' -s h -l help -d 'Print help'
+complete -c fisca -n '__fisca_at calc' -s h -l help -d 'Print help'
+complete -c fisca -n '__fisca_at test' -s h -l help -d 'Print help'
+complete -c fisca -n '__fisca_at run' -l from -x -d 'Begin at this position [default: 0]'
+complete -c fisca -n '__fisca_at run' -l rows -x -d 'End after this many lines [default: no limit]'
+complete -c fisca -n '__fisca_at run' -s h -l help -d 'Print help'
+complete -c fisca -n '__fisca_at axes' -l keep -x -d 'List only where an axis meets a condition, such as "salary>=500"'
+complete -c fisca -n '__fisca_at axes' -l from -x -d 'Begin at this position [default: 0]'
+complete -c fisca -n '__fisca_at axes' -l rows -x -d 'End after this many lines [default: no limit]'
+complete -c fisca -n '__fisca_at axes' -s h -l help -d 'Print help'

@@ -1,54 +1,44 @@
-#!/usr/bin/env python3
-"""bench/hostile_rules [COUNT [SEED]]: checks hostile rule sets by `fisca check`: the examples with one file that lacks a line, has it
-twice, or has COUNT times (2000 by default) one word in the place of another; and rule sets with as many attributes, members of an Enum,
-roles, locals and names that differ in case alone as 1 MiB holds. Each has to be accepted, or refused by one line that names a file of the
-rule set (or `entities.py`), one of its lines and a kind; and the second ones may take no more than twice the time of half of them and a
-fifth. It ends with status 1 where one of this does not hold."""
+"""Rule sets, checked by `fisca check`.
+
+Each rule set of the repository with one file that lacks a line, has it twice, or has one word in the place of another;
+and rule sets with as many attributes, members of an Enum, roles, subroles, locals, conditions of a `select`, entities,
+formulas and names that differ in case alone as 1 MiB holds. Each has to be accepted, or refused by one line that names
+a file of the rule set (or `entities.py`), one of its lines and a kind; and the large ones take linear time.
+"""
 import collections
-import pathlib
-import random
 import re
-import shutil
-import subprocess
-import sys
-import time
 
-TOP = pathlib.Path(__file__).resolve().parent.parent
-OUT = TOP / "bench" / "out" / "hostile_rules"
-FISCA = TOP / "crates" / "fisca" / "out" / "fisca"
-WORDS = ("Syntax Indent Unsupported UnknownName UnknownVariable UnknownParameter BadType BadLevel BadAttribute DuplicateName TooDeep TooLong "
-         "Tab BadIndent DuplicateKey BadFlow BadQuote BadParameter TooWide NotANumber").split()
+import common
+
+COUNT = 2000
+WORDS = common.YAML_FAULTS | common.MODULE_FAULTS | frozenset(
+    "UnknownName UnknownVariable UnknownParameter BadType BadLevel BadAttribute DuplicateName BadParameter TooWide "
+    "NotANumber".split()
+)
 ACCEPTED = re.compile(r"entities \d+, variables \d+, parameters \d+\n")
-REFUSED = re.compile(r"fisca: (.*):(\d+): (\w+)\n")
+REFUSED = re.compile(r"fisca: (.*):(\d+): (\w+)")
 PERSON = 'Person = build_entity(key="person", plural="persons", is_person=True)\n'
-CLASS = "class v(Variable):\n    value_type = float\n    entity = Person\n    definition_period = MONTH\n"
-MOST = 1_048_576
+ATTRIBUTES = "    value_type = float\n    entity = Person\n    definition_period = MONTH\n"
+CLASS = "class v(Variable):\n" + ATTRIBUTES
+FORMULA = CLASS + "    def formula(person, period):\n"
 
 
-def put(files):
-    """Writes a rule set into an empty folder."""
-    shutil.rmtree(OUT, ignore_errors=True)
-    for path, text in files.items():
-        (OUT / path).parent.mkdir(parents=True, exist_ok=True)
-        (OUT / path).write_bytes(text.encode())
-
-
-def wrong(files):
-    """What is wrong with the answer for the rule set that was put, and the kind of its refusal."""
-    run = subprocess.run([FISCA, "check", OUT], capture_output=True, text=True, timeout=600)
-    if run.returncode == 0:
-        return (None if ACCEPTED.fullmatch(run.stdout) and not run.stderr else f"no counts: {run.stdout}{run.stderr}"), "accepted"
-    told = REFUSED.fullmatch(run.stderr)
-    if run.returncode != 3 or run.stdout or not told or told[3] not in WORDS:
-        return f"status {run.returncode}: {run.stdout}{run.stderr}", "?"
+def fault_of(fuzz, files):
+    """What is wrong with the answer for the rule set that was put, or nothing, and the kind of its refusal."""
+    out, err, status = fuzz.call("check", fuzz.room / "rules")
+    if status == 0:
+        return (None if ACCEPTED.fullmatch(out) and not err else f"no counts: {out}{err}"), "accepted"
+    told = REFUSED.fullmatch(err)
+    if status != 3 or out or not told or told[3] not in WORDS:
+        return f"status {status}: {out}{err}", "?"
     text = files.get(told[1], "" if told[1] == "entities.py" else None)
-    if text is None or not 1 <= int(told[2]) <= text.count("\n") + 1:
-        return f"no line of a file: {run.stderr}", "?"
+    if text is None or not common.is_line_of(told[2], text):
+        return f"no line of a file: {err}", "?"
     return None, told[3]
 
 
-def changed(text, count, draw):
-    """Texts with one line less, with one line twice, and with one word in the place of another."""
+def changed(text, count, lot):
+    """A text with one line less, with one line twice, everywhere, and so often one word in the place of another."""
     lines = text.splitlines(keepends=True)
     for at in range(len(lines)):
         yield "".join(lines[:at] + lines[at + 1:])
@@ -56,33 +46,30 @@ def changed(text, count, draw):
     words = re.findall(r"\w+|[^\w\s]", text)
     places = [found.span() for found in re.finditer(r"\w+|[^\w\s]", text)]
     for _ in range(count if places else 0):
-        start, end = draw.choice(places)
-        yield text[:start] + draw.choice(words) + text[end:]
+        start, end = lot.choice(places)
+        yield text[:start] + lot.choice(words) + text[end:]
 
 
-def mutated(example, count, draw, kinds):
-    """How many answers for changed rule sets are wrong. Each is told."""
-    files = {str(path.relative_to(example)): path.read_text() for path in sorted(example.rglob("*")) if path.suffix in (".py", ".yaml", ".yml")}
-    failed = 0
+def try_changed(fuzz, folder, kinds):
+    """Checks a rule set with each of its files changed."""
+    paths = [path for path in sorted(folder.rglob("*")) if path.suffix in (".py", ".yaml", ".yml")]
+    files = {str(path.relative_to(folder)): path.read_text() for path in paths}
     for path, text in files.items():
-        put(files)
-        for one in changed(text, count // len(files), draw):
-            (OUT / path).write_bytes(one.encode())
-            fault, kind = wrong({**files, path: one})
+        common.put(fuzz.room / "rules", files)
+        for one in changed(text, fuzz.count // len(files), fuzz.lot):
+            (fuzz.room / "rules" / path).write_bytes(one.encode())
+            fault, kind = fault_of(fuzz, {**files, path: one})
             kinds[kind] += 1
-            if fault:
-                failed += 1
-                print(f"{example.name}/{path}: {fault}\n{one}\n", file=sys.stderr)
-    return failed
+            fuzz.check(fault is None, f"{folder.name}/{path}: {fault}\n{one}")
 
 
-def many(piece, most, head, tail):
+def many(piece, size, head, tail=""):
     """As many pieces as a text of so many bytes holds."""
-    made, size = [head], len(head) + len(tail)
-    for place in range(most):
+    made, taken = [head], len(head) + len(tail)
+    for place in range(size):
         one = piece(place)
-        size += len(one)
-        if size > most:
+        taken += len(one)
+        if taken > size:
             break
         made.append(one)
     return "".join([*made, tail])
@@ -90,7 +77,7 @@ def many(piece, most, head, tail):
 
 def chosen(size):
     """A formula that selects by as many conditions as a text of so many bytes holds."""
-    head = CLASS + "    def formula(person, period):\n        return "
+    head = FORMULA + "        return "
     count = (size - len(head) - len("select([], [])\n")) // len("True,1,")
     return f"{head}select([{'True,' * count}], [{'1,' * count}])\n"
 
@@ -100,50 +87,60 @@ def cased(place):
     return "".join(letter.upper() if place >> bit & 1 else letter for bit, letter in enumerate("abcdefghijklmnopq"))
 
 
-LARGE = {
-    "attributes": lambda size: {"entities.py": PERSON, "variables/a.py": many(lambda i: f"    a{i} = 1\n", size, CLASS, "")},
-    "one attribute again": lambda size: {"entities.py": PERSON, "variables/a.py": many(lambda i: "    label = 'a'\n", size, CLASS, "")},
-    "members": lambda size: {"entities.py": PERSON + many(lambda i: f"    m{i} = 'a'\n", size - len(PERSON), "class E(Enum):\n", "")},
-    "roles": lambda size: {"entities.py": PERSON + many(lambda i: f"{{'key': 'a{i}'}},", size - len(PERSON), "H = build_entity(key='h', plural='hs', roles=[", "])\n")},
-    "subroles": lambda size: {"entities.py": PERSON + many(lambda i: f"'a{i}',", size - len(PERSON), "H = build_entity(key='h', plural='hs', roles=[{'key': 'r', 'subroles': [", "]}])\n")},
-    "locals": lambda size: {"entities.py": PERSON, "variables/a.py": many(lambda i: f"        a{i} = 1\n", size, CLASS + "    def formula(person, period):\n", "        return a0\n")},
-    "conditions": lambda size: {"entities.py": PERSON, "variables/a.py": chosen(size)},
-    "names in two cases": lambda size: {"entities.py": PERSON, "variables/a.py": many(lambda i: f"class {cased(i)}(Variable):\n    value_type = float\n    entity = Person\n    definition_period = MONTH\n", size, "", "")},
-    "entities": lambda size: {"entities.py": many(lambda i: f"E{i} = build_entity(key='e{i}', plural='f{i}', roles=[{{'key': 'r'}}])\n", size, PERSON, "")},
-    "formulas": lambda size: {"entities.py": PERSON, "variables/a.py": many(lambda i: f"    def formula_{1 + i // 12:04d}_{1 + i % 12:02d}(p, t):\n        return 1\n", size, CLASS, "")},
+def dated(place):
+    """A formula from a month on."""
+    return f"    def formula_{1 + place // 12:04d}_{1 + place % 12:02d}(p, t):\n        return 1\n"
+
+
+# what makes the text of entities.py of so many bytes
+LARGE_ENTITIES = {
+    "members": lambda size: PERSON + many(lambda i: f"    m{i} = 'a'\n", size - len(PERSON), "class E(Enum):\n"),
+    "roles": lambda size: PERSON + many(
+        lambda i: f"{{'key': 'a{i}'}},", size - len(PERSON), "H = build_entity(key='h', plural='hs', roles=[", "])\n"),
+    "subroles": lambda size: PERSON + many(
+        lambda i: f"'a{i}',", size - len(PERSON),
+        "H = build_entity(key='h', plural='hs', roles=[{'key': 'r', 'subroles': [", "]}])\n"),
+    "entities": lambda size: many(
+        lambda i: f"E{i} = build_entity(key='e{i}', plural='f{i}', roles=[{{'key': 'r'}}])\n", size, PERSON),
+}
+# what makes the text of a module of variables of so many bytes
+LARGE_VARIABLES = {
+    "attributes": lambda size: many(lambda i: f"    a{i} = 1\n", size, CLASS),
+    "one attribute again": lambda size: many(lambda i: "    label = 'a'\n", size, CLASS),
+    "locals": lambda size: many(lambda i: f"        a{i} = 1\n", size, FORMULA, "        return a0\n"),
+    "conditions": chosen,
+    "names in two cases": lambda size: many(lambda i: f"class {cased(i)}(Variable):\n" + ATTRIBUTES, size, ""),
+    "formulas": lambda size: many(dated, size, CLASS),
 }
 
 
-def seconds():
-    best = None
-    for _ in range(5):
-        start = time.monotonic()
-        subprocess.run([FISCA, "check", OUT], capture_output=True, timeout=600)
-        taken = time.monotonic() - start
-        best = taken if best is None or taken < best else best
-    return best
+def large(name, size):
+    """The files of a large rule set."""
+    if name in LARGE_ENTITIES:
+        return {"entities.py": LARGE_ENTITIES[name](size)}
+    return {"entities.py": PERSON, "variables/a.py": LARGE_VARIABLES[name](size)}
 
 
-def main(count=2000, seed=1):
-    draw, kinds, failed = random.Random(int(seed)), collections.Counter(), 0
-    for example in sorted((TOP / "examples").iterdir()):
-        failed += mutated(example, int(count), draw, kinds)
-    print(f"{sum(kinds.values())} changed rule sets:", ", ".join(f"{kind} {many}" for kind, many in kinds.most_common()))
-    for name, make in LARGE.items():
+def try_large(fuzz):
+    """Checks the large rule sets, and such of half their size."""
+    folder = fuzz.room / "rules"
+    for name in [*LARGE_ENTITIES, *LARGE_VARIABLES]:
         times = []
-        for size in (MOST // 2, MOST):
-            files = make(size)
-            put(files)
-            fault, kind = wrong(files)
-            if fault:
-                failed += 1
-                print(f"{name}: {fault}", file=sys.stderr)
-            times.append(seconds())
-        linear = times[1] <= 2.4 * times[0] + 0.002
-        failed += not linear
-        print(f"{name:20} {kind:14} {times[1] * 1000:8.1f} ms, half of it {times[0] * 1000:8.1f} ms{'' if linear else '  not linear'}")
-    shutil.rmtree(OUT, ignore_errors=True)
-    sys.exit(1 if failed else 0)
+        for size in (common.MOST_BYTES // 2, common.MOST_BYTES):
+            files = large(name, size)
+            common.put(folder, files)
+            fault, kind = fault_of(fuzz, files)
+            fuzz.check(fault is None, f"{name}: {fault}")
+            times.append(common.least_seconds(lambda: fuzz.call("check", folder)))
+        half, whole = times
+        fuzz.is_linear(f"{name}, {kind}", whole, half)
 
 
-main(*sys.argv[1:])
+def run(fuzz):
+    """Checks all rule sets."""
+    kinds = collections.Counter()
+    for folder in common.rule_folders():
+        try_changed(fuzz, folder, kinds)
+    told = ", ".join(f"{kind} {count}" for kind, count in sorted(kinds.items()))
+    fuzz.note(f"{sum(kinds.values())} changed rule sets: {told}")
+    try_large(fuzz)

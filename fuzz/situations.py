@@ -1,53 +1,52 @@
-#!/usr/bin/env python3
-"""bench/hostile_situations [COUNT [SEED]]: reads hostile situations, columns and files of `fisca calc` by the program of the cases: each prefix of a good
-input and of a good file; these with one character left out, doubled or changed, at each place; COUNT of columns made of pieces by lot (5,000 by default); and the
-limits of persons, groups and inputs, and one past each. Each has to be read, or refused by a kind of its layer at one of its lines. It ends with status 1 where one of
-this does not hold."""
-import os
-import random
-import re
-import subprocess
-import sys
-import time
+"""Situations, columns and files of `fisca calc`.
 
-TOP = os.path.dirname(os.path.dirname(os.path.abspath(__file__)))
-OURS = os.path.join(TOP, "crates/fisca_cases/out/fisca_cases")
-YAML = {"Tab", "BadIndent", "DuplicateKey", "BadFlow", "BadQuote", "Unsupported", "TooDeep", "TooLong"}
-SITUATION = {"UnknownEntity", "UnknownVariable", "UnknownPerson", "PersonTwice", "RoleFull", "BadValue", "PeriodMismatch", "InconsistentInput", "TooMany"}
-CALC = SITUATION | {"BadKey", "BadColumn"}
-TOLD = re.compile(r"fault \d+ (\w+), line (\d+)")
-RULES = '''rules
-file entities.py
-  Household = build_entity(
-      key="household",
-      plural="households",
-      roles=[
-          {"key": "parent", "plural": "parents", "subroles": ["first_parent", "second_parent"]},
-          {"key": "child", "plural": "children"},
-      ],
-  )
-  Person = build_entity(key="person", plural="persons", is_person=True)
-file variables/a.py
-  class salary(Variable):
-      value_type = float
-      entity = Person
-      definition_period = MONTH
-      set_input = set_input_divide_by_period
-  class age(Variable):
-      value_type = int
-      entity = Person
-      definition_period = MONTH
-      set_input = set_input_dispatch_by_period
-  class shoe(Variable):
-      value_type = float
-      entity = Person
-      definition_period = ETERNITY
-  class rent(Variable):
-      value_type = float
-      entity = Household
-      definition_period = MONTH
-'''
-INPUT = '''persons:
+Each prefix of a good input and of a good file; these with one character left out, doubled or changed, everywhere;
+columns made of pieces by lot; and the limits of persons, groups and inputs, and one past each. Each has to be read, or
+refused by a word of its layer at one of its lines.
+"""
+import re
+
+import common
+
+COUNT = 5000
+FILE_FAULTS = common.INPUT_FAULTS | {"BadKey", "BadColumn"}
+REFUSED = re.compile(r"fisca: (.*):(\d+): (\w+)")
+SIGNS = "[]{}:,-'\"#&*! \n\ta0é@"
+RULES = {
+    "entities.py": """\
+Household = build_entity(
+    key="household",
+    plural="households",
+    roles=[
+        {"key": "parent", "plural": "parents", "subroles": ["first_parent", "second_parent"]},
+        {"key": "child", "plural": "children"},
+    ],
+)
+Person = build_entity(key="person", plural="persons", is_person=True)
+""",
+    "variables/a.py": """\
+class salary(Variable):
+    value_type = float
+    entity = Person
+    definition_period = MONTH
+    set_input = set_input_divide_by_period
+class age(Variable):
+    value_type = int
+    entity = Person
+    definition_period = MONTH
+    set_input = set_input_dispatch_by_period
+class shoe(Variable):
+    value_type = float
+    entity = Person
+    definition_period = ETERNITY
+class rent(Variable):
+    value_type = float
+    entity = Household
+    definition_period = MONTH
+""",
+}
+INPUT = """\
+persons:
   Ann: {age: {2017: 30, "2017-05": 31}, shoe: 42}
   Bob:
     salary: {2017: 1200, 2017-01: 100.5}
@@ -57,85 +56,77 @@ households:
     child: Bob
     rent:
       2017-01: 800
-'''
-FILE = "period: 2017-01\ninput:\n" + "".join(f"  {line}\n" for line in INPUT.splitlines()) + 'columns:\n  - salary#1\n  - "age@2017-02"\n  - rent\n'
-PIECES = ["salary", "age", "rent", "shoe", "nope", "#", "@", "0", "1", "2", "00", " ", "+", "-", "2017", "2017-01", "2017-13", "month:", "year:", ":2", "ETERNITY", "9" * 30, "é", "_", ":", "\\t"]
+"""
+HEAD = "period: 2017-01\ninput:\n"
+COLUMNS = 'columns:\n  - salary#1\n  - "age@2017-02"\n  - rent\n'
+PIECES = [
+    "salary", "age", "rent", "shoe", "nope", "#", "@", "0", "1", "2", "00", " ", "+", "-", "2017", "2017-01", "2017-13",
+    "month:", "year:", ":2", "ETERNITY", "9" * 30, "é", "_", ":", "\\t",
+]
 
 
-def changed(text, draw):
-    for at in range(len(text) + 1):
-        yield text[:at]
-    for at in range(len(text)):
-        yield text[:at] + text[at + 1:]
-        yield text[:at] + text[at] + text[at:]
-        yield text[:at] + draw.choice("[]{}:,-'\"#&*! \n\ta0é@") + text[at + 1:]
+def below(text):
+    """The file whose input has the lines of a text."""
+    return HEAD + "\n".join(f"  {line}" for line in text.split("\n"))
 
 
-def quoted(text):
-    return '"' + text.replace("\\", "\\\\").replace('"', '\\"').replace("\n", "\\n").replace("\t", "\\t").replace("\r", "\\r") + '"'
+def fault_of(fuzz, text, words):
+    """What is wrong with the answer to a file, or nothing; and whether it is refused. `words` may be told of it."""
+    path = fuzz.room / "calc.yaml"
+    path.write_bytes(text.encode())
+    out, err, status = fuzz.call("calc", fuzz.room / "rules", path)
+    if status == 0 and not err:
+        return None, False
+    told = REFUSED.fullmatch(err)
+    is_right = told and told[1] == str(path) and told[3] in words and common.is_line_of(told[2], text)
+    return None if is_right and status == 3 and not out else f"status {status}: {out}{err}", True
 
 
-def answers(cases):
-    """What the program answers to each of these cases, which have one line each."""
-    start = time.monotonic()
-    run = subprocess.run([OURS], input=RULES + "\n" + "\n".join(cases) + "\n", capture_output=True, text=True, timeout=3600, check=True)
-    taken = time.monotonic() - start
-    told, at = [], 0
-    behind = run.stdout[run.stdout.index("\n\n") + 2:].splitlines()
-    for case in cases:
-        while at < len(behind) and not behind[at].startswith(case):
-            at += 1
-        rest = behind[at][len(case):].removeprefix(" =>") if at < len(behind) else None
-        told.append(rest if rest else (behind[at + 1].removeprefix("=>") if at + 1 < len(behind) else None))
-        at += 1
-    return told, taken
-
-
-def check(name, cases, texts, kinds):
-    told, taken = answers(cases)
-    bad = refused = 0
-    for case, text, answer in zip(cases, texts, told):
-        found = TOLD.search(answer) if answer is not None else None
-        if found:
-            refused += 1
-        if answer is None or (answer.lstrip().startswith(("fault", "malformed", "no memory")) and not found) or (
-            found and (found[1] not in kinds | YAML or not 1 <= int(found[2]) <= text.count("\n") + 1)
-        ):
-            bad += 1
-            print(f"hostile_situations: {name}: {case[:200]!r} answers {answer!r}")
-    print(f"{name}: {len(cases)} read, {refused} refused, {bad} answered wrongly, {taken:.1f} s")
-    return bad
+def try_texts(fuzz, name, texts, words):
+    """Reads some files, each of which may be refused by these words."""
+    refused = 0
+    for text in texts:
+        fault, is_refused = fault_of(fuzz, text, words | common.YAML_FAULTS)
+        refused += is_refused
+        fuzz.check(fault is None, f"{name}: {fault}\n{text}")
+    fuzz.note(f"{name}: {len(texts)} read, {refused} refused")
 
 
 def limits():
+    """Inputs at the limits and past them, each with whether it is read."""
     def persons(count):
         return "persons:\n" + "".join(f"  p{i}: {{}}\n" for i in range(count))
+
     def groups(count):
         return persons(1) + "households:\n" + "".join(f"  h{i}: {{}}\n" for i in range(count))
+
     def inputs(count):
-        return "{persons: {p: {age: {\"year:2000:1200\": 30}}, " + ", ".join(f"q{i}: {{}}" for i in range(count - 1)) + "}}"
-    for text, is_read in [(persons(1000), True), (persons(1001), False), (groups(999), True), (groups(1000), False), (groups(1001), False), (inputs(6), True), (inputs(7), False)]:
-        yield text, is_read
+        others = ", ".join(f"q{i}: {{}}" for i in range(count - 1))
+        return f'persons: {{p: {{age: {{"year:2000:1200": 30}}}}, {others}}}\n'
+
+    yield from [(persons(1000), True), (persons(1001), False)]
+    yield from [(groups(999), True), (groups(1000), False), (groups(1001), False)]
+    yield from [(inputs(6), True), (inputs(7), False)]
 
 
-def main():
-    count = int(sys.argv[1]) if len(sys.argv) > 1 else 5000
-    draw = random.Random(int(sys.argv[2]) if len(sys.argv) > 2 else 1)
-    if not os.path.exists(OURS):
-        sys.exit("bench/hostile_situations: build it first: rt run in crates/fisca_cases")
-    texts = list(changed(INPUT, draw))
-    bad = check("inputs", [f"situations members 2017-01 {quoted(t)}" for t in texts], texts, SITUATION)
-    texts = list(changed(FILE, draw))
-    bad += check("files of calc", [f"calc read {quoted(t)}" for t in texts], texts, CALC)
-    columns = ["".join(draw.choice(PIECES) for _ in range(draw.randint(1, 5))) for _ in range(count)]
-    bad += check("columns", [f'columns read "{c}" 2017-01 "{{}}"' for c in columns], columns, set())
-    told, taken = answers([f"situations members - {quoted(text)}" for text, _ in limits()])
-    for (text, is_read), answer in zip(limits(), told):
-        if (answer is not None and "TooMany" not in answer) != is_read:
-            bad += 1
-            print(f"hostile_situations: a limit: {text[:60]!r} answers {answer[:80]!r}")
-    print(f"limits: {taken:.1f} s")
-    sys.exit(1 if bad else 0)
+def try_limits(fuzz):
+    """Reads the inputs at the limits."""
+    path = fuzz.room / "calc.yaml"
+    for text, is_read in limits():
+        path.write_bytes(below(text).encode())
+        answer = fuzz.call("calc", fuzz.room / "rules", path)
+        is_right = answer.status == 0 if is_read else answer.err.endswith(": TooMany")
+        fuzz.check(is_right, f"a limit: {text[:60]!r}.. answers {answer}")
 
 
-main()
+def run(fuzz):
+    """Reads all inputs, files and columns."""
+    common.put(fuzz.room / "rules", RULES)
+    inputs = [below(text) for text in common.changed_everywhere(fuzz.lot, INPUT, SIGNS)]
+    try_texts(fuzz, "inputs", inputs, common.INPUT_FAULTS)
+    file = HEAD + "".join(f"  {line}\n" for line in INPUT.splitlines()) + COLUMNS
+    try_texts(fuzz, "files", list(common.changed_everywhere(fuzz.lot, file, SIGNS)), FILE_FAULTS)
+    rows = [common.row_of(fuzz.lot, PIECES, fuzz.lot.randint(1, 5)) for _ in range(fuzz.count)]
+    columns = [f'period: 2017-01\ncolumns: "{row}"\n' for row in rows]
+    try_texts(fuzz, "columns", columns, frozenset({"BadColumn"}))
+    try_limits(fuzz)

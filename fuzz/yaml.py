@@ -1,25 +1,24 @@
-#!/usr/bin/env python3
-"""bench/trees [COUNT [SEED]]: draws COUNT texts by lot (20000 by default) and as many from the parameter files of the
-example by changes at random places, reads each with fisca_yaml and with libyaml's composer, and compares the two trees,
-with the lines of keys and scalars, wherever both read the text. It prints how many of the texts each of them reads, how
-many differ in a way that is known (see KNOWN), and each other text whose trees differ; these give status 1. Beside the
-toolchain it needs cc, and libyaml with its header (the package libyaml-dev)."""
-import os
-import random
-import re
-import subprocess
-import sys
+"""YAML texts, read by fisca_yaml (fisca_bench, FISCA_BENCH) and by libyaml's composer beside it.
 
-TOP = os.path.dirname(os.path.dirname(os.path.abspath(__file__)))
-OUT = os.path.join(TOP, "bench", "out")
-SEPARATOR = "\x1e"
-PIECES = ["a", "b: ", "c:", "- ", "\n", "\n  ", "\n", "\n    ", " ", "\t", "[", "]", "{", "}", ", ", ",", ":", '"', "'", "\\", "#",
-          " # c", "|", ">-", "é", "\r\n", "---", "...", "%", "<<", "\\x41", "1", "-", "?", "null", "~", "'d'", '"e"', "k: v\n",
-          "- i\n", "  k: v\n", "[a, b]", "{f: g}", "\"h\": "]
+Texts of pieces by lot, and as many files of the rule sets of the repository with changes at random places. Where both
+read a text, the two trees have to be the same, with the lines of keys and scalars. The two are known to differ in some
+forms (KNOWN); their number is told. It needs cc, and libyaml with its header (Debian: libyaml-dev).
+"""
+import re
+
+import common
+
+COUNT = 20000
+PIECES = [
+    "a", "b: ", "c:", "- ", "\n", "\n  ", "\n", "\n    ", " ", "\t", "[", "]", "{", "}", ", ", ",", ":", '"', "'", "\\",
+    "#", " # c", "|", ">-", "é", "\r\n", "---", "...", "%", "<<", "\\x41", "1", "-", "?", "null", "~", "'d'", '"e"',
+    "k: v\n", "- i\n", "  k: v\n", "[a, b]", "{f: g}", "\"h\": ",
+]
 
 # Where both read a text, and are known to differ: a pattern of the text, and why.
 KNOWN = [
-    (r"\r(?!\n)|[\x85\u2028\u2029]", "libyaml ends a line also at a carriage return alone, and at three characters beyond ASCII"),
+    (r"\r(?!\n)|[\x85\u2028\u2029]",
+     "libyaml ends a line also at a carriage return alone, and at three characters beyond ASCII"),
     (r"\ufeff", "libyaml drops a byte order mark"),
     (r"(?m)^--- *[^ \t#\r\n]|^---[ \t]", "libyaml begins a document at three dashes with content behind them"),
     (r"(?m)^\.\.\.", "libyaml ends a document at three points with content behind them"),
@@ -29,30 +28,14 @@ KNOWN = [
 ]
 
 
-def build():
-    os.makedirs(OUT, exist_ok=True)
-    peer = os.path.join(OUT, "peer_trees")
-    source = os.path.join(TOP, "bench", "peer_trees.c")
-    if subprocess.call(["cc", "-O1", "-o", peer, source, "-lyaml"]) != 0:
-        sys.exit("bench/trees: the peer did not build: libyaml-dev is needed")
-    print("bench/trees: building ours", file=sys.stderr)
-    run = subprocess.run(["rt", "run"], cwd=os.path.join(TOP, "crates", "fisca_bench"), stdout=subprocess.PIPE, stderr=subprocess.STDOUT)
-    if run.returncode != 0:
-        sys.exit("bench/trees: fisca_bench did not build\n" + run.stdout.decode()[-2000:])
-    return os.path.join(TOP, "crates", "fisca_bench", "out", "fisca_bench"), peer
-
-
 def files():
-    found = []
-    for folder, _, names in sorted(os.walk(os.path.join(TOP, "examples"))):
-        for name in sorted(names):
-            if name.endswith((".yaml", ".yml")):
-                with open(os.path.join(folder, name), encoding="utf-8") as file:
-                    found.append(file.read())
-    return found
+    """The texts of all YAML files of the rule sets, in order."""
+    paths = [path for folder in common.rule_folders() for path in sorted(folder.rglob("*"))]
+    return [path.read_text(encoding="utf-8") for path in paths if path.suffix in (".yaml", ".yml")]
 
 
 def changed(lot, text):
+    """A text with one to three changes."""
     for _ in range(lot.randint(1, 3)):
         at, end = sorted((lot.randint(0, len(text)), lot.randint(0, len(text))))
         kind = lot.randint(0, 4)
@@ -71,36 +54,28 @@ def changed(lot, text):
     return text
 
 
-def main():
-    count = int(sys.argv[1]) if len(sys.argv) > 1 else 20000
-    lot = random.Random(int(sys.argv[2]) if len(sys.argv) > 2 else 1)
-    ours, peer = build()
+def drawn_texts(fuzz):
+    """Texts of pieces, and as many changed files."""
     originals = files()
-    texts = ["".join(lot.choice(PIECES) for _ in range(lot.randint(1, 16))) for _ in range(count)]
-    texts += [changed(lot, lot.choice(originals)) for _ in range(count)]
-    path = os.path.join(OUT, "trees.texts")
-    with open(path, "w", encoding="utf-8", newline="") as file:
-        file.write(SEPARATOR.join(texts))
-    answers = [subprocess.run(words, check=True, stdout=subprocess.PIPE).stdout.decode().split("\n")
-               for words in ([ours, "trees", path], [peer, path])]
+    texts = [common.row_of(fuzz.lot, PIECES, fuzz.lot.randint(1, 16)) for _ in range(fuzz.count)]
+    return texts + [changed(fuzz.lot, fuzz.lot.choice(originals)) for _ in range(fuzz.count)]
+
+
+def run(fuzz):
+    """Reads all texts."""
+    fuzz.program("fisca_bench")
+    texts = drawn_texts(fuzz)
+    ours = fuzz.lines("fisca_bench", ["trees"], texts)
+    theirs = fuzz.lines(fuzz.peer("trees.c"), [], texts)
     both = known = 0
-    other = []
-    for text, mine, theirs in zip(texts, *answers):
-        if mine.startswith("!") or theirs.startswith("!"):
+    for text, mine, other in zip(texts, ours, theirs):
+        if mine.startswith("!") or other.startswith("!"):
+            fuzz.check(True, text)
             continue
         both += 1
-        if mine == theirs:
-            continue
-        if any(re.search(pattern, text) for pattern, _ in KNOWN):
-            known += 1
-        else:
-            other.append((text, mine, theirs))
-    read = [sum(not line.startswith("!") for line in lines[:len(texts)]) for lines in answers]
-    print(f"texts {len(texts)}, read by fisca {read[0]}, by libyaml {read[1]}, by both {both}")
-    print(f"known differences {known}, other differences {len(other)}")
-    for text, mine, theirs in other[:20]:
-        print(f"{text!r}\n  fisca   {mine}\n  libyaml {theirs}")
-    sys.exit(1 if other else 0)
-
-
-main()
+        is_known = mine != other and any(re.search(pattern, text) for pattern, _ in KNOWN)
+        known += is_known
+        fuzz.check(mine == other or is_known, f"{text!r}\n  fisca   {mine}\n  libyaml {other}")
+    read = [sum(not line.startswith("!") for line in lines) for lines in (ours, theirs)]
+    told = f"read by fisca {read[0]}, by libyaml {read[1]}, by both {both}"
+    fuzz.note(f"{len(texts)} texts, {told}; {known} known differences")

@@ -1,9 +1,10 @@
-//! The peer of `fisca axes` in plain Rust: the values of one axis, exact, one line a position, written through one buffer.
-//! Its words are MIN MAX COUNT and perhaps a lower bound that values must meet; all whole numbers or hundredths.
+//! The peer of `fisca axes` in plain Rust: the values of one axis, exact, one line a position, written through one
+//! buffer. Its words are MIN MAX COUNT and perhaps a lower bound that values must meet; all whole numbers or
+//! hundredths.
 use std::env;
 use std::io::{self, BufWriter, Write};
 
-include!("peer_lines.rs");
+include!("lines.rs");
 
 fn main() -> io::Result<()> {
     let words: Vec<String> = env::args().collect();

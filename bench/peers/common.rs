@@ -1,7 +1,8 @@
-// What the peers that work formulas out share, by `include!`: keys, values, typed formulas as trees, and their evaluation by recursion over any inputs, with
-// a memory of what formulas gave or with none. Numbers are exact fractions, and at most a hundred keys are asked for below one another.
-// Who includes it has the modules `params` (`peer_params.rs`) and `periods` (`peer_periods.rs`), and of these `CalcFault`, `Day`, `Fraction`, `NumFault`,
-// `ParamTree`, `reduce`, `Period`, `TimeFault` and `Unit`.
+// What the peers that work formulas out share, by `include!`: keys, values, typed formulas as trees, and their
+// evaluation by recursion over any inputs, with a memory of what formulas gave or with none. Numbers are exact
+// fractions, and at most a hundred keys are asked for below one another. Who includes it has the modules `params`
+// (`params.rs`) and `periods` (`periods.rs`), and of these `CalcFault`, `Day`, `Fraction`, `NumFault`, `ParamTree`,
+// `reduce`, `Period`, `TimeFault` and `Unit`.
 
 const MOST_KEYS: usize = 100;
 const ONE: Fraction = Fraction { numerator: 1, denominator: 1 };

@@ -1,5 +1,5 @@
-// Values of examples/country worked out in plain Rust, for bench/peer_tests.rs: its variables with their formulas as typed trees, and an evaluator by recursion that remembers
-// what formulas gave, with how many keys stand below each.
+// Values of examples/country worked out in plain Rust, for bench/peers/tests.rs: its variables with their formulas as
+// typed trees, and an evaluator by recursion that remembers what formulas gave, with how many keys stand below each.
 use crate::params::{CalcFault, Day, Fraction, NumFault, ParamTree, SourceFile, Value as Found, find, reduce};
 use crate::periods::{FoldHasher, Period, TimeFault, Unit};
 use std::collections::HashMap;

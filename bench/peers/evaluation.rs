@@ -1,14 +1,13 @@
-// The peer of `fisca_bench evaluation`: the same keys worked out in plain Rust, by recursion over the same trees of formulas. Inputs stand in an index table
-// under the same hash as ours, and so does what is remembered, where values are; numbers are exact fractions, and at most a hundred keys are asked for below one
-// another. With FISCA_PEER=machine they are worked out by the same machine as ours, which looks where there is a memory for each key whether it is
-// remembered, and whether it stands among those above it.
+// The peer of `fisca_bench evaluation`: the same keys worked out in plain Rust, by recursion over the same trees of
+// formulas. Inputs stand in an index table under the same hash as ours, and so does what is remembered, where values
+// are; numbers are exact fractions, and at most a hundred keys are asked for below one another. With
+// FISCA_PEER=machine they are worked out by the same machine as ours, which looks where there is a memory for each
+// key whether it is remembered, and whether it stands among those above it.
 //
-// rustc -O bench/peer_evaluation.rs; peer_evaluation [remembered] NAME SIZE COUNT
+// rustc -O bench/peers/evaluation.rs; ./evaluation [remembered] NAME SIZE COUNT
 #[allow(dead_code)]
-#[path = "peer_params.rs"]
 mod params;
 #[allow(dead_code)]
-#[path = "peer_periods.rs"]
 mod periods;
 
 use params::{CalcFault, Day, Fraction, NumFault, ParamTree, files_of, find, mixed, reduce};
@@ -16,8 +15,8 @@ use periods::{Period, TimeFault, Unit};
 use std::hash::{Hash, Hasher};
 use std::time::Instant;
 
-include!("peer_common.rs");
-include!("peer_machine.rs");
+include!("common.rs");
+include!("machine.rs");
 
 /// Hashes keys as ours does: those of one variable and member at periods that follow one another have hashes that do.
 struct KeyHasher {
@@ -133,7 +132,7 @@ impl Recall for Nothing {
     fn keep(&mut self, _: Key, _: Known) {}
 }
 
-// The rule set that `bench/texts_evaluation` writes, and its situations.
+// The rule set that `bench/texts/evaluation` writes, and its situations.
 
 const PERSON: usize = 1;
 const HOUSEHOLD: usize = 0;

@@ -1,10 +1,10 @@
-//! The peer of `fisca axes` with several axes in plain Rust: its words are those of the program, conditions `NAME>=BOUND` alone. The places of the
-//! axes turn as an odometer, and each value is worked out at each position, exact. With FISCA_PEER=texts the text of each value of each axis is made
-//! before the first line, and copied.
+//! The peer of `fisca axes` with several axes in plain Rust: its words are those of the program, conditions
+//! `NAME>=BOUND` alone. The places of the axes turn as an odometer, and each value is worked out at each position,
+//! exact. With FISCA_PEER=texts the text of each value of each axis is made before the first line, and copied.
 use std::env;
 use std::io::{self, BufWriter, Write};
 
-include!("peer_lines.rs");
+include!("lines.rs");
 
 /// An axis of a grid, and where it stands.
 struct Turning {

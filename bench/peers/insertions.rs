@@ -1,8 +1,9 @@
-// What no table by hash can go below: one insertion of each key of a situation's inputs, in the order in which they are shared, into a
-// table and a list in plain Rust, and nothing else. It prints nanoseconds an insertion, the least of fifteen runs, for as many inputs
-// as `bench/situations` has: how they grow is what the memory of this machine does.
+// What no table by hash can go below: one insertion of each key of a situation's inputs, in the order in which they
+// are shared, into a table and a list in plain Rust, and nothing else. It prints nanoseconds an insertion, the least
+// of fifteen runs, for as many inputs as `bench/situations` has: how they grow is what the memory of this machine
+// does.
 //
-// rustc -O bench/peer_insertions.rs; peer_insertions
+// rustc -O bench/peers/insertions.rs; ./insertions
 use std::collections::HashMap;
 use std::hash::{BuildHasherDefault, Hash, Hasher};
 use std::time::Instant;

@@ -1,4 +1,5 @@
-// What the peers that write lines share, by `include!`: numbers read from texts, the values of axes, and the texts of numbers.
+// What the peers that write lines share, by `include!`: numbers read from texts, the values of axes, and the texts of
+// numbers.
 
 /// Thousandths of a decimal text with at most three places.
 #[allow(dead_code)]

@@ -1,4 +1,4 @@
-// What the peers that work formulas out by the same machine as ours share, by `include!` behind `peer_common.rs`.
+// What the peers that work formulas out by the same machine as ours share, by `include!` behind `common.rs`.
 
 /// Formulas by the same machine as ours: what is pending stands on a stack of its own, and a formula stops at each key that it asks for. Where there is a
 /// memory, a key of a variable with formulas is looked for in it, and then among those above it; what a formula gave is remembered with its height and the

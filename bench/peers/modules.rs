@@ -1,6 +1,6 @@
 // The peer of `fisca_bench modules`: a reader of the same modules into the same tree, in plain Rust, written for speed.
 //
-// rustc -O bench/peer_modules.rs; peer_modules NAME COUNT, or peer_modules FILE for a line of each of the texts in a file
+// rustc -O bench/peers/modules.rs; ./modules NAME COUNT, or ./modules FILE for a line of each of the texts in a file
 use std::time::Instant;
 
 const LONGEST: usize = 1 << 20;

@@ -1,7 +1,7 @@
 // The peer of `fisca_bench numbers`: the same work in plain Rust, by the best known way. Words where operands fit;
 // sums and products that spare greatest common divisors; divisors by halving; one buffer for a text.
 //
-// rustc -O bench/peer_numbers.rs; peer_numbers OPERATION MIX COUNT
+// rustc -O bench/peers/numbers.rs; ./numbers OPERATION MIX COUNT
 use std::cmp::Ordering;
 use std::time::Instant;
 

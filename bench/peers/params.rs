@@ -1,7 +1,7 @@
-// The peer of `fisca_bench params`: reads the same parameter files into the same tree of exact values, and looks values and
-// sums up in it. Plain Rust, std alone.
+// The peer of `fisca_bench params`: reads the same parameter files into the same tree of exact values, and looks
+// values and sums up in it. Plain Rust, std alone.
 //
-// rustc -O bench/peer_params.rs; peer_params OPERATION COUNT
+// rustc -O bench/peers/params.rs; ./params OPERATION COUNT
 use std::borrow::Cow;
 use std::cmp::Ordering;
 use std::collections::{BTreeMap, HashSet};

@@ -1,6 +1,6 @@
 // The peer of `fisca_bench periods`: the same work in plain Rust, over the same representation of a period.
 //
-// rustc -O bench/peer_periods.rs; peer_periods OPERATION COUNT
+// rustc -O bench/peers/periods.rs; ./periods OPERATION COUNT
 use std::hash::{Hash, Hasher};
 use std::time::Instant;
 

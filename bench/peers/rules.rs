@@ -1,16 +1,17 @@
-//! The peer of `fisca run` over one axis of rents, as one would write it by hand: the allowance of `tests/rules/household` is code, and so is the date of its
-//! parameter. The same lines, exact, through one buffer. What stands over from `fisca` is that rents and allowances are exact fractions of two words.
+//! The peer of `fisca run` over one axis of rents, as one would write it by hand: the allowance of
+//! `tests/rules/household` is code, and so is the date of its parameter. The same lines, exact, through one buffer.
+//! What stands over from `fisca` is that rents and allowances are exact fractions of two words.
 //!
-//! rustc -O bench/peer_rules.rs; peer_rules COUNT BOUND [--from POSITION]: the rents 0 to COUNT - 1 where the allowance is at least BOUND
+//! rustc -O bench/peers/rules.rs; ./rules COUNT BOUND [--from POSITION]: the rents 0 to COUNT - 1 where the allowance
+//! is at least BOUND
 #[allow(dead_code)]
-#[path = "peer_params.rs"]
 mod params;
 
 use params::{Fraction, NumFault};
 use std::env;
 use std::io::{self, BufWriter, Write};
 
-include!("peer_lines.rs");
+include!("lines.rs");
 
 /// A month by its year and its number.
 type Month = (u16, u8);

@@ -1,15 +1,16 @@
-// The peer of `fisca run` in plain Rust: the lines of the run files that `bench/runs` writes, by the very formulas as trees. Each position has a situation
-// and a memory of its own, in hash tables: the inputs are shared over the parts of their periods anew, and what a formula gave is remembered. With
-// FISCA_PEER=kept the two tables are emptied for the next position, and not made anew. With FISCA_PEER=wheels there is one situation and one memory for the
-// run: each group of axes is a wheel, a position sets the inputs of the wheels that turn, and what was remembered counts until a wheel turns that it read;
-// with FISCA_PEER=machine that, and formulas are worked out by the same machine as ours.
+// The peer of `fisca run` in plain Rust: the lines of the run files that `bench/runs` writes, by the very formulas as
+// trees. Each position has a situation and a memory of its own, in hash tables: the inputs are shared over the parts
+// of their periods anew, and what a formula gave is remembered. With FISCA_PEER=kept the two tables are emptied for
+// the next position, and not made anew. With FISCA_PEER=wheels there is one situation and one memory for the run:
+// each group of axes is a wheel, a position sets the inputs of the wheels that turn, and what was remembered counts
+// until a wheel turns that it read; with FISCA_PEER=machine that, and formulas are worked out by the same machine as
+// ours.
 //
-// rustc -O -C codegen-units=1 bench/peer_runs.rs; peer_runs NAME COUNT [--from POSITION], COUNT that of the last group of axes
+// rustc -O -C codegen-units=1 bench/peers/runs.rs; ./runs NAME COUNT [--from POSITION], COUNT that of the last group
+// of axes
 #[allow(dead_code)]
-#[path = "peer_params.rs"]
 mod params;
 #[allow(dead_code)]
-#[path = "peer_periods.rs"]
 mod periods;
 
 use params::{CalcFault, Day, Fraction, NumFault, ParamTree, SourceFile, find, reduce};
@@ -19,9 +20,9 @@ use std::hash::{BuildHasherDefault, Hasher};
 use std::io::{self, BufWriter, Write};
 use std::path::Path;
 
-include!("peer_common.rs");
-include!("peer_machine.rs");
-include!("peer_lines.rs");
+include!("common.rs");
+include!("machine.rs");
+include!("lines.rs");
 
 /// A hash by one multiplication for each word.
 #[derive(Default)]

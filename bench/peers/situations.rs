@@ -1,12 +1,11 @@
-// The peer of `fisca_bench situations`: the same work in plain Rust, with the same tables under the same hash: persons, groups and
-// roles by name, inputs as they are given, in order of length, start and unit, shared over their months, and defaults beside.
+// The peer of `fisca_bench situations`: the same work in plain Rust, with the same tables under the same hash:
+// persons, groups and roles by name, inputs as they are given, in order of length, start and unit, shared over their
+// months, and defaults beside.
 //
-// rustc -O bench/peer_situations.rs; peer_situations OPERATION NAME COUNT
+// rustc -O bench/peers/situations.rs; ./situations OPERATION NAME COUNT
 #[allow(dead_code)]
-#[path = "peer_numbers.rs"]
 mod numbers;
 #[allow(dead_code)]
-#[path = "peer_periods.rs"]
 mod periods;
 
 use numbers::Fraction;

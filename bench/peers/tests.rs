@@ -1,17 +1,15 @@
-// The peer of `fisca test` over examples/country: reads the same files of tests in plain Rust, makes each situation, works its outputs out by the rules of bench/peer_country.rs, compares them
-// within the margins and writes the same report.
+// The peer of `fisca test` over examples/country: reads the same files of tests in plain Rust, makes each situation,
+// works its outputs out by the rules of bench/peers/country.rs, compares them within the margins and writes the same
+// report.
 //
-// rustc -O bench/peer_tests.rs; peer_tests report RULES TESTS, or peer_tests bytes RULES TESTS, which only reads the files, or peer_tests starts RULES TESTS PROGRAM RUNS, which times PROGRAM
-// beside that
-#[path = "peer_country.rs"]
+// rustc -O bench/peers/tests.rs; ./tests report RULES TESTS, or ./tests bytes RULES TESTS, which only reads the
+// files, or ./tests starts RULES TESTS PROGRAM RUNS, which times PROGRAM beside that
 mod country;
 #[allow(dead_code)]
-#[path = "peer_params.rs"]
 mod params;
 #[allow(dead_code)]
-#[path = "peer_periods.rs"]
 mod periods;
-#[path = "peer_tests_yaml.rs"]
+#[path = "tests_yaml.rs"]
 mod yaml;
 
 use country::{Evaluator, HOUSEHOLD, Home, Key, Kind, Map, PERSON, Rules, Sharing, Situation, Value, fits};

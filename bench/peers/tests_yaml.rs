@@ -1,4 +1,5 @@
-// The YAML of files of tests, read in plain Rust for bench/peer_tests.rs: maps and lists by lines, brackets on a line, plain scalars and such in single quotes.
+// The YAML of files of tests, read in plain Rust for bench/peers/tests.rs: maps and lists by lines, brackets on a
+// line, plain scalars and such in single quotes.
 use crate::params::Fraction;
 use std::collections::HashSet;
 

@@ -1,4 +1,4 @@
-/* peer_trees FILE: writes a line for each of the texts in a file, between which the byte 30 stands: the tree that libyaml's
+/* trees FILE: writes a line for each of the texts in a file, between which the byte 30 stands: the tree that libyaml's
    composer makes of it, as crates/fisca_bench/src/trees.rt writes one, or `!` where it makes none. */
 #include <stdio.h>
 #include <stdlib.h>

@@ -1,4 +1,4 @@
-/* peer_yaml NAME COUNT: reads bench/out/yaml/NAME.yaml so often with libyaml's document loader. It prints the nanoseconds that
+/* yaml NAME COUNT: reads bench/out/yaml/NAME.yaml so often with libyaml's document loader. It prints the nanoseconds that
    this took, and how many scalars and keys the document has. */
 #include <stdio.h>
 #include <stdlib.h>

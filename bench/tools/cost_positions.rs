@@ -1,9 +1,11 @@
-//! The cost of a position, by the number of positions: a command that takes `--from`, over the last positions of its grid, and over its last position
-//! alone right behind it, into a file. All commands and numbers take turns, round by round, so that a slower minute of the machine meets each of them.
-//! Prints for each the nanoseconds of one position, user and system time together: the middle one of the differences between the two runs of a pair, over
-//! the positions between.
+//! The cost of a position, by the number of positions: a command that takes `--from`, over the last positions of its
+//! grid, and over its last position alone right behind it, into a file. All commands and numbers take turns, round by
+//! round, so that a slower minute of the machine meets each of them. Prints for each the nanoseconds of one position,
+//! user and system time together: the middle one of the differences between the two runs of a pair, over the positions
+//! between.
 //!
-//! Its words are the file to write, the logarithms to base 2 of the size of the grids, of the fewest and of the most positions, and the commands.
+//! Its words are the file to write, the logarithms to base 2 of the size of the grids, of the fewest and of the most
+//! positions, and the commands.
 use std::env;
 use std::fs::File;
 use std::io;

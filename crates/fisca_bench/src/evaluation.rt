@@ -1,4 +1,4 @@
-//! Working out the columns of the files that `bench/texts_evaluation` writes.
+//! Working out the columns of the files that `bench/texts/evaluation` writes.
 ghost use Rattle.std.specs.Prelude.{◌≡◌};
 ghost use Rattle.fisca_eval.specs.Evaluators.{simulation_of};
 ghost use Rattle.fisca_memo.specs.Evaluators.{IsMemoryOf, marks_in, simulation_of as remembering_in};

@@ -1,4 +1,4 @@
-//! Reading of modules, which `bench/texts_modules` and `bench/hostile` write.
+//! Reading of modules, which `bench/texts/modules` and `fuzz/run modules` write.
 use crate::{Measured, list, show};
 use fisca_expressions::{Argument, Arguments, Expr, Slice};
 use fisca_syntax::{Assignment, Formula, Item, Member, Statement, read_module};

@@ -1,4 +1,4 @@
-//! Reading the parameter files that `bench/texts_params` writes, and looking values and sums up in their tree.
+//! Reading the parameter files that `bench/texts/params` writes, and looking values and sums up in their tree.
 ghost use Rattle.std.specs.Prelude.{◌<◌, length, IfSome, IsSome};
 ghost use Rattle.fisca_params.specs.Lookup.{scale_in};
 ghost use Rattle.fisca_params.specs.Tree.{content_at};

@@ -1,4 +1,4 @@
-//! Building the rule sets that `bench/texts_rules` writes, beside reading their modules.
+//! Building the rule sets that `bench/texts/rules` writes, beside reading their modules.
 ghost use Rattle.std.specs.Prelude.{IfSome};
 ghost use Rattle.fisca_rules.specs.Views.{rule_set};
 ghost use Rattle.fisca_eval.specs.Sound.{IsSafeRules};

@@ -1,4 +1,4 @@
-//! Reading the situations that `bench/texts_situations` writes, and looking their inputs up.
+//! Reading the situations that `bench/texts/situations` writes, and looking their inputs up.
 use crate::params::files_of;
 use crate::rules::rules_of;
 use crate::{Measured, list, show};

@@ -1,4 +1,4 @@
-//! Trees of YAML texts, written as lines, which `bench/trees` compares with those that libyaml makes.
+//! Trees of YAML texts, written as lines, which `fuzz/run yaml` compares with those that libyaml makes.
 use crate::list;
 use fisca_yaml::{Entry, Item, Tree, read};
 use std::alloc::{AllocError, Global};

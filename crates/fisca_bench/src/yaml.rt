@@ -1,4 +1,4 @@
-//! Reading of YAML texts, which `bench/texts_yaml` writes.
+//! Reading of YAML texts, which `bench/texts/yaml` writes.
 use crate::{Measured, list, show};
 use fisca_yaml::{Entry, Item, Tree, read};
 use std::alloc::Global;

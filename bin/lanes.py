@@ -4,13 +4,13 @@ import queue
 import threading
 
 # how much of the longest chain a task has to have behind it to be urgent
-URGENT = 0.85
+URGENT = 0.7
 # the processes that an urgent task is given
 JOBS = 4
 # what each further process of a task takes, as a share of the memory of the first
 FURTHER = 0.6
 # how much less than urgent tasks the others are preferred by the system
-NICE = 10
+NICE = 3
 
 
 class Lanes:

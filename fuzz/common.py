@@ -3,6 +3,7 @@ counted.
 """
 import pathlib
 import random
+import re
 import resource
 import shutil
 import subprocess
@@ -29,6 +30,16 @@ INPUT_FAULTS = frozenset(
     "TooMany".split()
 )
 MODULE_FAULTS = frozenset("Syntax Indent Unsupported TooDeep TooLong".split())
+AXES_FAULTS = frozenset("NoAxes BadCount BadBound CountsDiffer TooLarge UnknownVariable BadIndex AxisOverlap".split())
+VALUE_FAULTS = frozenset(
+    "ZeroDivisor TooWide ParameterUndefined BadScale NoMember PeriodOutOfRange PeriodMismatch Cycle TooDeep".split()
+)
+# of the file of each command
+FILE_FAULTS = {
+    "calc": YAML_FAULTS | INPUT_FAULTS | {"BadKey", "BadColumn"},
+    "test": YAML_FAULTS | INPUT_FAULTS | {"BadTest", "BadOutput"},
+    "run": YAML_FAULTS | INPUT_FAULTS | AXES_FAULTS | {"BadKey", "BadNeutral", "BadColumn", "BadCondition"},
+}
 
 
 class Wrong(Exception):
@@ -48,10 +59,13 @@ class Answer(NamedTuple):
 
 
 class Fuzz:
-    """One hostile run of a subject: what it draws by, an empty folder, its programs, and what it has counted."""
+    """One hostile run of a subject: what it draws by, an empty folder, its programs, and what it has counted; and after
+    how many seconds it draws no more, if it has such a limit.
+    """
 
-    def __init__(self, subject, programs, count, seed, room):
+    def __init__(self, subject, programs, count, seed, room, seconds=None):
         self.subject, self.programs, self.count, self.room = subject, programs, count, room
+        self.end = None if seconds is None else time.monotonic() + seconds
         self.lot = random.Random(seed)
         self.passed = self.failed = 0
 
@@ -65,10 +79,17 @@ class Fuzz:
             raise LeftOut(f"no program {path}")
         return path
 
+    def turns(self):
+        """The numbers of the cases that are drawn: as many as the count says, or fewer where the time is over."""
+        for turn in range(self.count):
+            if self.end is not None and time.monotonic() > self.end:
+                return
+            yield turn
+
     def call(self, *words, program="fisca", seconds=SECONDS):
         """What a program answers to words. One that does not end in time has no status."""
         command = [program if isinstance(program, pathlib.Path) else self.program(program), *map(str, words)]
-        how = {"stdin": subprocess.DEVNULL, "capture_output": True, "timeout": seconds, "preexec_fn": limit_memory}
+        how = {"stdin": subprocess.DEVNULL, "capture_output": True, "timeout": seconds}
         try:
             ran = subprocess.run(command, **how)
         except subprocess.TimeoutExpired:
@@ -100,7 +121,7 @@ class Fuzz:
             ".rs": ["rustc", "-O", "--edition", "2024", "-o", path, TOP / "bench" / "peers" / source],
             ".c": ["cc", "-O1", "-o", path, TOP / "bench" / "peers" / source, "-lyaml"],
         }[pathlib.Path(source).suffix]
-        if shutil.which(made[0]) is None or subprocess.run(made).returncode != 0:
+        if shutil.which(made[0]) is None or subprocess.run(made, preexec_fn=lift_limit).returncode != 0:
             raise LeftOut(f"bench/peers/{source} cannot be compiled by {made[0]}")
         return path
 
@@ -128,8 +149,13 @@ class Fuzz:
 
 
 def limit_memory():
-    """Limits the memory of the process that begins."""
-    resource.setrlimit(resource.RLIMIT_AS, (MEMORY, MEMORY))
+    """Limits the memory of this process and of each that it starts."""
+    resource.setrlimit(resource.RLIMIT_AS, (MEMORY, resource.getrlimit(resource.RLIMIT_AS)[1]))
+
+
+def lift_limit():
+    """Lifts the limit for this process."""
+    resource.setrlimit(resource.RLIMIT_AS, (resource.getrlimit(resource.RLIMIT_AS)[1],) * 2)
 
 
 def least_seconds(call):
@@ -175,6 +201,32 @@ def number_text(number):
 def is_wide(number):
     """Whether a number is beyond the limits."""
     return abs(number.numerator) > MOST or number.denominator > MOST
+
+
+# the last line of what a command writes where it was done
+DONE = {
+    "check": r"entities \d+, variables \d+, parameters \d+", "calc": ".*", "test": r"passed \d+, failed \d+",
+    "run": r"end|more \d+", "axes": r"end|more \d+",
+}
+
+
+def fault_of_file(command, answer, path, text):
+    """What is wrong with the answer of `fisca` to a command over a file of this text and a right rule set, or nothing:
+    it is done, or tells in one line why not.
+    """
+    lines = answer.out.splitlines()
+    if answer.status == 0 or answer.status == 1 and command == "test":
+        is_whole = re.fullmatch(DONE[command], lines[-1]) if lines else command == "calc"
+        return None if is_whole and not answer.err else "no end"
+    if answer.status == 3:
+        told = re.fullmatch(r"fisca: (.*):(\d+): (\w+)", answer.err)
+        is_told = told and told[1] == str(path) and is_line_of(told[2], text) and told[3] in FILE_FAULTS[command]
+        return None if is_told and not lines else "no line of the file"
+    if answer.status == 4 and command in ("run", "calc"):
+        at = r"position \d+: " if command == "run" else ""
+        told = re.fullmatch(rf"fisca: {at}(\w+) \w+ .* \S+", answer.err)
+        return None if told and told[1] in VALUE_FAULTS else "no fault of a key"
+    return f"status {answer.status}"
 
 
 def row_of(lot, pieces, count):

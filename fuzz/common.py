@@ -50,6 +50,10 @@ class LeftOut(Exception):
     """What a hostile run needs and does not find."""
 
 
+class NoTrace(LeftOut):
+    """That this machine lets no program be traced."""
+
+
 class Answer(NamedTuple):
     """What a program writes, what it says on standard error without the last line feed, and its exit status."""
 

@@ -39,6 +39,7 @@ CASTLE = """period: 2017-01
 input: {occupancy: castle}
 columns: [is_owner]
 """
+OWNER = CASTLE.replace("castle", "owner")
 CHAIN = """period: 2008-04
 input: {persons: {Ann: {step: {2000-01: 0}}}}
 columns: [step, step@2004-04, step@2008-05]
@@ -123,6 +124,7 @@ def calls():
         "run with more keys": Call("run", changed(files, "variables/a.py", LATER), STEPS),
         "calc": Call("calc", files, COLUMNS),
         "calc of scales": Call("calc", graded(files), PAY),
+        "calc of a right input": Call("calc", files, OWNER),
         "calc of a wrong input": Call("calc", files, CASTLE),
         "calc of a chain": Call("calc", files, CHAIN),
         "test": Call("test", files, TESTS),

@@ -1,4 +1,4 @@
-"""Modules, read by fisca_syntax (fisca_bench, FISCA_BENCH) and by a reader of the same modules in plain Rust beside it.
+"""Modules, read by fisca_parser (fisca_bench, FISCA_BENCH) and by a reader of the same modules in plain Rust beside it.
 
 Each prefix of two modules of tests/rules/household; these with one character left out, doubled or changed, everywhere;
 rows of tokens by lot; and 1 MiB of each bracket. Each has to be read, or refused by a kind of modules at one of its

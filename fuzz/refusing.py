@@ -36,10 +36,10 @@ PTRACE.restype, PTRACE.argtypes = ctypes.c_long, [ctypes.c_long, ctypes.c_long, 
 def trace(request, process, data=None):
     """Asks Linux something about a process that is traced.
 
-    Raises common.LeftOut where it refuses.
+    Raises common.NoTrace where it refuses.
     """
     if PTRACE(request, process, None, data) == -1:
-        raise common.LeftOut(f"ptrace: {os.strerror(ctypes.get_errno())}")
+        raise common.NoTrace(f"ptrace: {os.strerror(ctypes.get_errno())}")
 
 
 def wait(process):
@@ -111,7 +111,7 @@ class Program:
         where it is refused: of all growths, or of those with these numbers. At last the number behind all growths, with
         the answer where none is refused.
 
-        Raises common.LeftOut where Linux refuses that the program is traced.
+        Raises common.NoTrace where Linux refuses that the program is traced.
         """
         files = Files(given, self.room)
         process = os.fork()
@@ -119,7 +119,7 @@ class Program:
             become([self.path, *map(str, words)], files)
         try:
             if not os.WIFSTOPPED(wait(process)):
-                raise common.LeftOut(f"{self.path} cannot be traced")
+                raise common.NoTrace(f"{self.path} cannot be traced")
             traced = Traced(process, self.entry, self.addresses)
             status, asked = yield from traced.refusals(files, numbers)
             yield asked + 1, files.answer(status)

@@ -18,7 +18,8 @@ use std::time::Instant;
 include!("common.rs");
 include!("machine.rs");
 
-/// Hashes keys as ours does: those of one variable and member at periods that follow one another have hashes that do.
+/// Hashes keys as ours does: those of one variable and member at periods that follow one another have hashes that do,
+/// sixteen in a row.
 struct KeyHasher {
     state: u64,
 }
@@ -26,7 +27,7 @@ struct KeyHasher {
 impl Hasher for KeyHasher {
     fn finish(&self) -> u64 {
         let number = self.state >> 16 & 0xffff_ffff;
-        number & 0xff_ffff | number * 0x9e37_79b1 & 0xff00_0000
+        (number / 16 * (0xb65_18d7 * 16) + number % 16 * 0x9d00_0001) & 0xffff_ffff
     }
 
     fn write(&mut self, bytes: &[u8]) {
@@ -35,7 +36,7 @@ impl Hasher for KeyHasher {
             [a, b, c, d] => u32::from_le_bytes([a, b, c, d]).into(),
             _ => 0,
         };
-        self.state = self.state.wrapping_mul(0x9e37_79b9_7f4a_7c15).wrapping_add(word);
+        self.state = self.state.wrapping_mul(0x9fb3_1c96_4a71_4ae3).wrapping_add(word);
     }
 }
 
@@ -146,6 +147,11 @@ const SUMS: usize = 6;
 const NODES: usize = 9;
 const CONTRIBUTION: usize = 12;
 const TWICE: usize = 13;
+const DAILY: usize = 14;
+const DECADE: usize = 15;
+const DECADES: usize = 16;
+/// The days of ten years.
+const DAYS: u32 = 3652;
 
 fn whole(numerator: i64) -> Fraction {
     Fraction { numerator, denominator: 1 }
@@ -180,7 +186,7 @@ fn rules() -> Rules {
         let values = asked(variable, Whom::Person, Asking::Plain, Vec::new());
         Node::Total(Total::Sum, Box::new(Totalled { role: None, values }))
     };
-    let year = |k: i64| asked(SALARY, Whom::Own, Asking::Add, if k == 0 { Vec::new() } else { vec![Move::Offset(-k)] });
+    let year = |variable, k: i64| asked(variable, Whom::Own, Asking::Add, if k == 0 { Vec::new() } else { vec![Move::Offset(-k)] });
     let variable = |kind, entity, unit, result: Option<Node>| Variable {
         kind,
         entity,
@@ -199,7 +205,7 @@ fn rules() -> Rules {
         month(HOUSEHOLD, Some(of_all(PAY))),
     ];
     for years in [25, 50, 100] {
-        variables.push(variable(Kind::Float, PERSON, Unit::Year, summed((0..years).map(year))));
+        variables.push(variable(Kind::Float, PERSON, Unit::Year, summed((0..years).map(|k| year(SALARY, k)))));
     }
     for times in [1, 2, 4] {
         variables.push(month(PERSON, summed((0..times).map(|_| ten(allowance)))));
@@ -208,6 +214,9 @@ fn rules() -> Rules {
     variables.push(month(PERSON, Some(Node::Scale(Box::new(ScaleSum { place: scale, moves: Vec::new(), base })))));
     let before = || own(TWICE, vec![Move::LastMonth]);
     variables.push(month(PERSON, Some(two(Arithmetic::Add, before(), before()))));
+    variables.push(variable(Kind::Float, PERSON, Unit::Day, Some(Node::Literal(whole(2)))));
+    variables.push(variable(Kind::Float, PERSON, Unit::Year, summed((0..10).map(|k| year(DAILY, k)))));
+    variables.push(variable(Kind::Float, HOUSEHOLD, Unit::Year, Some(of_all(DECADE))));
     Rules { variables, parameters }
 }
 
@@ -247,6 +256,7 @@ fn cell(name: &str, size: u32) -> (Vec<(Key, Fraction)>, Vec<Key>) {
             let month = |i| (Key { variable: SALARY, member: 0, period: years.sub(Unit::Month, i) }, whole(1029));
             ((0..1200).map(month).collect(), at(SUMS + (size / 600) as usize, period("2017")))
         }
+        "days" => (persons(size / DAYS, false), at(DECADES, period("2019"))),
         "nodes" => (persons(1000, true), of_each(NODES + (size / 20) as usize)),
         _ => (persons(1000, true), of_each(CONTRIBUTION)),
     }
@@ -264,6 +274,7 @@ fn main() {
     let role = Role { role: 0, subrole: None };
     let persons = match words[0].as_str() {
         "members" | "hundredths" | "formulas" => size,
+        "days" => size / DAYS,
         "nodes" | "scale" => 1000,
         _ => 1,
     };

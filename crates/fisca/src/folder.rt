@@ -1,10 +1,14 @@
 //! The folder of a rule set on this machine.
 
+ghost use Rattle.std.specs.Prelude.{◌≢◌, IfErr};
+ghost use Rattle.std.specs.IoError.{error_kind};
+
 use fisca_folder::{FolderEntry, RuleFolder};
 use std::alloc::{AllocError, Global};
-use std::fs;
-use std::fs::Files;
+use std::fs::{Files, OpenFile};
 use std::io::{ErrorKind, Read};
+use std::path::Path;
+use std::{fs, io};
 
 /// The folder of a rule set at a path of this machine. Links are followed; only a regular file can be read.
 #[derive(Drop)]
@@ -27,14 +31,6 @@ impl<'a, R: Files + AllocGlobal + Clone + Drop> DiskFolder<'a, R> {
             format!(in self.rt.alloc(); "{}/{path}", self.rules)
         }
     }
-
-    /// Whether a path of the machine leads to a folder, or this where it leads nowhere.
-    fn leads_to_folder(&self, path: &str, otherwise: bool) -> bool {
-        match fs::metadata(self.rt, path) {
-            Ok(found) => found.is_dir(),
-            Err(_) => otherwise,
-        }
-    }
 }
 
 impl<R: Files + AllocGlobal + Clone + Drop> RuleFolder for DiskFolder<'_, R> {
@@ -43,31 +39,58 @@ impl<R: Files + AllocGlobal + Clone + Drop> RuleFolder for DiskFolder<'_, R> {
 
     fn entries(&self, path: &str, most: usize) -> Result<Option<Vec<FolderEntry>>, AllocError> {
         let whole = self.whole(path)?;
-        let listed = match fs::read_dir(self.rt, whole.as_str()) {
-            Ok(listed) => listed,
-            Err(error) => return none_for(error.kind()),
-        };
-        let mut entries = Vec::new(self.rt.alloc());
-        for entry in listed {
-            if entries.len() == most {
-                break;
-            }
-            match entry {
-                Ok(entry) => {
-                    let name = String::from_str(self.rt.alloc(), entry.file_name())?;
-                    // A broken link `parameters` or `variables` is no file to be passed over: it cannot be listed.
-                    let is_folder = self.leads_to_folder(entry.path().as_str(), path.is_empty());
-                    entries.push(FolderEntry::new(name, is_folder))?;
-                }
-                Err(error) => return none_for(error.kind()),
-            }
+        match retried(|| list(self.rt, whole.as_str(), most)) {
+            Ok(entries) => Ok(Some(entries)),
+            Err(error) => none_for(error.kind()),
         }
-        Ok(Some(entries))
     }
 
     fn bytes(&self, path: &str, most: u64) -> Result<Option<Vec<u8>>, AllocError> {
         let whole = self.whole(path)?;
         read_bytes(self.rt, whole.as_str(), most)
+    }
+}
+
+/// What a call of the machine answers, which is made again where a signal interrupts it.
+fn retried<T, C: Fn() -> io::Result<T>>(call: C) -> io::Result<T>
+    requires { C.IsAlwaysCallable call }
+    ensures { IfErr result (λ error. error_kind error ≢ ErrorKind.Interrupted) }
+{
+    for _ in 0..u64::MAX {
+        match call() {
+            Ok(answer) => return Ok(answer),
+            Err(error) if error.kind() == ErrorKind::Interrupted => {}
+            Err(error) => return Err(error),
+        }
+    }
+    Err(io::Error::from(ErrorKind::TimedOut))
+}
+
+/// The first `most` entries of a folder at a path of this machine.
+fn list<R: Files + AllocGlobal + Clone + Drop>(
+    rt: &R,
+    path: &str,
+    most: usize,
+) -> io::Result<Vec<FolderEntry>> {
+    let mut entries = Vec::new(rt.alloc());
+    for entry in fs::read_dir(rt, path)? {
+        if entries.len() == most {
+            break;
+        }
+        let entry = entry?;
+        let name = String::from_str(rt.alloc(), entry.file_name())?;
+        entries.push(entry_at(rt, entry.path(), name)?)?;
+    }
+    Ok(entries)
+}
+
+/// The entry of this name, which stands at this path of the machine. Memory is its only error: of an entry that cannot be looked
+/// at it is not known what it is.
+fn entry_at<R: Files>(rt: &R, path: Path<'_>, name: String) -> io::Result<FolderEntry> {
+    match retried(|| fs::metadata(rt, path)) {
+        Ok(found) => Ok(FolderEntry::new(name, found.is_dir())),
+        Err(error) if error.kind() == ErrorKind::OutOfMemory => Err(error),
+        Err(_) => Ok(FolderEntry::unknown(name)),
     }
 }
 
@@ -77,26 +100,31 @@ pub fn read_bytes<R: Files + AllocGlobal + Clone + Drop>(
     path: &str,
     most: u64,
 ) -> Result<Option<Vec<u8>>, AllocError> {
-    if !leads_to_file(rt, path) {
-        return Ok(None);
-    }
-    let file = match fs::open(rt, path) {
-        Ok(file) => file,
-        Err(error) => return none_for(error.kind()),
-    };
-    let mut bytes = Vec::new(rt.alloc());
-    match file.take(most).read_to_end(&mut bytes) {
-        Ok(_) => Ok(Some(bytes)),
+    match regular_bytes(rt, path, most) {
+        Ok(bytes) => Ok(bytes),
         Err(error) => none_for(error.kind()),
     }
 }
 
-/// Whether a path of the machine leads to a regular file.
-fn leads_to_file<R: Files + AllocGlobal + Clone + Drop>(rt: &R, path: &str) -> bool {
-    match fs::metadata(rt, path) {
-        Ok(found) => found.is_file(),
-        Err(_) => false,
+/// The first `most` bytes of a file at a path of this machine; `None` where it is no regular file. An interrupted opening and
+/// an interrupted reading are tried again by the library.
+fn regular_bytes<R: Files + AllocGlobal + Clone + Drop>(
+    rt: &R,
+    path: &str,
+    most: u64,
+) -> io::Result<Option<Vec<u8>>> {
+    // To open a pipe waits for one who writes into it, so what stands there is looked at before.
+    if !retried(|| fs::metadata(rt, path))?.is_file() {
+        return Ok(None);
     }
+    let file = fs::open(rt, path)?;
+    // Something else may stand there since.
+    if !retried(|| file.metadata())?.is_file() {
+        return Ok(None);
+    }
+    let mut bytes = Vec::new(rt.alloc());
+    file.take(most).read_to_end(&mut bytes)?;
+    Ok(Some(bytes))
 }
 
 /// What is answered where the machine fails: an error for want of memory, else that it cannot.

@@ -3,14 +3,16 @@
 
 mod folder;
 mod help;
+mod output;
 mod task;
 
 use clap::error::ErrorKind;
 use fisca_commands::{Ending, Task, run_task};
 use fisca_folder::{FolderFault, LONGEST, read_rules, text_of_file};
-use fisca_lines::StreamSink;
 use fisca_params::SourceFile;
+use fisca_writer::StreamSink;
 use folder::{DiskFolder, read_bytes};
+use output::{Output, Stream, fits};
 use std::io::{BufWriter, Write};
 use std::process::ExitCode;
 use std::{env, io};
@@ -59,8 +61,15 @@ fn print_text(rt: &HostRuntime, error: &clap::Error) -> u8 {
     if error.kind() == ErrorKind::OutOfMemory {
         return tell(rt, OUT_OF_MEMORY, NO_MEMORY);
     }
-    match error.print(rt) {
-        _ if error.use_stderr() => USAGE,
+    let Ok(text) = format!(in rt.alloc(); "{error}") else {
+        return tell(rt, OUT_OF_MEMORY, NO_MEMORY);
+    };
+    if error.use_stderr() {
+        print_error(rt, text.as_str());
+        return USAGE;
+    }
+    let mut output = Output::new(rt);
+    match output.write_all(text.as_bytes()) {
         Ok(()) => 0,
         Err(_) => tell(rt, NOT_WRITTEN, WRITE_FAILED),
     }
@@ -101,7 +110,7 @@ fn read_all(
 
 /// Runs a task over these files and this text, and answers the exit status.
 fn run_over(rt: &HostRuntime, task: &Task<'_>, files: &[SourceFile], text: &str) -> u8 {
-    let Ok(writer) = BufWriter::new(rt.alloc(), io::writer(rt)) else {
+    let Ok(writer) = BufWriter::new(rt.alloc(), Output::new(rt)) else {
         return tell(rt, OUT_OF_MEMORY, NO_MEMORY);
     };
     let mut sink = StreamSink::new(writer);
@@ -130,6 +139,16 @@ fn tell_folder(rt: &HostRuntime, rules: &str, fault: FolderFault) -> u8 {
 
 /// Writes a line on standard error, and answers the status. That standard error can't be written changes no status.
 fn tell(rt: &HostRuntime, line: &str, status: u8) -> u8 {
-    let _ = eprintln!(rt; "{line}");
+    // one more for the line feed
+    if fits(rt, Stream::Error, line.len().saturating_add(1)) {
+        let _ = eprintln!(rt; "{line}");
+    }
     status
+}
+
+/// Writes a text on standard error, if it can be written.
+fn print_error(rt: &HostRuntime, text: &str) {
+    if fits(rt, Stream::Error, text.len()) {
+        let _ = eprint!(rt; "{text}");
+    }
 }

@@ -1,7 +1,7 @@
 -- What stands between brackets.
 use Rattle.std.proofs.Common.{◌≡◌, List, [], ◌∷◌, Bool, true, false, refl}
-use Rattle.fisca_expressions.specs.Tree.{Argument}
-use Rattle.fisca_expressions.specs.Views.{series_of}
+use Rattle.fisca_ast.specs.Tree.{Argument}
+use Rattle.fisca_ast.specs.Views.{series_of}
 use Rattle.fisca_attributes.specs.Values.{items}
 
 -- what stands between brackets is what the commas part

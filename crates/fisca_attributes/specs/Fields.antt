@@ -1,6 +1,6 @@
 -- Fields, as the reader has them.
 use Rattle.std.specs.Prelude.{ℕ, List}
-use Rattle.fisca_expressions.specs.Views.{tree}
+use Rattle.fisca_ast.specs.Views.{tree}
 use Rattle.fisca_attributes.specs.declared.fields.Field.{Field as Found}
 use Rattle.fisca_attributes.specs.declared.fields.Form.{Form}
 use Rattle.fisca_attributes.specs.declared.fields.Form.TheVariants as form

@@ -1,17 +1,15 @@
 //! Attributes of variables, as they are written.
 
 ghost use Rattle.std.specs.Prelude.{◌≡◌, map, option_map};
-ghost use Rattle.fisca_expressions.specs.Views.{tree};
-ghost use Rattle.fisca_syntax.specs.Views.{item};
-ghost use Rattle.fisca_nodes.specs.Outcomes.{Gives};
+ghost use Rattle.fisca_ast.specs.Views.{tree};
+ghost use Rattle.fisca_ast.specs.ModuleViews.{item};
+ghost use Rattle.fisca_ast.specs.Outcomes.{Gives};
 ghost use Rattle.fisca_attributes.specs.AttributeForms as spec;
 
 use crate::values::name_value;
-use fisca_expressions::{Expr, bare};
-use fisca_syntax::Item;
-use fisca_tables::{SetInput, Text};
+use fisca_ast::{ClassLine, Expr, FormulaKind, bare};
+use fisca_symbols::{SetInput, SourceText};
 use fisca_time::Unit;
-use fisca_tokens::Kind;
 
 /// The name of a type.
 #[derive(Clone, Copy, Debug, PartialEq, Eq)]
@@ -31,7 +29,7 @@ pub enum TypeName {
 }
 
 #[tactic(auto, unfolding(crate::specs::AttributeForms::type_named))]
-fn type_named(name: &[u8]) -> Result<TypeName, Kind>
+fn type_named(name: &[u8]) -> Result<TypeName, FormulaKind>
     ensures { result ≡ spec.type_named name.now }
 {
     if name == b"float".as_slice() {
@@ -52,18 +50,18 @@ fn type_named(name: &[u8]) -> Result<TypeName, Kind>
     if name == b"Enum".as_slice() {
         return Ok(TypeName::Enum);
     }
-    Err(Kind::BadAttribute)
+    Err(FormulaKind::BadAttribute)
 }
 
 /// The name of a type.
-pub fn type_value(value: &Expr<'_>) -> Result<TypeName, Kind>
+pub fn type_value(value: &Expr<'_>) -> Result<TypeName, FormulaKind>
     ensures { result ≡ spec.type_value (tree value.now) }
 {
     type_named(name_value(value)?.as_bytes())
 }
 
 #[tactic(auto, unfolding(crate::specs::AttributeForms::period_named))]
-fn period_named(name: &[u8]) -> Result<Unit, Kind>
+fn period_named(name: &[u8]) -> Result<Unit, FormulaKind>
     ensures { result ≡ spec.period_named name.now }
 {
     if name == b"DAY".as_slice() {
@@ -78,11 +76,11 @@ fn period_named(name: &[u8]) -> Result<Unit, Kind>
     if name == b"ETERNITY".as_slice() {
         return Ok(Unit::Eternity);
     }
-    Err(Kind::BadAttribute)
+    Err(FormulaKind::BadAttribute)
 }
 
 /// The unit of this name behind a name, which is `DateUnit`.
-fn unit_of(name: &[u8], left: Result<Text<'_>, Kind>) -> Result<Unit, Kind>
+fn unit_of(name: &[u8], left: Result<SourceText<'_>, FormulaKind>) -> Result<Unit, FormulaKind>
     ensures { result ≡ spec.unit_of name.now left.entry }
 {
     match left {
@@ -90,15 +88,15 @@ fn unit_of(name: &[u8], left: Result<Text<'_>, Kind>) -> Result<Unit, Kind>
             if word.as_bytes() == b"DateUnit".as_slice() {
                 period_named(name)
             } else {
-                Err(Kind::BadAttribute)
+                Err(FormulaKind::BadAttribute)
             }
         }
-        Err(_) => Err(Kind::BadAttribute),
+        Err(_) => Err(FormulaKind::BadAttribute),
     }
 }
 
 /// A definition period, perhaps behind `DateUnit.`.
-pub fn period_value(value: &Expr<'_>) -> Result<Unit, Kind>
+pub fn period_value(value: &Expr<'_>) -> Result<Unit, FormulaKind>
     ensures { result ≡ spec.period_value (tree value.now) }
 {
     match bare(value) {
@@ -110,12 +108,12 @@ pub fn period_value(value: &Expr<'_>) -> Result<Unit, Kind>
         | Expr::Applied(_, _)
         | Expr::Prefixed(_, _)
         | Expr::Binary(_, _)
-        | Expr::Compare(_, _) => Err(Kind::BadAttribute),
+        | Expr::Compare(_, _) => Err(FormulaKind::BadAttribute),
     }
 }
 
 #[tactic(auto, unfolding(crate::specs::AttributeForms::sharing_named))]
-fn sharing_named(name: &[u8]) -> Result<SetInput, Kind>
+fn sharing_named(name: &[u8]) -> Result<SetInput, FormulaKind>
     ensures { result ≡ spec.sharing_named name.now }
 {
     if name == b"set_input_divide_by_period".as_slice() {
@@ -124,22 +122,22 @@ fn sharing_named(name: &[u8]) -> Result<SetInput, Kind>
     if name == b"set_input_dispatch_by_period".as_slice() {
         return Ok(SetInput::DispatchByPeriod);
     }
-    Err(Kind::BadAttribute)
+    Err(FormulaKind::BadAttribute)
 }
 
 /// How longer inputs are shared.
-pub fn sharing_value(value: &Expr<'_>) -> Result<SetInput, Kind>
+pub fn sharing_value(value: &Expr<'_>) -> Result<SetInput, FormulaKind>
     ensures { result ≡ spec.sharing_value (tree value.now) }
 {
     sharing_named(name_value(value)?.as_bytes())
 }
 
 /// The value of the first attribute of this name.
-pub fn value_at<'e, 'a>(name: &[u8], items: &'e [Item<'a>]) -> Option<&'e Expr<'a>>
+pub fn value_at<'e, 'a>(name: &[u8], items: &'e [ClassLine<'a>]) -> Option<&'e Expr<'a>>
     ensures { option_map (λ e. tree e.now) result ≡ spec.value_at name.now (map item items.now) }
 {
     for one in items {
-        if let Item::Attribute(attribute) = one {
+        if let ClassLine::Attribute(attribute) = one {
             if attribute.name.as_bytes() == name {
                 return Some(&attribute.value);
             }

@@ -2,19 +2,18 @@
 
 ghost use Rattle.std.specs.Prelude.{◌≡◌, Some, map};
 ghost use Rattle.std.specs.Result.{result_ok};
-ghost use Rattle.fisca_expressions.specs.Groups.{bare as bare_tree};
-ghost use Rattle.fisca_expressions.specs.Views.{tree, argument_view};
-ghost use Rattle.fisca_nodes.specs.Outcomes.{Gives};
+ghost use Rattle.fisca_ast.specs.Groups.{bare as bare_tree};
+ghost use Rattle.fisca_ast.specs.Views.{tree, argument_view};
+ghost use Rattle.fisca_ast.specs.Outcomes.{Gives};
 ghost use Rattle.fisca_attributes.specs.Values as spec;
 ghost use Rattle.fisca_time.specs.Instant.{instant_of_text, instant_if_real};
 
 use crate::dotted::Dotted;
 use crate::lists::{items_of, positional};
 use crate::values::{name_value, text_value, whole_value};
-use fisca_expressions::{Argument, Expr, Suffix, bare};
-use fisca_tables::Text;
+use fisca_ast::{Argument, Expr, FormulaKind, Suffix, bare};
+use fisca_symbols::SourceText;
 use fisca_time::Instant;
-use fisca_tokens::Kind;
 use std::alloc::Global;
 
 /// The instant that a text says, if it does.
@@ -28,21 +27,21 @@ fn instant_of(text: &[u8]) -> Option<Instant>
 }
 
 /// A text with an instant.
-pub fn instant_value(alloc: Global, value: &Expr<'_>) -> Result<Instant, Kind>
+pub fn instant_value(alloc: Global, value: &Expr<'_>) -> Result<Instant, FormulaKind>
     ensures { Gives (λ d. d) (spec.instant_value (tree value.now)) result }
 {
     let text = text_value(alloc, value)?;
-    instant_of(text.as_bytes()).ok_or(Kind::BadAttribute)
+    instant_of(text.as_bytes()).ok_or(FormulaKind::BadAttribute)
 }
 
 /// Two names with a point between them.
-pub fn dotted_value<'a>(value: &Expr<'a>) -> Result<Dotted<'a>, Kind>
+pub fn dotted_value<'a>(value: &Expr<'a>) -> Result<Dotted<'a>, FormulaKind>
     ensures { Gives (λ d. d) (spec.dotted_value (tree value.now)) result }
 {
     match bare(value) {
         Expr::Attribute(access) => Ok(Dotted {
             left: name_value(&access.front)?,
-            right: Text::borrowed(access.name.as_bytes()),
+            right: SourceText::borrowed(access.name.as_bytes()),
         }),
         Expr::Name(_)
         | Expr::Number(_)
@@ -51,12 +50,12 @@ pub fn dotted_value<'a>(value: &Expr<'a>) -> Result<Dotted<'a>, Kind>
         | Expr::Applied(_, _)
         | Expr::Prefixed(_, _)
         | Expr::Binary(_, _)
-        | Expr::Compare(_, _) => Err(Kind::BadAttribute),
+        | Expr::Compare(_, _) => Err(FormulaKind::BadAttribute),
     }
 }
 
 /// Whole numbers without sign.
-fn each_whole(alloc: Global, items: &[Argument<'_>]) -> Result<Vec<u64>, Kind>
+fn each_whole(alloc: Global, items: &[Argument<'_>]) -> Result<Vec<u64>, FormulaKind>
     ensures { Gives (λ v. v.items) (spec.each spec.whole_value (map argument_view items.now)) result }
 {
     let mut found = Vec::new(alloc);
@@ -77,12 +76,12 @@ fn day_of(year: u64, month: u64, day: u64) -> Option<Instant>
 }
 
 /// A year, a month and a day.
-fn date_of_numbers(numbers: &[u64]) -> Result<Instant, Kind>
+fn date_of_numbers(numbers: &[u64]) -> Result<Instant, FormulaKind>
     ensures { result ≡ spec.date_of_numbers numbers.now }
 {
     match numbers {
-        [year, month, day] => day_of(*year, *month, *day).ok_or(Kind::BadAttribute),
-        _ => Err(Kind::BadAttribute),
+        [year, month, day] => day_of(*year, *month, *day).ok_or(FormulaKind::BadAttribute),
+        _ => Err(FormulaKind::BadAttribute),
     }
 }
 
@@ -104,13 +103,13 @@ fn is_date(called: &Expr<'_>) -> bool
 }
 
 /// `date(n, n, n)`, a day of the calendar.
-pub fn date_value(alloc: Global, value: &Expr<'_>) -> Result<Instant, Kind>
+pub fn date_value(alloc: Global, value: &Expr<'_>) -> Result<Instant, FormulaKind>
     ensures { Gives (λ d. d) (spec.date_value (tree value.now)) result }
 {
     match bare(value) {
         Expr::Applied(Suffix::Call, call) => {
             if !is_date(&call.front) {
-                return Err(Kind::BadAttribute);
+                return Err(FormulaKind::BadAttribute);
             }
             let numbers = each_whole(alloc, items_of(&call.behind))?;
             date_of_numbers(numbers.as_slice())
@@ -123,6 +122,6 @@ pub fn date_value(alloc: Global, value: &Expr<'_>) -> Result<Instant, Kind>
         | Expr::Attribute(_)
         | Expr::Prefixed(_, _)
         | Expr::Binary(_, _)
-        | Expr::Compare(_, _) => Err(Kind::BadAttribute),
+        | Expr::Compare(_, _) => Err(FormulaKind::BadAttribute),
     }
 }

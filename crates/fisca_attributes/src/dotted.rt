@@ -1,12 +1,12 @@
 //! Names with a point.
 
-use fisca_tables::Text;
+use fisca_symbols::SourceText;
 
 /// Two names with a point between them.
 #[derive(Drop)]
 pub struct Dotted<'a> {
     /// Before the point.
-    pub left: Text<'a>,
+    pub left: SourceText<'a>,
     /// Behind it.
-    pub right: Text<'a>,
+    pub right: SourceText<'a>,
 }

@@ -1,35 +1,36 @@
 //! Entities and their roles, as they are written.
 
 ghost use Rattle.std.specs.Prelude.{◌≡◌, ◌==◌, [], false, length, map, option_map};
-ghost use Rattle.fisca_expressions.specs.Groups.{bare as bare_tree};
-ghost use Rattle.fisca_expressions.specs.Views.{tree, argument_view};
-ghost use Rattle.fisca_syntax.specs.Views.{assigned};
+ghost use Rattle.fisca_ast.specs.Groups.{bare as bare_tree};
+ghost use Rattle.fisca_ast.specs.Views.{tree, argument_view};
+ghost use Rattle.fisca_ast.specs.ModuleViews.{assigned};
 ghost use Rattle.fisca_attributes.specs.EntityForms as spec;
 ghost use Rattle.fisca_attributes.specs.Fields.{field_view};
-ghost use Rattle.fisca_nodes.specs.Outcomes.{Gives};
+ghost use Rattle.fisca_ast.specs.Outcomes.{Gives};
 ghost use Rattle.fisca_attributes.specs.Values.{each, needed, or_else, perhaps, text_value as text_said, truth_value as truth_said, count_value as count_said, texts_value as texts_said, list_value};
 
 use crate::fields::{Field, Form, read_fields, value_of};
 use crate::lists::{items_of, list_of, positional, texts_value};
 use crate::values::{count_value, text_value, truth_value};
-use fisca_expressions::{Argument, Bracket, Expr, bare};
-use fisca_syntax::Assignment;
-use fisca_tables::{Entity, Role, Roles, Text, Texts};
-use fisca_tokens::Kind;
+use fisca_ast::{Argument, Assignment, Bracket, Expr, FormulaKind, bare};
+use fisca_symbols::{Entity, Role, Roles, SourceText, Texts};
 use std::alloc::Global;
 
 /// A text that has to be there.
-fn needed_text<'a>(alloc: Global, value: Option<&Expr<'a>>) -> Result<Text<'a>, Kind>
+fn needed_text<'a>(alloc: Global, value: Option<&Expr<'a>>) -> Result<SourceText<'a>, FormulaKind>
     ensures { Gives (λ t. t) (needed text_said (option_map (λ e. tree e.now) value.entry)) result }
 {
     match value {
         Some(found) => text_value(alloc, found),
-        None => Err(Kind::BadAttribute),
+        None => Err(FormulaKind::BadAttribute),
     }
 }
 
 /// A text that may be there.
-pub fn perhaps_text<'a>(alloc: Global, value: Option<&Expr<'a>>) -> Result<Option<Text<'a>>, Kind>
+pub fn perhaps_text<'a>(
+    alloc: Global,
+    value: Option<&Expr<'a>>,
+) -> Result<Option<SourceText<'a>>, FormulaKind>
     ensures { Gives (λ t. t) (perhaps text_said (option_map (λ e. tree e.now) value.entry)) result }
 {
     match value {
@@ -39,7 +40,7 @@ pub fn perhaps_text<'a>(alloc: Global, value: Option<&Expr<'a>>) -> Result<Optio
 }
 
 /// A whole number from 1 that may be there.
-fn perhaps_count(value: Option<&Expr<'_>>) -> Result<Option<u64>, Kind>
+fn perhaps_count(value: Option<&Expr<'_>>) -> Result<Option<u64>, FormulaKind>
     ensures { Gives (λ n. n) (perhaps count_said (option_map (λ e. tree e.now) value.entry)) result }
 {
     match value {
@@ -49,7 +50,7 @@ fn perhaps_count(value: Option<&Expr<'_>>) -> Result<Option<u64>, Kind>
 }
 
 /// Subroles, or none.
-fn subroles_value<'a>(alloc: Global, value: Option<&Expr<'a>>) -> Result<Texts<'a>, Kind>
+fn subroles_value<'a>(alloc: Global, value: Option<&Expr<'a>>) -> Result<Texts<'a>, FormulaKind>
     ensures { Gives (λ t. t) (or_else [] texts_said (option_map (λ e. tree e.now) value.entry)) result }
 {
     match value {
@@ -59,7 +60,7 @@ fn subroles_value<'a>(alloc: Global, value: Option<&Expr<'a>>) -> Result<Texts<'
 }
 
 /// `True` or `False`, which may be there.
-fn person_value(value: Option<&Expr<'_>>) -> Result<bool, Kind>
+fn person_value(value: Option<&Expr<'_>>) -> Result<bool, FormulaKind>
     ensures { Gives (λ b. b) (or_else false truth_said (option_map (λ e. tree e.now) value.entry)) result }
 {
     match value {
@@ -69,7 +70,7 @@ fn person_value(value: Option<&Expr<'_>>) -> Result<bool, Kind>
 }
 
 /// A role, by its fields.
-fn role_of_fields<'a>(alloc: Global, fields: &[Field<'_, 'a>]) -> Result<Role<'a>, Kind>
+fn role_of_fields<'a>(alloc: Global, fields: &[Field<'_, 'a>]) -> Result<Role<'a>, FormulaKind>
     ensures { Gives (λ r. r) (spec.role_of_fields (map field_view fields.now)) result }
 {
     let key = needed_text(alloc, value_of(b"key".as_slice(), fields))?;
@@ -89,7 +90,7 @@ fn role_of_fields<'a>(alloc: Global, fields: &[Field<'_, 'a>]) -> Result<Role<'a
 }
 
 /// What stands in curly brackets.
-fn map_of<'e, 'a>(value: &'e Expr<'a>) -> Result<&'e [Argument<'a>], Kind>
+fn map_of<'e, 'a>(value: &'e Expr<'a>) -> Result<&'e [Argument<'a>], FormulaKind>
     ensures { Gives (λ xs. map argument_view xs.now) (spec.mapped (tree value.now)) result }
 {
     match bare(value) {
@@ -102,12 +103,12 @@ fn map_of<'e, 'a>(value: &'e Expr<'a>) -> Result<&'e [Argument<'a>], Kind>
         | Expr::Applied(_, _)
         | Expr::Prefixed(_, _)
         | Expr::Binary(_, _)
-        | Expr::Compare(_, _) => Err(Kind::BadAttribute),
+        | Expr::Compare(_, _) => Err(FormulaKind::BadAttribute),
     }
 }
 
 /// A role: a map `{"key": "..", ..}`.
-fn role_value<'a>(alloc: Global, value: &Expr<'a>) -> Result<Role<'a>, Kind>
+fn role_value<'a>(alloc: Global, value: &Expr<'a>) -> Result<Role<'a>, FormulaKind>
     ensures { Gives (λ r. r) (spec.role_value (tree value.now)) result }
 {
     let found = read_fields(alloc, Form::Role, map_of(value)?)?;
@@ -115,7 +116,7 @@ fn role_value<'a>(alloc: Global, value: &Expr<'a>) -> Result<Role<'a>, Kind>
 }
 
 /// Roles in order.
-fn each_role<'a>(alloc: Global, items: &[Argument<'a>]) -> Result<Vec<Role<'a>>, Kind>
+fn each_role<'a>(alloc: Global, items: &[Argument<'a>]) -> Result<Vec<Role<'a>>, FormulaKind>
     ensures { Gives (λ v. v.items) (each spec.role_value (map argument_view items.now)) result }
 {
     let mut roles = Vec::new(alloc);
@@ -126,7 +127,7 @@ fn each_role<'a>(alloc: Global, items: &[Argument<'a>]) -> Result<Vec<Role<'a>>,
 }
 
 /// A list of roles, or none.
-fn roles_value<'a>(alloc: Global, value: Option<&Expr<'a>>) -> Result<Roles<'a>, Kind>
+fn roles_value<'a>(alloc: Global, value: Option<&Expr<'a>>) -> Result<Roles<'a>, FormulaKind>
     ensures { Gives (λ r. r) (or_else [] (list_value spec.role_value) (option_map (λ e. tree e.now) value.entry)) result }
 {
     let items = match value {
@@ -150,9 +151,9 @@ fn roles_fit(is_person: bool, roles: &[Role<'_>]) -> bool
 /// An entity, by its fields.
 fn entity_of_fields<'a>(
     alloc: Global,
-    constant: Text<'a>,
+    constant: SourceText<'a>,
     fields: &[Field<'_, 'a>],
-) -> Result<Entity<'a>, Kind>
+) -> Result<Entity<'a>, FormulaKind>
     ensures { Gives (λ e. e) (spec.entity_of_fields constant.entry (map field_view fields.now)) result }
 {
     let key = needed_text(alloc, value_of(b"key".as_slice(), fields))?;
@@ -162,7 +163,7 @@ fn entity_of_fields<'a>(
     let is_person = person_value(value_of(b"is_person".as_slice(), fields))?;
     let roles = roles_value(alloc, value_of(b"roles".as_slice(), fields))?;
     if !roles_fit(is_person, roles.as_slice()) {
-        return Err(Kind::BadAttribute);
+        return Err(FormulaKind::BadAttribute);
     }
     Ok(Entity {
         constant,
@@ -193,13 +194,13 @@ fn arguments_of<'e, 'a>(value: &'e Expr<'a>) -> &'e [Argument<'a>]
 }
 
 /// `NAME = build_entity(..)`
-pub fn entity_of<'a>(alloc: Global, written: &Assignment<'a>) -> Result<Entity<'a>, Kind>
+pub fn entity_of<'a>(alloc: Global, written: &Assignment<'a>) -> Result<Entity<'a>, FormulaKind>
     ensures { Gives (λ e. e) (spec.entity_of (assigned written.now)) result }
 {
     let found = read_fields(alloc, Form::Entity, arguments_of(&written.value))?;
     entity_of_fields(
         alloc,
-        Text::borrowed(written.name.as_bytes()),
+        SourceText::borrowed(written.name.as_bytes()),
         found.as_slice(),
     )
 }

@@ -1,21 +1,20 @@
 //! Fields: arguments by keyword of a call, and entries of a map.
 
 ghost use Rattle.std.specs.Prelude.{◌≡◌, [], map, option_map};
-ghost use Rattle.fisca_expressions.specs.Views.{tree, argument_view};
+ghost use Rattle.fisca_ast.specs.Views.{tree, argument_view};
 ghost use Rattle.fisca_attributes.specs.Fields.{labels, field_view};
-ghost use Rattle.fisca_nodes.specs.Outcomes.{Gives};
+ghost use Rattle.fisca_ast.specs.Outcomes.{Gives};
 ghost use Rattle.fisca_attributes.specs.Values as spec;
 
 use crate::values::text_value;
-use fisca_expressions::{Argument, Expr};
-use fisca_tables::Text;
-use fisca_tokens::Kind;
+use fisca_ast::{Argument, Expr, FormulaKind};
+use fisca_symbols::SourceText;
 use std::alloc::Global;
 
 /// A label, and the value behind it.
 #[derive(Drop)]
 pub(crate) struct Field<'e, 'a> {
-    pub label: Text<'a>,
+    pub label: SourceText<'a>,
     pub value: &'e Expr<'a>,
 }
 
@@ -46,13 +45,13 @@ fn is_label(form: Form, label: &[u8]) -> bool
 }
 
 /// The field that an argument is.
-fn field_of<'e, 'a>(alloc: Global, argument: &'e Argument<'a>) -> Result<Field<'e, 'a>, Kind>
+fn field_of<'e, 'a>(alloc: Global, argument: &'e Argument<'a>) -> Result<Field<'e, 'a>, FormulaKind>
     ensures { Gives field_view (spec.field (argument_view argument.now)) result }
 {
     match argument {
-        Argument::Positional(_) => Err(Kind::BadAttribute),
+        Argument::Positional(_) => Err(FormulaKind::BadAttribute),
         Argument::Keyword(label, value) => Ok(Field {
-            label: Text::borrowed(label.as_bytes()),
+            label: SourceText::borrowed(label.as_bytes()),
             value,
         }),
         Argument::Entry(label, value) => Ok(Field {
@@ -79,12 +78,12 @@ fn if_new<'e, 'a>(
     form: Form,
     earlier: &[Field<'e, 'a>],
     field: Field<'e, 'a>,
-) -> Result<Field<'e, 'a>, Kind>
+) -> Result<Field<'e, 'a>, FormulaKind>
     ensures { Gives field_view (spec.if_new (labels form) (map field_view earlier.now) (field_view field.entry)) result }
 {
     let known = is_label(form, field.label.as_bytes());
     if !known || is_labelled(field.label.as_bytes(), earlier) {
-        return Err(Kind::BadAttribute);
+        return Err(FormulaKind::BadAttribute);
     }
     Ok(field)
 }
@@ -94,7 +93,7 @@ pub(crate) fn read_fields<'e, 'a>(
     alloc: Global,
     form: Form,
     items: &'e [Argument<'a>],
-) -> Result<Vec<Field<'e, 'a>>, Kind>
+) -> Result<Vec<Field<'e, 'a>>, FormulaKind>
     ensures { Gives (λ v. map field_view v.items) (spec.fields_from (labels form) [] (map argument_view items.now)) result }
 {
     let mut found = Vec::new(alloc);

@@ -1,14 +1,13 @@
 //! Lists of values, as they are written.
 
 ghost use Rattle.std.specs.Prelude.{◌≡◌, map};
-ghost use Rattle.fisca_expressions.specs.Views.{tree, argument_view, series_of, series_view};
-ghost use Rattle.fisca_nodes.specs.Outcomes.{Gives};
+ghost use Rattle.fisca_ast.specs.Views.{tree, argument_view, series_of, series_view};
+ghost use Rattle.fisca_ast.specs.Outcomes.{Gives};
 ghost use Rattle.fisca_attributes.specs.Values as spec;
 
 use crate::values::text_value;
-use fisca_expressions::{Argument, Arguments, Bracket, Expr, bare};
-use fisca_tables::{Text, Texts};
-use fisca_tokens::Kind;
+use fisca_ast::{Argument, Arguments, Bracket, Expr, FormulaKind, bare};
+use fisca_symbols::{SourceText, Texts};
 use std::alloc::Global;
 
 /// What the commas part, whether one follows the last or not.
@@ -28,17 +27,17 @@ pub fn items_of<'e, 'a>(inside: &'e Arguments<'a>) -> &'e [Argument<'a>]
 }
 
 /// A value that stands without a label.
-pub fn positional<'e, 'a>(argument: &'e Argument<'a>) -> Result<&'e Expr<'a>, Kind>
+pub fn positional<'e, 'a>(argument: &'e Argument<'a>) -> Result<&'e Expr<'a>, FormulaKind>
     ensures { Gives (λ e. tree e.now) (spec.position (argument_view argument.now)) result }
 {
     match argument {
         Argument::Positional(value) => Ok(value),
-        Argument::Keyword(_, _) | Argument::Entry(_, _) => Err(Kind::BadAttribute),
+        Argument::Keyword(_, _) | Argument::Entry(_, _) => Err(FormulaKind::BadAttribute),
     }
 }
 
 /// Texts in quotes.
-fn each_text<'a>(alloc: Global, items: &[Argument<'a>]) -> Result<Vec<Text<'a>>, Kind>
+fn each_text<'a>(alloc: Global, items: &[Argument<'a>]) -> Result<Vec<SourceText<'a>>, FormulaKind>
     ensures { Gives (λ v. v.items) (spec.each spec.text_value (map argument_view items.now)) result }
 {
     let mut texts = Vec::new(alloc);
@@ -49,7 +48,7 @@ fn each_text<'a>(alloc: Global, items: &[Argument<'a>]) -> Result<Vec<Text<'a>>,
 }
 
 /// What stands in square brackets.
-pub fn list_of<'e, 'a>(value: &'e Expr<'a>) -> Result<&'e [Argument<'a>], Kind>
+pub fn list_of<'e, 'a>(value: &'e Expr<'a>) -> Result<&'e [Argument<'a>], FormulaKind>
     ensures { Gives (λ xs. map argument_view xs.now) (spec.listed (tree value.now)) result }
 {
     match bare(value) {
@@ -62,23 +61,23 @@ pub fn list_of<'e, 'a>(value: &'e Expr<'a>) -> Result<&'e [Argument<'a>], Kind>
         | Expr::Applied(_, _)
         | Expr::Prefixed(_, _)
         | Expr::Binary(_, _)
-        | Expr::Compare(_, _) => Err(Kind::BadAttribute),
+        | Expr::Compare(_, _) => Err(FormulaKind::BadAttribute),
     }
 }
 
 /// At least one text, in square brackets.
-pub fn texts_value<'a>(alloc: Global, value: &Expr<'a>) -> Result<Texts<'a>, Kind>
+pub fn texts_value<'a>(alloc: Global, value: &Expr<'a>) -> Result<Texts<'a>, FormulaKind>
     ensures { Gives (λ t. t) (spec.texts_value (tree value.now)) result }
 {
     let texts = each_text(alloc, list_of(value)?)?;
     if texts.is_empty() {
-        return Err(Kind::BadAttribute);
+        return Err(FormulaKind::BadAttribute);
     }
     Ok(Texts::new(texts))
 }
 
 /// A text, or a list or tuple of texts.
-pub fn references_value<'a>(alloc: Global, value: &Expr<'a>) -> Result<Texts<'a>, Kind>
+pub fn references_value<'a>(alloc: Global, value: &Expr<'a>) -> Result<Texts<'a>, FormulaKind>
     ensures { Gives (λ t. t) (spec.references_value (tree value.now)) result }
 {
     match bare(value) {
@@ -97,6 +96,6 @@ pub fn references_value<'a>(alloc: Global, value: &Expr<'a>) -> Result<Texts<'a>
         | Expr::Applied(_, _)
         | Expr::Prefixed(_, _)
         | Expr::Binary(_, _)
-        | Expr::Compare(_, _) => Err(Kind::BadAttribute),
+        | Expr::Compare(_, _) => Err(FormulaKind::BadAttribute),
     }
 }

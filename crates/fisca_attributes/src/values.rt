@@ -1,23 +1,21 @@
 //! Values of arguments and attributes, as they are written.
 
 ghost use Rattle.std.specs.Prelude.{◌≡◌, Ok, map, option_map};
-ghost use Rattle.fisca_expressions.specs.Views.{tree, argument_view, series_of};
-ghost use Rattle.fisca_nodes.specs.Outcomes.{Gives};
+ghost use Rattle.fisca_ast.specs.Views.{tree, argument_view, series_of};
+ghost use Rattle.fisca_ast.specs.Outcomes.{Gives};
 ghost use Rattle.fisca_attributes.specs.Values as spec;
 
-use fisca_expressions::{Argument, Bracket, Expr, Prefix, bare, is_name};
-use fisca_nodes::content;
+use fisca_ast::{Argument, Bracket, Expr, FormulaKind, Prefix, bare, content, is_name};
 use fisca_num::{Fraction, NumFault};
-use fisca_tables::Text;
-use fisca_tokens::Kind;
+use fisca_symbols::SourceText;
 use std::alloc::Global;
 
 /// A text in quotes.
-pub fn text_value<'a>(alloc: Global, value: &Expr<'a>) -> Result<Text<'a>, Kind>
+pub fn text_value<'a>(alloc: Global, value: &Expr<'a>) -> Result<SourceText<'a>, FormulaKind>
     ensures { Gives (λ t. t) (spec.text_value (tree value.now)) result }
 {
     match bare(value) {
-        Expr::Text(source) => Ok(Text::owned(content(alloc, source.as_bytes())?)),
+        Expr::Text(source) => Ok(SourceText::owned(content(alloc, source.as_bytes())?)),
         Expr::Name(_)
         | Expr::Number(_)
         | Expr::Bracketed(_, _)
@@ -25,12 +23,12 @@ pub fn text_value<'a>(alloc: Global, value: &Expr<'a>) -> Result<Text<'a>, Kind>
         | Expr::Applied(_, _)
         | Expr::Prefixed(_, _)
         | Expr::Binary(_, _)
-        | Expr::Compare(_, _) => Err(Kind::BadAttribute),
+        | Expr::Compare(_, _) => Err(FormulaKind::BadAttribute),
     }
 }
 
 #[tactic(auto, unfolding(crate::specs::Values::truth_of))]
-fn truth_of(word: &[u8]) -> Result<bool, Kind>
+fn truth_of(word: &[u8]) -> Result<bool, FormulaKind>
     ensures { result ≡ spec.truth_of word.now }
 {
     if word == b"True".as_slice() {
@@ -39,11 +37,11 @@ fn truth_of(word: &[u8]) -> Result<bool, Kind>
     if word == b"False".as_slice() {
         return Ok(false);
     }
-    Err(Kind::BadAttribute)
+    Err(FormulaKind::BadAttribute)
 }
 
 /// `True` or `False`.
-pub fn truth_value(value: &Expr<'_>) -> Result<bool, Kind>
+pub fn truth_value(value: &Expr<'_>) -> Result<bool, FormulaKind>
     ensures { result ≡ spec.truth_value (tree value.now) }
 {
     match bare(value) {
@@ -55,20 +53,20 @@ pub fn truth_value(value: &Expr<'_>) -> Result<bool, Kind>
         | Expr::Applied(_, _)
         | Expr::Prefixed(_, _)
         | Expr::Binary(_, _)
-        | Expr::Compare(_, _) => Err(Kind::BadAttribute),
+        | Expr::Compare(_, _) => Err(FormulaKind::BadAttribute),
     }
 }
 
 /// A name.
-pub fn name_value<'a>(value: &Expr<'a>) -> Result<Text<'a>, Kind>
+pub fn name_value<'a>(value: &Expr<'a>) -> Result<SourceText<'a>, FormulaKind>
     ensures { result ≡ spec.name_value (tree value.now) }
 {
     match bare(value) {
         Expr::Name(word) => {
             if is_name(word.as_bytes()) {
-                Ok(Text::borrowed(word.as_bytes()))
+                Ok(SourceText::borrowed(word.as_bytes()))
             } else {
-                Err(Kind::BadAttribute)
+                Err(FormulaKind::BadAttribute)
             }
         }
         Expr::Number(_)
@@ -78,21 +76,21 @@ pub fn name_value<'a>(value: &Expr<'a>) -> Result<Text<'a>, Kind>
         | Expr::Applied(_, _)
         | Expr::Prefixed(_, _)
         | Expr::Binary(_, _)
-        | Expr::Compare(_, _) => Err(Kind::BadAttribute),
+        | Expr::Compare(_, _) => Err(FormulaKind::BadAttribute),
     }
 }
 
-fn number_said(said: Result<Fraction, NumFault>) -> Result<Fraction, Kind>
+fn number_said(said: Result<Fraction, NumFault>) -> Result<Fraction, FormulaKind>
     ensures { result ≡ spec.number_said said }
 {
     match said {
         Ok(number) => Ok(number),
-        Err(_) => Err(Kind::BadAttribute),
+        Err(_) => Err(FormulaKind::BadAttribute),
     }
 }
 
 /// A number without sign.
-fn unsigned_value(value: &Expr<'_>) -> Result<Fraction, Kind>
+fn unsigned_value(value: &Expr<'_>) -> Result<Fraction, FormulaKind>
     ensures { result ≡ spec.unsigned_value (tree value.now) }
 {
     match bare(value) {
@@ -104,21 +102,24 @@ fn unsigned_value(value: &Expr<'_>) -> Result<Fraction, Kind>
         | Expr::Applied(_, _)
         | Expr::Prefixed(_, _)
         | Expr::Binary(_, _)
-        | Expr::Compare(_, _) => Err(Kind::BadAttribute),
+        | Expr::Compare(_, _) => Err(FormulaKind::BadAttribute),
     }
 }
 
-fn with_prefix(prefix: Prefix, number: Result<Fraction, Kind>) -> Result<Fraction, Kind>
+fn with_prefix(
+    prefix: Prefix,
+    number: Result<Fraction, FormulaKind>,
+) -> Result<Fraction, FormulaKind>
     ensures { result ≡ spec.with_prefix prefix number }
 {
     match prefix {
         Prefix::Minus => Ok(number?.neg()),
-        Prefix::Plus | Prefix::Not => Err(Kind::BadAttribute),
+        Prefix::Plus | Prefix::Not => Err(FormulaKind::BadAttribute),
     }
 }
 
 /// A number, perhaps with `-`.
-pub fn number_value(value: &Expr<'_>) -> Result<Fraction, Kind>
+pub fn number_value(value: &Expr<'_>) -> Result<Fraction, FormulaKind>
     ensures { result ≡ spec.number_value (tree value.now) }
 {
     match bare(value) {
@@ -130,34 +131,34 @@ pub fn number_value(value: &Expr<'_>) -> Result<Fraction, Kind>
         | Expr::Attribute(_)
         | Expr::Applied(_, _)
         | Expr::Binary(_, _)
-        | Expr::Compare(_, _) => Err(Kind::BadAttribute),
+        | Expr::Compare(_, _) => Err(FormulaKind::BadAttribute),
     }
 }
 
 /// The natural number that a number is.
-fn natural(number: Fraction) -> Result<u64, Kind>
+fn natural(number: Fraction) -> Result<u64, FormulaKind>
     ensures { result ≡ spec.natural number }
 {
     if number.denominator() != 1 || number.numerator() < 0 {
-        return Err(Kind::BadAttribute);
+        return Err(FormulaKind::BadAttribute);
     }
     Ok(number.numerator() as u64)
 }
 
 /// A whole number without sign.
-pub(crate) fn whole_value(value: &Expr<'_>) -> Result<u64, Kind>
+pub(crate) fn whole_value(value: &Expr<'_>) -> Result<u64, FormulaKind>
     ensures { result ≡ spec.whole_value (tree value.now) }
 {
     natural(unsigned_value(value)?)
 }
 
 /// A whole number from 1.
-pub fn count_value(value: &Expr<'_>) -> Result<u64, Kind>
+pub fn count_value(value: &Expr<'_>) -> Result<u64, FormulaKind>
     ensures { result ≡ spec.count_value (tree value.now) }
 {
     let count = whole_value(value)?;
     if count == 0 {
-        return Err(Kind::BadAttribute);
+        return Err(FormulaKind::BadAttribute);
     }
     Ok(count)
 }

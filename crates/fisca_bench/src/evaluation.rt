@@ -1,20 +1,21 @@
 //! Working out the columns of the files that `bench/texts/evaluation` writes.
 ghost use Rattle.std.specs.Prelude.{◌≡◌};
-ghost use Rattle.fisca_eval.specs.Evaluators.{simulation_of};
-ghost use Rattle.fisca_memo.specs.Evaluators.{IsMemoryOf, marks_in, simulation_of as remembering_in};
+ghost use Rattle.fisca_simulation.specs.Evaluators.{simulation_of};
+ghost use Rattle.fisca_evaluator.specs.Evaluators.{IsMemoryOf, marks_in, simulation_of as remembering_in};
 ghost use Rattle.fisca_rules.specs.Views.{rule_set};
 ghost use Rattle.fisca_situations.specs.Views.{situation as situation_view};
-ghost use Rattle.fisca_eval.specs.Sound.{InputsFit, IsSafeRules};
+ghost use Rattle.fisca_simulation.specs.Sound.{InputsFit, IsSafeRules};
 
 use crate::params::{files_of, mixed};
 use crate::rules::rules_of;
 use crate::{Measured, list, show};
-use fisca_calc::CalcFile;
-use fisca_eval::{EvalFault, Evaluator, calc_inputs_fit};
-use fisca_inputs::{Key, Value};
-use fisca_memo::{Evaluator as Remembering, IndexRecall, Recall};
+use fisca_columns::CalcFile;
+use fisca_commands::calc_inputs_fit;
+use fisca_evaluator::{IndexRecall, PlainEvaluator as Remembering, Recall};
+use fisca_model::{EvalFault, Key, Value};
 use fisca_params::SourceFile;
 use fisca_rules::RuleSet;
+use fisca_simulation::PlainEvaluator;
 use fisca_situations::Situation;
 use fisca_yaml::Tree;
 use std::alloc::Global;
@@ -171,12 +172,12 @@ fn forgotten(
     requires safe { IsSafeRules (rule_set rules.now) }
     requires fit { InputsFit (rule_set rules.now) (situation_view situation) }
 {
-    let mut evaluator = Evaluator::new(alloc, rules, &[], situation);
+    let mut evaluator = PlainEvaluator::new(alloc, rules, &[], situation);
     worked_out(&mut evaluator, columns, rounds)
 }
 
 /// Works the columns out so often. The checksum is of their values.
-fn worked_out(evaluator: &mut Evaluator<'_, '_>, columns: &[Key], rounds: u64) -> u64
+fn worked_out(evaluator: &mut PlainEvaluator<'_, '_>, columns: &[Key], rounds: u64) -> u64
     requires safe { IsSafeRules (simulation_of evaluator.old).rules }
     requires fit { InputsFit (simulation_of evaluator.old).rules (simulation_of evaluator.old).situation }
 {
@@ -188,7 +189,7 @@ fn worked_out(evaluator: &mut Evaluator<'_, '_>, columns: &[Key], rounds: u64) -
 }
 
 /// Works the columns out once more.
-fn worked_out_once(evaluator: &mut Evaluator<'_, '_>, columns: &[Key], before: u64) -> u64
+fn worked_out_once(evaluator: &mut PlainEvaluator<'_, '_>, columns: &[Key], before: u64) -> u64
     requires safe { IsSafeRules (simulation_of evaluator.old).rules }
     requires fit { InputsFit (simulation_of evaluator.old).rules (simulation_of evaluator.old).situation }
     ensures { simulation_of evaluator.new ≡ simulation_of evaluator.old }

@@ -1,7 +1,9 @@
 //! Reading of modules, which `bench/texts/modules` and `fuzz/run modules` write.
 use crate::{Measured, list, show};
-use fisca_expressions::{Argument, Arguments, Expr, Slice};
-use fisca_syntax::{Assignment, Formula, Item, Member, Statement, read_module};
+use fisca_ast::{
+    Argument, Arguments, Assignment, ClassLine, Expr, Formula, Member, Slice, Statement,
+};
+use fisca_parser::read_module;
 use std::alloc::{AllocError, Global};
 use std::rt::{Clock, Files};
 use std::time::Instant;
@@ -109,10 +111,10 @@ fn assignment(assigned: &Assignment<'_>) -> u64 {
     placed(assigned.line, &assigned.name).wrapping_add(expression(&assigned.value))
 }
 
-fn item(found: &Item<'_>) -> u64 {
+fn item(found: &ClassLine<'_>) -> u64 {
     match found {
-        Item::Attribute(assigned) => assignment(assigned),
-        Item::Formula(one) => formula(one),
+        ClassLine::Attribute(assigned) => assignment(assigned),
+        ClassLine::Formula(one) => formula(one),
     }
 }
 

@@ -1,14 +1,15 @@
 //! Building the rule sets that `bench/texts/rules` writes, beside reading their modules.
 ghost use Rattle.std.specs.Prelude.{IfSome};
 ghost use Rattle.fisca_rules.specs.Views.{rule_set};
-ghost use Rattle.fisca_eval.specs.Sound.{IsSafeRules};
+ghost use Rattle.fisca_simulation.specs.Sound.{IsSafeRules};
 
 use crate::params::files_of;
 use crate::{Measured, list, show};
-use fisca_eval::rule_sets_are_safe;
+use fisca_ast::Module;
 use fisca_params::{ParamTree, SourceFile};
+use fisca_parser::read_module;
 use fisca_rules::RuleSet;
-use fisca_syntax::{Module, read_module};
+use fisca_simulation::rule_sets_are_safe;
 use std::alloc::Global;
 use std::rt::{Clock, Files};
 use std::time::Instant;

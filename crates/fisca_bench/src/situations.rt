@@ -2,10 +2,10 @@
 use crate::params::files_of;
 use crate::rules::rules_of;
 use crate::{Measured, list, show};
-use fisca_inputs::{Key, Value};
+use fisca_model::{Key, Value};
 use fisca_params::SourceFile;
 use fisca_situations::Situation;
-use fisca_tables::Tables;
+use fisca_symbols::Tables;
 use fisca_time::{Period, Unit};
 use fisca_yaml::Tree;
 use std::alloc::Global;

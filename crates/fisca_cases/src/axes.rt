@@ -6,9 +6,10 @@ ghost use Rattle.fisca_yaml.specs.Views.{node};
 
 use crate::fault::{Fault, malformed};
 use crate::situations::{push_input, read_period, situation};
+use fisca_cases_base::{Written, number};
 use fisca_commands::start;
-use fisca_inputs::{Given, Key, SituationFault};
-use fisca_layer_cases::{Written, number};
+use fisca_inputs::{Given, SituationFault};
+use fisca_model::Key;
 use fisca_num::Fraction;
 use fisca_rules::RuleSet;
 use fisca_run_file::RunFile;

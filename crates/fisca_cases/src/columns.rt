@@ -1,22 +1,23 @@
 //! Columns, and the files of `fisca calc`.
 
 ghost use Rattle.std.specs.Prelude.{◌≡◌, None};
-ghost use Rattle.fisca_meaning.specs.Dialogues as meaning;
+ghost use Rattle.fisca_model.specs.Values as meaning;
 ghost use Rattle.fisca_rules.specs.Views.{rule_set};
-ghost use Rattle.fisca_eval.specs.Sound.{IsSafeRules};
+ghost use Rattle.fisca_simulation.specs.Sound.{IsSafeRules};
 
 use crate::fault::{Fault, malformed, no_memory};
 use crate::situations::{key_of, situation};
-use fisca_calc::{Answers, CalcFile, key_text, read_column, value_text, write_columns};
-use fisca_eval::{EvalFault, Evaluator, calc_inputs_fit};
-use fisca_inputs::{Key, Value};
-use fisca_layer_cases::{Written, number};
-use fisca_lines::{MemorySink, RunFault};
-use fisca_memo::{Counts, IndexRecall, ListRecall, Recall};
+use fisca_cases_base::{Written, number};
+use fisca_columns::{CalcFile, key_text, read_column, value_text, write_columns};
+use fisca_commands::calc_inputs_fit;
+use fisca_evaluator::{Counts, IndexRecall, ListRecall, Recall};
+use fisca_model::{EvalFault, Key, Value};
 use fisca_num::Fraction;
 use fisca_rules::RuleSet;
-use fisca_situations::Situation;
+use fisca_simulation::PlainEvaluator;
+use fisca_situations::{Answers, Situation};
 use fisca_time::Period;
+use fisca_writer::{MemorySink, RunEnd, RunFault};
 use fisca_yaml::read;
 use std::alloc::Global;
 
@@ -90,7 +91,8 @@ fn said(words: &[String]) -> Result<Value, Fault> {
     }
 }
 
-/// The answer to a case of a file of `fisca calc`: the texts of its columns' keys, the lines of its columns, or how many formulas were worked out.
+/// The answer to a case of a file of `fisca calc`: the texts of its columns' keys, the lines of its columns, those of an evaluator that is asked once more
+/// where memory was refused, or how many formulas were worked out.
 pub fn calc(
     alloc: Global,
     operation: &str,
@@ -103,6 +105,7 @@ pub fn calc(
         [text] if operation == "read" => file(alloc, rules, text.as_str()),
         [text] if operation == "values" => values(alloc, rules, text.as_str()),
         [text] if operation == "counts" => counts(alloc, rules, text.as_str()),
+        [text] if operation == "again" => again(alloc, rules, text.as_str()),
         _ => Err(malformed()),
     }
 }
@@ -154,6 +157,20 @@ fn counts(alloc: Global, rules: &RuleSet<'_>, text: &str) -> Result<String, Faul
     Ok(format!(in alloc; "free {free}, bound {bound}, lost {lost}")?)
 }
 
+/// The lines of the columns of a file by an evaluator that remembers in a list, below them by one with a hash table: where memory was refused, the same
+/// evaluator is asked for all of them once more.
+fn again(alloc: Global, rules: &RuleSet<'_>, text: &str) -> Result<String, Fault>
+    requires { IsSafeRules (rule_set rules.now) }
+{
+    let mut shown = Written::new(alloc);
+    let (list, _) = remembered_values(alloc, rules, text, ListRecall::new(alloc))?;
+    let (table, _) = remembered_values(alloc, rules, text, IndexRecall::new(alloc))?;
+    shown.push(list.as_str());
+    shown.push("\n");
+    shown.push(table.as_str());
+    Ok(shown.finish()?)
+}
+
 /// The lines and what follows them, by an evaluator that remembers nothing.
 fn plain_values(alloc: Global, rules: &RuleSet<'_>, text: &str) -> Result<String, Fault>
     requires { IsSafeRules (rule_set rules.now) }
@@ -162,7 +179,7 @@ fn plain_values(alloc: Global, rules: &RuleSet<'_>, text: &str) -> Result<String
     let tree = read(alloc, text)?;
     let file = CalcFile::read(alloc, &rules.tables, &tree)?;
     let CalcFile { situation, columns } = file;
-    let evaluator = Evaluator::new(alloc, rules, &[], situation);
+    let evaluator = PlainEvaluator::new(alloc, rules, &[], situation);
     let (_, shown) = shown(alloc, rules, columns.as_slice(), evaluator)?;
     Ok(shown)
 }
@@ -181,12 +198,13 @@ fn remembered_values<R: Recall + Drop>(
     let tree = read(alloc, text)?;
     let file = CalcFile::read(alloc, &rules.tables, &tree)?;
     let CalcFile { situation, columns } = file;
-    let evaluator = fisca_memo::Evaluator::new(alloc, rules, &[], &[], situation, recall);
+    let evaluator = fisca_evaluator::Evaluator::new(alloc, rules, &[], &[], situation, recall);
     let (evaluator, shown) = shown(alloc, rules, columns.as_slice(), evaluator)?;
     Ok((shown, evaluator.counts()))
 }
 
-/// The lines of columns by what answers the values of keys, which is given back, and behind them, where one has no value, the fault and its key.
+/// The lines of columns by what answers the values of keys, which is given back, and behind them, where one has no value, the fault and its key. Where
+/// memory was refused, a line says at which column, and below it stands all that the same evaluator answers when it is asked once more.
 fn shown<A: Answers<Fault = EvalFault> + Drop>(
     alloc: Global,
     rules: &RuleSet<'_>,
@@ -195,18 +213,63 @@ fn shown<A: Answers<Fault = EvalFault> + Drop>(
 ) -> Result<(A, String), Fault>
     requires { A.ready evaluator }
 {
+    let mut shown = Written::new(alloc);
     let mut sink = MemorySink::new(alloc);
     let (evaluator, end) = write_columns(alloc, &rules.tables, columns, evaluator, &mut sink);
-    let lines = str::from_utf8(sink.bytes()).unwrap_or("no text\n");
-    let mut shown = Written::new(alloc);
+    let Some(column) = stop_of(&end) else {
+        push_answer(
+            alloc,
+            &mut shown,
+            rules,
+            evaluator.situation(),
+            sink.bytes(),
+            end,
+        )?;
+        return Ok((evaluator, shown.finish()?));
+    };
+    shown.push(str::from_utf8(sink.bytes()).unwrap_or("no text\n"));
+    shown.push("out of memory at ");
+    shown.push_number(column);
+    shown.push("\n");
+    let mut sink = MemorySink::new(alloc);
+    let (evaluator, end) = write_columns(alloc, &rules.tables, columns, evaluator, &mut sink);
+    push_answer(
+        alloc,
+        &mut shown,
+        rules,
+        evaluator.situation(),
+        sink.bytes(),
+        end,
+    )?;
+    Ok((evaluator, shown.finish()?))
+}
+
+/// The place of the column at which there was no memory, for its value or its line.
+fn stop_of(end: &Result<RunEnd, RunFault<EvalFault>>) -> Option<u64> {
+    match end {
+        Err(RunFault::Write { position } | RunFault::Memory { position }) => Some(*position),
+        Err(RunFault::BadPosition | RunFault::Eval { .. }) | Ok(_) => None,
+    }
+}
+
+/// Appends the lines of columns, and behind them, where one has no value, the fault and its key.
+fn push_answer(
+    alloc: Global,
+    shown: &mut Written,
+    rules: &RuleSet<'_>,
+    situation: &Situation,
+    lines: &[u8],
+    end: Result<RunEnd, RunFault<EvalFault>>,
+) -> Result<(), Fault> {
+    let lines = str::from_utf8(lines).unwrap_or("no text\n");
     match end {
         Ok(_) => shown.push(lines.strip_suffix("\n").unwrap_or(lines)),
         Err(fault) => {
             shown.push(lines);
-            push_fault(alloc, &mut shown, rules, evaluator.situation(), fault)?;
+            push_fault(alloc, shown, rules, situation, fault)?;
         }
     }
-    Ok((evaluator, shown.finish()?))
+    Ok(())
 }
 
 /// Appends the name of the fault of a key, and the key.

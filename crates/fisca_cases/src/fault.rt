@@ -1,13 +1,13 @@
 //! What is told in place of an answer.
 
-use fisca_calc::RunFileFault;
+use fisca_ast::FormulaFault;
+use fisca_cases_base::{Fault as LayerFault, Written};
+use fisca_columns::RunFileFault;
 use fisca_inputs::SituationFault;
-use fisca_layer_cases::{Fault as LayerFault, Written};
 use fisca_names::BuildFault;
 use fisca_num::NumFault;
 use fisca_params::ParamFault;
 use fisca_time::TimeFault;
-use fisca_tokens::FormulaFault;
 use fisca_yaml::YamlFault;
 use std::alloc::{AllocError, AllocFailed, Global};
 use thiserror::Error;

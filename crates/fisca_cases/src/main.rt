@@ -4,22 +4,24 @@
 //! A case is a line `LAYER OPERATION WORD..`. A word has no blank, or stands in double quotes, with the escapes `\n`, `\r`,
 //! `\t`, `\"` and `\\`. Lines below it that begin with two blanks are the text that is its last word. Empty lines and lines
 //! with `#` are copied. `file PATH TEXT` adds a file to the rule set that later cases are about, and `rules` begins a new one.
-//! Layers below rule sets are answered by `fisca_layer_cases`.
+//! Layers below rule sets are answered by `fisca_cases_base`.
 #![tactic(auto)]
 
-ghost use Rattle.fisca_eval.specs.Sound.{IsSafeRules};
+ghost use Rattle.fisca_simulation.specs.Sound.{IsSafeRules};
 ghost use Rattle.fisca_rules.specs.Views.{rule_set};
 
 mod axes;
 mod columns;
+mod commands;
 mod fault;
+mod narrow;
 mod refusals;
 mod rule_sets;
 mod runs;
 mod situations;
 
 use fault::{Fault, malformed};
-use fisca_layer_cases::{Case, two};
+use fisca_cases_base::{Case, two};
 use fisca_params::SourceFile;
 use fisca_rules::RuleSet;
 use rule_sets::rules_of;
@@ -110,13 +112,9 @@ fn ask(
                 ask_rules(alloc, layer, operation.as_str(), &rules, rest)
             }
             "refusals" => refusals::answer(alloc, operation.as_str(), rest),
-            other => match fisca_layer_cases::answer(
-                alloc,
-                other,
-                operation.as_str(),
-                files,
-                rest,
-            ) {
+            "again" => commands::again(alloc, operation.as_str(), files, rest),
+            "failing" => commands::failing(alloc, operation.as_str(), files, rest),
+            other => match fisca_cases_base::answer(alloc, other, operation.as_str(), files, rest) {
                 Some(answer) => Ok(answer?),
                 None => Err(malformed()),
             },

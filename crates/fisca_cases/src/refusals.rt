@@ -1,13 +1,12 @@
 //! Refusals of commands.
 
 use crate::fault::{Fault, malformed};
-use fisca_eval::EvalFault;
+use fisca_cases_base::{Written, one};
 use fisca_grid::AxesFault;
-use fisca_inputs::Key;
-use fisca_layer_cases::{Written, one};
-use fisca_lines::RunFault;
+use fisca_model::{EvalFault, Key};
 use fisca_rule_files::{Refusal, Unanswered};
 use fisca_time::Period;
+use fisca_writer::RunFault;
 use std::alloc::{AllocError, Global};
 
 /// The answer to a case of refusals: the one of this name, of those to which no text leads and of values that cannot be worked out.

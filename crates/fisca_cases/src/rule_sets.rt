@@ -2,13 +2,14 @@
 
 ghost use Rattle.std.specs.Prelude.{IfOk};
 ghost use Rattle.fisca_rules.specs.Views.{rule_set};
-ghost use Rattle.fisca_eval.specs.Sound.{IsSafeRules};
+ghost use Rattle.fisca_simulation.specs.Sound.{IsSafeRules};
 
 use crate::fault::{Fault, malformed};
-use fisca_eval::rule_sets_are_safe;
+use fisca_ast::Module;
 use fisca_params::{ParamTree, SourceFile};
+use fisca_parser::read_module;
 use fisca_rules::RuleSet;
-use fisca_syntax::{Module, read_module};
+use fisca_simulation::rule_sets_are_safe;
 use std::alloc::Global;
 
 /// The answer to a case of rule sets: what the call of this name gives of this one.

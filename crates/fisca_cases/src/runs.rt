@@ -1,8 +1,8 @@
 //! Runs: how many formulas gave values in one, and whether what is remembered changes any.
 
 ghost use Rattle.std.specs.Prelude.{◌≡◌, IfOk, None, Ok, length};
-ghost use Rattle.fisca_eval.specs.Sound.{IsSafeRules};
-ghost use Rattle.fisca_memo.specs.Evaluators.{marks_in, simulation_of};
+ghost use Rattle.fisca_simulation.specs.Sound.{IsSafeRules};
+ghost use Rattle.fisca_evaluator.specs.Evaluators.{marks_in, simulation_of};
 ghost use Rattle.fisca_commands.specs.Kept.{IsKept, IsRunFile};
 ghost use Rattle.fisca_commands.specs.Runs.{IsAsked};
 ghost use Rattle.fisca_rules.specs.Views.{rule_set};
@@ -10,21 +10,21 @@ ghost use Rattle.fisca_run_file.specs.Positions.{situation_with};
 ghost use Rattle.fisca_run_file.specs.RunFiles.{run_file_of};
 ghost use Rattle.fisca_run_file.specs.Views.{run_file as run_file_view};
 ghost use Rattle.fisca_situations.specs.Views.{situation as situation_view};
-ghost use Rattle.fisca_memo.specs.Marks.{wheels_of};
-ghost use Rattle.fisca_memo.specs.Slots.{slots_of};
+ghost use Rattle.fisca_run.specs.Marks.{wheels_of};
+ghost use Rattle.fisca_run.specs.Slots.{slots_of};
 ghost use Rattle.fisca_situations.specs.Views.{slot_list};
 ghost use Rattle.fisca_yaml.specs.Views.{node};
 
 use crate::axes::are_put_in;
 use crate::fault::{Fault, malformed, no_memory};
+use fisca_cases_base::{Written, limit, number, three};
 use fisca_commands::{RunStart, evaluator_of, run_anew, run_grid, run_with, start};
-use fisca_eval::EvalFault;
-use fisca_layer_cases::{Written, limit, number, three};
-use fisca_lines::{MemorySink, RunEnd, RunFault};
-use fisca_memo::{Counts, Evaluator, ListRecall, Recall};
+use fisca_evaluator::{Counts, Evaluator, ListRecall, Recall};
+use fisca_model::EvalFault;
 use fisca_rules::RuleSet;
 use fisca_run_file::RunFile;
 use fisca_situations::Slot;
+use fisca_writer::{MemorySink, RunEnd, RunFault};
 use fisca_yaml::{Tree, read};
 use std::alloc::Global;
 

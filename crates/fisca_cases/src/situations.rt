@@ -2,9 +2,9 @@
 
 use crate::axes;
 use crate::fault::{Fault, malformed};
-use fisca_inputs::{Key, Value};
-use fisca_layer_cases::{Written, number, two};
+use fisca_cases_base::{Written, number, two};
 use fisca_members::Home;
+use fisca_model::{Key, Value};
 use fisca_num::Fraction;
 use fisca_rules::RuleSet;
 use fisca_situations::Situation;

@@ -2,13 +2,13 @@
 use Rattle.std.proofs.Common.{◌≡◌, ◌<◌, ◌+◌, ℕ, List, [], ◌∷◌, ◌++◌, Bool, true, false, Result, Ok, Err, drop, get_or, length, ap, refl, subst, sym, ◌∙◌, inl, inr}
 use Rattle.std.proofs.lemmas.List.{drop_more}
 use Rattle.std.specs.Prelude.{if◌then◌else◌}
-use Rattle.fisca_calc.proofs.Asking.{AreLeft, asked_on, asks_left, asks_on, left_more, some_first, some_left, some_none}
-use Rattle.fisca_calc.specs.Asked.{Asks, AsksSome, HaveAsked, IsStep}
-use Rattle.fisca_calc.specs.Lines.{IsAnswer}
-use Rattle.fisca_inputs.specs.declared.given.Value.{Value}
-use Rattle.fisca_inputs.specs.declared.key.Key.{Key}
-use Rattle.fisca_lines.specs.declared.fault.RowFault.{RowFault}
-use Rattle.fisca_lines.specs.declared.fault.RowFault.TheVariants as fault
+use Rattle.fisca_situations.proofs.Asking.{AreLeft, asked_on, asks_left, asks_on, left_more, some_first, some_left, some_none}
+use Rattle.fisca_situations.specs.Asked.{Asks, AsksSome, HaveAsked, IsStep}
+use Rattle.fisca_situations.specs.Answered.{IsAnswer}
+use Rattle.fisca_model.specs.declared.value.Value.{Value}
+use Rattle.fisca_model.specs.declared.key.Key.{Key}
+use Rattle.fisca_writer.specs.declared.fault.RowFault.{RowFault}
+use Rattle.fisca_writer.specs.declared.fault.RowFault.TheVariants as fault
 use Rattle.fisca_commands.specs.Asked.{behind, keys_asked, keys_if_met, keys_met, keys_written}
 use Rattle.fisca_commands.specs.Conditions.{all_met, meets}
 use Rattle.fisca_commands.specs.Outcomes.{IsOutcome}

@@ -1,11 +1,11 @@
 -- A run that ends before a row is worked out.
 use Rattle.std.proofs.Common.{◌≡◌, ◌<◌, ℕ, List, Option, Some, None, Err, refl, arith}
 use Rattle.std.specs.Io.KnownBytes.{Keeps}
-use Rattle.fisca_eval.specs.declared.fault.EvalFault.{EvalFault}
-use Rattle.fisca_lines.proofs.Progress.{started, stopped_at_row}
-use Rattle.fisca_lines.specs.Row.{Row}
-use Rattle.fisca_lines.specs.Run.{IsRun}
-use Rattle.fisca_lines.specs.declared.fault.RunFault.TheVariants as fault
+use Rattle.fisca_model.specs.declared.eval_fault.EvalFault.{EvalFault}
+use Rattle.fisca_writer.proofs.Progress.{started, stopped_at_row}
+use Rattle.fisca_writer.specs.Row.{Row}
+use Rattle.fisca_writer.specs.Run.{IsRun}
+use Rattle.fisca_writer.specs.declared.fault.RunFault.TheVariants as fault
 
 kept : (old : Option (List ℕ)) → Keeps old old
 kept None = tt

@@ -9,7 +9,7 @@ use Rattle.fisca_grid.specs.declared.axes.AxisSpec.{AxisSpec}
 use Rattle.fisca_inputs.specs.Entries.{Entries}
 use Rattle.fisca_num.specs.Number.{Number}
 use Rattle.fisca_situations.specs.Slots as slots
-use Rattle.fisca_memo.specs.Slots.{turned_below}
+use Rattle.fisca_slots.specs.Turning.{turned_below}
 use Rattle.fisca_situations.specs.Slots.{turned}
 use Rattle.fisca_situations.specs.Views.{slot as slot_view}
 use Rattle.fisca_situations.specs.declared.slot.Slot.{Slot}

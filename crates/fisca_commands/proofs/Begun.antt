@@ -1,22 +1,22 @@
 -- What a run begins with.
 use Rattle.std.proofs.Common.{◌≡◌, ℕ, zero, suc, List, [], ◌∷◌, length, true, None, Some, Ok, slice_get, refl, sym, ap, subst, ◌∙◌, inl}
-use Rattle.fisca_heights.specs.Entries.{Entries}
-use Rattle.fisca_meaning.specs.Dialogues.{Key}
-use Rattle.fisca_memo.specs.Evaluators.{IsMemoryOf}
-use Rattle.fisca_memo.specs.Recalled.{marks_of}
+use Rattle.fisca_memo_theory.specs.Entries.{Entries}
+use Rattle.fisca_model.specs.Values.{Key}
+use Rattle.fisca_evaluator.specs.Evaluators.{IsMemoryOf}
+use Rattle.fisca_evaluator.specs.Recalled.{marks_of}
 use Rattle.fisca_rules.specs.declared.rule_set.RuleSet.{RuleSet}
 use Rattle.fisca_commands.specs.Kept.{AllMarked, IsKept, IsRunFile}
 use Rattle.fisca_commands.specs.Runs.{simulation_in}
 use Rattle.fisca_run_file.specs.Positions.{situation_with}
 use Rattle.fisca_run_file.specs.RunFiles.{RunFile}
 use Rattle.fisca_situations.specs.Situations.{Situation}
-use Rattle.fisca_memo.proofs.Marked.{has_all}
-use Rattle.fisca_memo.proofs.Within.{all_within}
-use Rattle.fisca_memo.specs.Marks.{has_mark, wheels_of}
-use Rattle.fisca_memo.specs.Slots.{slots_of}
+use Rattle.fisca_run.proofs.Marked.{has_all}
+use Rattle.fisca_run.proofs.Within.{all_within}
+use Rattle.fisca_run.specs.Marks.{has_mark, wheels_of}
+use Rattle.fisca_run.specs.Slots.{slots_of}
 use Rattle.fisca_situations.specs.Views.{slot as slot_view, slot_list}
 use Rattle.fisca_situations.specs.declared.slot.Slot.{Slot}
-use Rattle.fisca_eval.specs.Simulations.{Simulation}
+use Rattle.fisca_simulation.specs.Simulations.{Simulation}
 
 seen_there : (ss : List Slot) (i : ℕ) (s : Slot) → slice_get ss i ≡ Some s → slice_get (slot_list ss) i ≡ Some (slot_view s)
 seen_there [] i s h = cc

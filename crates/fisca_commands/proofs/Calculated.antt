@@ -2,27 +2,27 @@
 use Rattle.std.proofs.Common.{◌≡◌, ◌<◌, ℕ, inl, inr, List, [], length, Option, Some, None, Result, Ok, Err, refl, sym, subst, arith}
 use Rattle.std.proofs.lemmas.List.{append-nil}
 use Rattle.std.specs.Option.{option_map_or}
-use Rattle.fisca_calc.specs.Calc.{Calc, calc_of}
-use Rattle.fisca_calc.specs.Lines.{column_row}
-use Rattle.fisca_eval.specs.Told.{IsReady, told_in}
-use Rattle.fisca_eval.specs.declared.fault.EvalFault.{EvalFault}
-use Rattle.fisca_lines.specs.Continued.{lines_before, limit_after}
-use Rattle.fisca_lines.specs.Lines.{AtEnd, FaultAt, first_fault, lines}
-use Rattle.fisca_inputs.specs.declared.key.Key.{Key}
-use Rattle.fisca_lines.specs.Run.{IsRun, told_end}
-use Rattle.fisca_lines.specs.declared.fault.RunEnd.{RunEnd}
-use Rattle.fisca_lines.specs.declared.fault.RunEnd.TheVariants.{End, More}
-use Rattle.fisca_lines.specs.declared.fault.RunFault.{RunFault}
-use Rattle.fisca_lines.specs.declared.fault.RunFault.TheVariants as run
+use Rattle.fisca_columns.specs.Calc.{Calc, calc_of}
+use Rattle.fisca_columns.specs.Lines.{column_row}
+use Rattle.fisca_simulation.specs.Told.{IsReady, told_in}
+use Rattle.fisca_model.specs.declared.eval_fault.EvalFault.{EvalFault}
+use Rattle.fisca_writer.specs.Continued.{lines_before, limit_after}
+use Rattle.fisca_writer.specs.Lines.{AtEnd, FaultAt, first_fault, lines}
+use Rattle.fisca_model.specs.declared.key.Key.{Key}
+use Rattle.fisca_writer.specs.Run.{IsRun, told_end}
+use Rattle.fisca_writer.specs.declared.fault.RunEnd.{RunEnd}
+use Rattle.fisca_writer.specs.declared.fault.RunEnd.TheVariants.{End, More}
+use Rattle.fisca_writer.specs.declared.fault.RunFault.{RunFault}
+use Rattle.fisca_writer.specs.declared.fault.RunFault.TheVariants as run
 use Rattle.fisca_params.specs.Source.{Source}
 use Rattle.fisca_params.specs.Tree.{TreeNode}
 use Rattle.fisca_rules.specs.Rules.{Rules, rules_of}
 use Rattle.fisca_rules.specs.Views.{rule_set}
 use Rattle.fisca_rules.specs.declared.rule_set.RuleSet.{RuleSet}
-use Rattle.fisca_eval.specs.Simulations.{Simulation}
-use Rattle.fisca_eval.specs.Sound.{InputsFit, IsSafeRules}
-use Rattle.fisca_syntax.specs.Modules.{Statement}
-use Rattle.fisca_tables.specs.Known.{tables as known}
+use Rattle.fisca_simulation.specs.Simulations.{Simulation}
+use Rattle.fisca_simulation.specs.Sound.{InputsFit, IsSafeRules}
+use Rattle.fisca_ast.specs.Modules.{Statement}
+use Rattle.fisca_symbols.specs.Known.{tables as known}
 use Rattle.fisca_yaml.specs.Node.{Node}
 use Rattle.fisca_commands.specs.Calc.{Calculation, IsAsked, IsColumnsRun, IsKeyTold, IsStopped, WritesFirst, lines_of, row_of, simulation_of}
 use Rattle.fisca_rule_files.specs.RuleFiles.{IsAccepted}

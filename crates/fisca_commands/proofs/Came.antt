@@ -1,18 +1,18 @@
 -- What is left behind by a run in one situation.
 use Rattle.std.proofs.Common.{◌≡◌, ◌⊎◌, ◌<◌, ◌≤◌, ◌+◌, ◌-◌, ℕ, zero, suc, List, Option, Some, None, Result, Ok, Err, refl, sym, ap, subst, ◌∙◌, arith, inl, inr, ⊎_elim}
 use Rattle.std.proofs.lemmas.Bool.{cases_lt}
-use Rattle.fisca_eval.specs.declared.fault.EvalFault.{EvalFault}
-use Rattle.fisca_heights.specs.Entries.{Entries}
+use Rattle.fisca_model.specs.declared.eval_fault.EvalFault.{EvalFault}
+use Rattle.fisca_memo_theory.specs.Entries.{Entries}
 use Rattle.fisca_inputs.specs.declared.given.Given.{Given}
-use Rattle.fisca_lines.specs.Came.{HasCome, HasPassed, Passes}
-use Rattle.fisca_lines.specs.declared.fault.RunEnd.{RunEnd}
-use Rattle.fisca_lines.specs.declared.fault.RunEnd.TheVariants as end
-use Rattle.fisca_lines.specs.declared.fault.RunFault.{RunFault}
-use Rattle.fisca_lines.specs.declared.fault.RunFault.TheVariants as fault
-use Rattle.fisca_meaning.specs.Dialogues.{Key}
-use Rattle.fisca_memo.specs.Evaluators.{marks_in}
-use Rattle.fisca_memo.specs.declared.evaluator.Evaluator.{Evaluator}
-use Rattle.fisca_memo.specs.Counted.{one_more}
+use Rattle.fisca_writer.specs.Came.{HasCome, HasPassed, Passes}
+use Rattle.fisca_writer.specs.declared.fault.RunEnd.{RunEnd}
+use Rattle.fisca_writer.specs.declared.fault.RunEnd.TheVariants as end
+use Rattle.fisca_writer.specs.declared.fault.RunFault.{RunFault}
+use Rattle.fisca_writer.specs.declared.fault.RunFault.TheVariants as fault
+use Rattle.fisca_model.specs.Values.{Key}
+use Rattle.fisca_evaluator.specs.Evaluators.{marks_in}
+use Rattle.fisca_evaluator.specs.declared.evaluator.Evaluator.{Evaluator}
+use Rattle.fisca_evaluator.specs.Counted.{one_more}
 use Rattle.fisca_rules.specs.declared.rule_set.RuleSet.{RuleSet}
 use Rattle.fisca_commands.proofs.Passing.{just_for, just_none, just_on, raised_both, raised_none}
 use Rattle.fisca_commands.specs.Ends.{stop_of}
@@ -23,8 +23,8 @@ use Rattle.fisca_commands.specs.declared.kept_rows.KeptRows.{KeptRows}
 use Rattle.fisca_run_file.specs.RunFiles.{RunFile}
 use Rattle.fisca_run_file.specs.Views.{run_file}
 use Rattle.fisca_situations.specs.declared.slot.Slot.{Slot}
-use Rattle.fisca_eval.specs.Simulations.{Simulation}
-use Rattle.fisca_tables.specs.declared.tables.Tables.{Tables}
+use Rattle.fisca_simulation.specs.Simulations.{Simulation}
+use Rattle.fisca_symbols.specs.declared.tables.Tables.{Tables}
 
 module _ {R : Type 0} (find : R → Entries) (rules : RuleSet) (f : RunFile) where
   run_none : (from stop : ℕ) (e : Evaluator R) → from ≡ stop → HasRun find rules f from stop e e

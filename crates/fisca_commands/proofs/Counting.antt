@@ -1,14 +1,14 @@
 -- How many keys of a whole run read no wheel.
 use Rattle.std.proofs.Common.{◌≡◌, ℕ, zero, suc, List, [], ◌∷◌, length, sym, ap, subst, ◌∙◌, arith, ⊎_elim}
-use Rattle.fisca_answers.specs.Keys.{In}
-use Rattle.fisca_heights.specs.Added.{IsFree, IsFreeKey}
-use Rattle.fisca_heights.specs.Entries.{Entries}
-use Rattle.fisca_meaning.specs.Dialogues.{Key}
-use Rattle.fisca_memo.specs.Counting.{CountsFree, raised}
-use Rattle.fisca_memo.specs.Evaluators.{marks_in}
-use Rattle.fisca_memo.specs.declared.evaluator.Evaluator.{Evaluator}
-use Rattle.fisca_memo.specs.Counted.{no_counts}
-use Rattle.fisca_memo.specs.declared.counts.Counts.{Counts}
+use Rattle.fisca_key_semantics.specs.Keys.{In}
+use Rattle.fisca_memo_theory.specs.Added.{IsFree, IsFreeKey}
+use Rattle.fisca_memo_theory.specs.Entries.{Entries}
+use Rattle.fisca_model.specs.Values.{Key}
+use Rattle.fisca_evaluator.specs.Counting.{CountsFree, raised}
+use Rattle.fisca_evaluator.specs.Evaluators.{marks_in}
+use Rattle.fisca_evaluator.specs.declared.evaluator.Evaluator.{Evaluator}
+use Rattle.fisca_evaluator.specs.Counted.{no_counts}
+use Rattle.fisca_evaluator.specs.declared.counts.Counts.{Counts}
 use Rattle.fisca_rules.specs.declared.rule_set.RuleSet.{RuleSet}
 use Rattle.fisca_commands.specs.Remembered.{AreCounts, HasRun, IsStillWorkIn, marks_of_run}
 use Rattle.fisca_run_file.specs.RunFiles.{RunFile}

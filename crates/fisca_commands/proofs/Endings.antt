@@ -2,17 +2,17 @@
 use Rattle.std.proofs.Common.{◌≡◌, ◌≢◌, inl, inr, ℕ, ◌==◌, ◌&&◌, if◌then◌else◌, cond, is_ok, Bool, true, false, List, map, Option, Some, None, Result, Ok, Err, refl, sym, ap, ◌∙◌}
 use Rattle.std.proofs.lemmas.Bool.{ne_eqb, true≢false}
 use Rattle.fisca_grid.specs.Grid.{axes_fault, groups_of}
-use Rattle.fisca_lines.specs.Sink.{one_more}
+use Rattle.fisca_writer.specs.Sink.{one_more}
 use Rattle.fisca_grid.specs.declared.axes.AxisSpec.{AxisSpec}
 use Rattle.fisca_grid.specs.declared.axes.AxesFault.{AxesFault}
 use Rattle.fisca_grid.specs.declared.axes.AxesFault.TheVariants as axes
-use Rattle.fisca_lines.specs.declared.fault.RunEnd.{RunEnd}
-use Rattle.fisca_lines.specs.declared.fault.RunFault.TheVariants as run
+use Rattle.fisca_writer.specs.declared.fault.RunEnd.{RunEnd}
+use Rattle.fisca_writer.specs.declared.fault.RunFault.TheVariants as run
 use Rattle.fisca_grid.specs.NamedAxes.{name_of, specs_of, own_groups, filter_from}
 use Rattle.fisca_grid.specs.declared.condition.Filter.{Filter}
 use Rattle.fisca_commands.specs.AxesRun.{required_filter, optional_filter, filtered_axes, axes_within_limits, named_fault, required_axes, axes_of_words}
 use Rattle.fisca_commands.specs.Ending.{IsAnswered, IsJudged, IsRunEnding, IsTold, Outcome}
-use Rattle.fisca_verdicts.specs.declared.all.Verdict.{Verdict}
+use Rattle.fisca_test_file.specs.declared.all.Verdict.{Verdict}
 use Rattle.fisca_rule_files.specs.Refusal.{is_failed_write, is_write, status_of}
 use Rattle.fisca_rule_files.specs.declared.refusal.Refusal.{Refusal}
 use Rattle.fisca_rule_files.specs.declared.refusal.Refusal.TheVariants.{Params, Formula, Yaml, RunFile, Tests, Axes, BadWord, BadCondition, Run, Eval, Write, Memory, TooManyFiles}

@@ -4,8 +4,8 @@ use Rattle.std.proofs.lemmas.Bool.{cases_lt}
 use Rattle.std.specs.List.{cons_option, filter_map, range_with_len}
 use Rattle.std.specs.Option.{option_map_or}
 use Rattle.std.specs.Prelude.{slice_get}
-use Rattle.fisca_lines.specs.Lines.{AtEnd, End, FaultAt, MoreFrom, all_lines, continued_from, fault_at, first_fault, run_end, unlimited_end}
-use Rattle.fisca_lines.specs.Row.{Fault, Line, Nothing, Row, fault_of}
+use Rattle.fisca_writer.specs.Lines.{AtEnd, End, FaultAt, MoreFrom, all_lines, continued_from, fault_at, first_fault, run_end, unlimited_end}
+use Rattle.fisca_writer.specs.Row.{Fault, Line, Nothing, Row, fault_of}
 
 module _ {F : Type 0} (row : ℕ → Row F) where
   -- a fault at a position below `stop`, and none from `from` on before it

@@ -2,34 +2,33 @@
 use Rattle.std.proofs.Common.{◌≡◌, ℕ, List, [], map, Option, Some, None, codes, ap, sym, subst, ◌∙◌}
 use Rattle.std.specs.Prelude.{Ok, option_map}
 use Rattle.std.specs.Option.{unwrap_or}
-use Rattle.fisca_calc.specs.Calc.{default_in}
-use Rattle.fisca_eval.proofs.Fitting.{defaults_typed, fits_left}
-use Rattle.fisca_eval.proofs.Worlds.{tables_known}
-use Rattle.fisca_eval.specs.Told.{IsReady}
+use Rattle.fisca_columns.specs.Calc.{default_in}
+use Rattle.fisca_simulation.proofs.Fitting.{defaults_typed, fits_left}
+use Rattle.fisca_simulation.proofs.Worlds.{tables_known}
+use Rattle.fisca_simulation.specs.Told.{IsReady}
 use Rattle.fisca_grid.specs.AxesRow.{values_of}
 use Rattle.fisca_grid.specs.Grid.{axes_at}
 use Rattle.fisca_inputs.proofs.Typed.{then_ok, inputs_typed, input_typed}
 use Rattle.fisca_inputs.specs.Entries.{Entries}
 use Rattle.fisca_inputs.specs.Inputs.{inputs_of, without_marked}
 use Rattle.fisca_inputs.specs.Rules.{rule_of}
-use Rattle.fisca_inputs.specs.Seen.{value_seen}
+use Rattle.fisca_model.specs.Seen.{value_seen}
 use Rattle.fisca_inputs.specs.Typed.{DefaultsTyped, GivensTyped, IsValueOf}
 use Rattle.fisca_inputs.specs.declared.given.Given.{Given}
-use Rattle.fisca_rosters.specs.Lookup.{counts_of}
+use Rattle.fisca_groups.specs.Lookup.{counts_of}
 use Rattle.fisca_num.specs.Number.{Number}
 use Rattle.fisca_rules.specs.Views.{rule_set}
 use Rattle.fisca_rules.specs.declared.rule_set.RuleSet.{RuleSet}
-use Rattle.fisca_memo.proofs.Files.{read_from}
-use Rattle.fisca_commands.proofs.Givens.{read_all_typed}
+use Rattle.fisca_run.proofs.Files.{read_from}
 use Rattle.fisca_commands.proofs.Numbers.{all_put_typed, moved_numbers, valued_typed}
-use Rattle.fisca_memo.proofs.Said.{default_read}
 use Rattle.fisca_commands.specs.Runs.{IsAsked, simulation_in}
-use Rattle.fisca_run_file.specs.Moved.{put_all_in}
+use Rattle.fisca_situations.proofs.Typed.{read_all_typed}
+use Rattle.fisca_situations.specs.AllAxes.{put_all_in}
 use Rattle.fisca_run_file.specs.Positions.{inputs_with, moved_at, situation_with, with_values}
 use Rattle.fisca_run_file.specs.RunFiles.{RunFile}
 use Rattle.fisca_situations.specs.Situations.{Situation}
-use Rattle.fisca_eval.specs.Sound.{InputsFit}
-use Rattle.fisca_tables.specs.Known.{tables as known}
+use Rattle.fisca_simulation.specs.Sound.{InputsFit}
+use Rattle.fisca_symbols.specs.Known.{tables as known}
 use Rattle.fisca_yaml.specs.Find.{get, line_at}
 use Rattle.fisca_yaml.specs.Node.{Node, null}
 
@@ -40,7 +39,7 @@ module _ (rules : RuleSet) (n : Node) (f : RunFile) (asked : IsAsked rules n f) 
   given_typed =
       let read = read_from rules.tables n f asked.read in
       subst (GivensTyped (known rules.tables)) (sym read.given)
-      (read_all_typed rules.tables (default_in n) (default_read n) (line_at (codes "input") 1 n) (unwrap_or (get (codes "input") n) null) read.reading read.read)
+      (read_all_typed rules.tables (default_in n) (line_at (codes "input") 1 n) (unwrap_or (get (codes "input") n) null) read.reading read.read)
 
   values_typed : (o : Option (List Number)) (moved : List Given) → option_map (with_values rules.tables f.moved) o ≡ Some moved → GivensTyped (known rules.tables) moved
   values_typed None moved h = cc

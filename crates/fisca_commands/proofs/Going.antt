@@ -1,28 +1,28 @@
 -- A run in one situation goes from a position to another.
 use Rattle.std.proofs.Common.{◌≡◌, ◌⊎◌, ◌<◌, ℕ, suc, Bool, List, [], ◌∷◌, length, map, Option, Some, Result, Ok, Err, refl, sym, ap, subst, ◌∙◌, arith, inl, inr, ⊎_elim}
 use Rattle.std.proofs.lemmas.List.{length-map}
-use Rattle.fisca_calc.specs.Asked.{HaveAsked}
-use Rattle.fisca_eval.specs.Told.{told_in}
-use Rattle.fisca_eval.specs.declared.fault.EvalFault.{EvalFault}
+use Rattle.fisca_situations.specs.Asked.{HaveAsked}
+use Rattle.fisca_simulation.specs.Told.{told_in}
+use Rattle.fisca_model.specs.declared.eval_fault.EvalFault.{EvalFault}
 use Rattle.fisca_grid.specs.AxesRow.{values_of}
 use Rattle.fisca_grid.specs.Grid.{axes_at, axes_in, counts_of}
-use Rattle.fisca_heights.specs.Entries.{Entries}
-use Rattle.fisca_heights.specs.Reads.{IsReads}
+use Rattle.fisca_memo_theory.specs.Entries.{Entries}
+use Rattle.fisca_memo_theory.specs.Reads.{IsReads}
 use Rattle.fisca_inputs.specs.declared.given.Given.{Given}
-use Rattle.fisca_inputs.specs.declared.key.Key as inputs
-use Rattle.fisca_lines.specs.Came.{IsStep}
-use Rattle.fisca_lines.specs.Odometer.{IsNear}
-use Rattle.fisca_lines.specs.declared.fault.RowFault.{RowFault}
-use Rattle.fisca_lines.specs.declared.fault.RowFault.TheVariants as fault
-use Rattle.fisca_lines.specs.declared.rows.Selection.{Selection}
-use Rattle.fisca_memo.specs.Asked.{HasRefused, HasWorked}
-use Rattle.fisca_memo.specs.Counting.{raised}
-use Rattle.fisca_memo.specs.Evaluators.{IsMemoryOf, marks_in, simulation_of}
-use Rattle.fisca_memo.specs.declared.evaluator.Evaluator.{Evaluator}
-use Rattle.fisca_meaning.specs.Dialogues.{Key}
+use Rattle.fisca_model.specs.declared.key.Key as inputs
+use Rattle.fisca_writer.specs.Came.{IsStep}
+use Rattle.fisca_writer.specs.Odometer.{IsNear}
+use Rattle.fisca_writer.specs.declared.fault.RowFault.{RowFault}
+use Rattle.fisca_writer.specs.declared.fault.RowFault.TheVariants as fault
+use Rattle.fisca_writer.specs.declared.rows.Selection.{Selection}
+use Rattle.fisca_evaluator.specs.Asked.{HasRefused, HasWorked}
+use Rattle.fisca_evaluator.specs.Counting.{raised}
+use Rattle.fisca_evaluator.specs.Evaluators.{IsMemoryOf, marks_in, simulation_of}
+use Rattle.fisca_evaluator.specs.declared.evaluator.Evaluator.{Evaluator}
+use Rattle.fisca_model.specs.Values.{Key}
 use Rattle.fisca_num.specs.Number.{Number}
-use Rattle.fisca_memo.specs.Counted.{one_more}
-use Rattle.fisca_memo.specs.declared.counts.Counts.{Counts}
+use Rattle.fisca_evaluator.specs.Counted.{one_more}
+use Rattle.fisca_evaluator.specs.declared.counts.Counts.{Counts}
 use Rattle.fisca_rules.specs.declared.rule_set.RuleSet.{RuleSet}
 use Rattle.fisca_commands.proofs.Gone.{HaveAllWorked, HaveSomeWorked, all_gone, some_gone}
 use Rattle.fisca_commands.proofs.Passing.{asked_just, just_for, just_on, some_kept, work_back, work_to}
@@ -32,12 +32,13 @@ use Rattle.fisca_commands.specs.Kept.{AllMarked, IsKept, IsSituated, with_inputs
 use Rattle.fisca_commands.specs.Remembered.{AreJust, IsPassed, IsRefused, IsStillWork, WorkOfOne}
 use Rattle.fisca_commands.specs.Runs.{positions}
 use Rattle.fisca_run_file.specs.RunFiles.{RunFile}
-use Rattle.fisca_memo.proofs.OfFiles.{length-wheels, many_wheels}
-use Rattle.fisca_memo.specs.Slots.{slots_with, turned_below, wheels_from}
+use Rattle.fisca_run.proofs.OfFiles.{length-wheels, many_wheels}
+use Rattle.fisca_run.specs.Slots.{slots_with}
+use Rattle.fisca_slots.specs.Turning.{turned_below, wheels_from}
 use Rattle.fisca_situations.specs.Views.{slot as slot_view}
 use Rattle.fisca_situations.specs.declared.slot.Slot.{Slot}
-use Rattle.fisca_eval.specs.Simulations.{Simulation, sources}
-use Rattle.fisca_tables.specs.declared.tables.Tables.{Tables}
+use Rattle.fisca_simulation.specs.Simulations.{Simulation, sources}
+use Rattle.fisca_symbols.specs.declared.tables.Tables.{Tables}
 
 length-slots_with : (c : Tables) (neutral : List Bool) (wheels : List ℕ) (gs : List Given) → length wheels ≡ length gs → length (slots_with c neutral wheels gs) ≡ length wheels
 length-slots_with c neutral [] gs h = refl

@@ -1,15 +1,15 @@
 -- What an evaluator remembers after it was asked for keys one after another.
 use Rattle.std.proofs.Common.{◌≡◌, ◌⊎◌, List, [], ◌∷◌, refl, sym, ap, subst, ◌∙◌, inl, inr, ⊎_elim}
-use Rattle.fisca_calc.specs.Asked.{Asks, AsksSome}
-use Rattle.fisca_heights.specs.Entries.{Entries, Remembered}
-use Rattle.fisca_inputs.specs.declared.key.Key as inputs
-use Rattle.fisca_meaning.specs.Dialogues.{Key}
-use Rattle.fisca_memo.proofs.Risen.{counted_none, counted_on}
-use Rattle.fisca_memo.specs.Asked.{HasGrown, HasRefused, HasWorked}
-use Rattle.fisca_memo.specs.Counting.{IsCounted}
-use Rattle.fisca_memo.specs.Evaluators.{marks_in, simulation_of}
-use Rattle.fisca_memo.specs.declared.evaluator.Evaluator.{Evaluator}
-use Rattle.fisca_memo.specs.Counted.{one_more}
+use Rattle.fisca_situations.specs.Asked.{Asks, AsksSome}
+use Rattle.fisca_memo_theory.specs.Entries.{Entries, Remembered}
+use Rattle.fisca_model.specs.declared.key.Key as inputs
+use Rattle.fisca_model.specs.Values.{Key}
+use Rattle.fisca_evaluator.proofs.Risen.{counted_none, counted_on}
+use Rattle.fisca_evaluator.specs.Asked.{HasGrown, HasRefused, HasWorked}
+use Rattle.fisca_evaluator.specs.Counting.{IsCounted}
+use Rattle.fisca_evaluator.specs.Evaluators.{marks_in, simulation_of}
+use Rattle.fisca_evaluator.specs.declared.evaluator.Evaluator.{Evaluator}
+use Rattle.fisca_evaluator.specs.Counted.{one_more}
 use Rattle.fisca_commands.specs.Remembered.{IsOneOf, WorkOfOne, work_of}
 
 module _ {R : Type 0} (find : R → Entries) where

@@ -1,13 +1,13 @@
 -- What is known of a run by what it answers.
 use Rattle.std.proofs.Common.{◌≡◌, ◌≤◌, ◌∙◌, inl, inr, ℕ, List, Option, Some, None, Result, Ok, Err, ap, sym, subst, string_bytes, arith}
-use Rattle.fisca_eval.specs.declared.fault.EvalFault.{EvalFault}
-use Rattle.fisca_lines.specs.Continued.{IsContinued}
-use Rattle.fisca_lines.specs.Lines.{AtEnd, FaultAt, MoreFrom, lines, run_end}
-use Rattle.fisca_lines.specs.Row.{Row, Fault}
-use Rattle.fisca_lines.specs.Run.{told_end}
-use Rattle.fisca_lines.specs.declared.fault.RunEnd.{RunEnd}
-use Rattle.fisca_lines.specs.declared.fault.RunFault.{RunFault}
-use Rattle.fisca_lines.specs.declared.fault.RunFault.TheVariants as run
+use Rattle.fisca_model.specs.declared.eval_fault.EvalFault.{EvalFault}
+use Rattle.fisca_writer.specs.Continued.{IsContinued}
+use Rattle.fisca_writer.specs.Lines.{AtEnd, FaultAt, MoreFrom, lines, run_end}
+use Rattle.fisca_writer.specs.Row.{Row, Fault}
+use Rattle.fisca_writer.specs.Run.{told_end}
+use Rattle.fisca_writer.specs.declared.fault.RunEnd.{RunEnd}
+use Rattle.fisca_writer.specs.declared.fault.RunFault.{RunFault}
+use Rattle.fisca_writer.specs.declared.fault.RunFault.TheVariants as run
 use Rattle.fisca_params.specs.Source.{Source}
 use Rattle.fisca_rule_files.specs.declared.refusal.Refusal.{Refusal}
 use Rattle.fisca_rule_files.specs.declared.refusal.Refusal.TheVariants.{Run, Memory}

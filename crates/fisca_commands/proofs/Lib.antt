@@ -2,13 +2,13 @@ pub mod Asking
 mod AtOnce
 mod AxisValues
 mod Begun
+pub mod CalcFitting
 mod Calculated
 mod Came
 mod Counting
 mod Endings
 mod First
 pub mod Fitting
-pub mod Givens
 mod Going
 mod Gone
 mod Headline

@@ -7,7 +7,7 @@ use Rattle.fisca_grid.specs.Grid.{groups_of, axes_in}
 use Rattle.fisca_grid.specs.NamedAxes.{name_of, specs_of, own_groups, filter_on, filter_from}
 use Rattle.fisca_grid.specs.Words.{axis_of}
 use Rattle.fisca_grid.specs.declared.axes.AxisSpec.{AxisSpec}
-use Rattle.fisca_grid.specs.declared.condition.Condition.{Condition}
+use Rattle.fisca_grid.specs.declared.condition.AxisCondition.{AxisCondition}
 use Rattle.fisca_grid.specs.declared.condition.Filter.{Filter}
 use Rattle.fisca_grid.proofs.Groups.{sum_first}
 use Rattle.fisca_commands.specs.AxesRun.{required_filter, optional_filter}
@@ -31,7 +31,7 @@ specs_length : (words : List (List ℕ)) (specs : List AxisSpec) → specs_of wo
 specs_length [] specs e = let none : [] ≡ specs = cc in ap length (sym none)
 specs_length (word ∷ words) specs e = omega (arith, described (axis_of word) (specs_of words) specs (length words) (specs_length words) e)
 
-one_inside : (from : ℕ) (o : Option Condition) (p : Option Filter) (filter : Filter) (bound : ℕ) → option_or (option_map (filter_on from) o) p ≡ Some filter → from < bound → (p ≡ Some filter → filter.axis < bound) → filter.axis < bound
+one_inside : (from : ℕ) (o : Option AxisCondition) (p : Option Filter) (filter : Filter) (bound : ℕ) → option_or (option_map (filter_on from) o) p ≡ Some filter → from < bound → (p ≡ Some filter → filter.axis < bound) → filter.axis < bound
 one_inside from None p filter bound e less later = later e
 one_inside from (Some condition) p filter bound e less later =
     let same : filter_on from condition ≡ filter = cc in

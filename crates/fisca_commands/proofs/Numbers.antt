@@ -1,36 +1,37 @@
 -- What axes move has numbers.
 use Rattle.std.proofs.Common.{◌≡◌, ℕ, List, [], ◌∷◌, ◌++◌, Bool, true, false, Option, Some, None, slice_get, refl, sym, ap, subst, ◌∙◌, if◌then◌else◌}
 use Rattle.std.specs.Prelude.{⊤, Ok, nat_lt, option_and_then}
-use Rattle.fisca_calc.specs.Faults.{fault_at}
-use Rattle.fisca_calc.specs.declared.fault.RunFileKind.TheVariants as kind
+use Rattle.fisca_columns.specs.Faults.{fault_at}
+use Rattle.fisca_columns.specs.declared.fault.RunFileKind.TheVariants as kind
 use Rattle.fisca_grid.specs.declared.axes.AxesFault.TheVariants.{BadIndex}
 use Rattle.fisca_inputs.proofs.Typed.{then_ok}
 use Rattle.fisca_inputs.specs.Entries.{same_key}
 use Rattle.fisca_inputs.specs.Inputs.{key_given}
-use Rattle.fisca_inputs.specs.Seen.{value_seen}
+use Rattle.fisca_model.specs.Seen.{value_seen}
 use Rattle.fisca_inputs.specs.Typed.{GivensTyped, IsValueOf, is_typed}
 use Rattle.fisca_inputs.specs.declared.given.Given.{Given}
-use Rattle.fisca_meaning.specs.Dialogues as meaning
-use Rattle.fisca_meaning.specs.Questions.{variable_type}
-use Rattle.fisca_rosters.specs.Lookup.{count_at}
-use Rattle.fisca_rosters.specs.declared.entity_members.EntityMembers.{EntityMembers}
+use Rattle.fisca_model.specs.Values as meaning
+use Rattle.fisca_model.specs.Tables.{variable_type}
+use Rattle.fisca_groups.specs.Lookup.{count_at}
+use Rattle.fisca_groups.specs.declared.entity_members.EntityMembers.{EntityMembers}
 use Rattle.fisca_num.specs.Number.{Number}
-use Rattle.fisca_commands.proofs.Givens.{known_type}
-use Rattle.fisca_run_file.specs.Moved.{if_numbers, moved_at, moved_by, moved_of, moved_or_fault, period_moved, put_all_in, variable_moved, with_moved}
+use Rattle.fisca_situations.proofs.Typed.{known_type}
+use Rattle.fisca_run_file.specs.Moved.{if_numbers, moved_at, moved_by, moved_of, moved_or_fault, period_moved, variable_moved, with_moved}
+use Rattle.fisca_situations.specs.AllAxes.{put_all_in}
 use Rattle.fisca_situations.specs.Slots.{has_numbers}
 use Rattle.fisca_situations.specs.Axes.{put_in}
 use Rattle.fisca_run_file.specs.Positions.{cut_by, with_values}
 use Rattle.fisca_run_file.specs.SaidAxes.{SaidAxis}
 use Rattle.fisca_situations.specs.Reading.{variable_of}
-use Rattle.fisca_tables.specs.Known.{tables as known}
-use Rattle.fisca_tables.specs.KnownVariables.{value_type}
-use Rattle.fisca_tables.specs.declared.tables.Tables.{Tables}
-use Rattle.fisca_tables.specs.declared.variable.DeclaredType.{DeclaredType}
-use Rattle.fisca_tables.specs.declared.variable.DeclaredType.TheVariants as type
-use Rattle.fisca_tables.specs.declared.variable.Variable.{Variable}
+use Rattle.fisca_symbols.specs.Known.{tables as known}
+use Rattle.fisca_symbols.specs.KnownVariables.{value_type}
+use Rattle.fisca_symbols.specs.declared.tables.Tables.{Tables}
+use Rattle.fisca_symbols.specs.declared.variable.DeclaredType.{DeclaredType}
+use Rattle.fisca_symbols.specs.declared.variable.DeclaredType.TheVariants as type
+use Rattle.fisca_symbols.specs.declared.variable.Variable.{Variable}
 use Rattle.fisca_time.specs.Period.{Span}
-use Rattle.fisca_typing.specs.Tables.{otherwise}
-use Rattle.fisca_typing.specs.declared.kinds.ValueType.TheVariants as vt
+use Rattle.fisca_model.specs.Tables.{otherwise}
+use Rattle.fisca_model.specs.declared.value_type.ValueType.TheVariants as vt
 
 module _ (c : Tables) where
   abbrev HasNumbers : ℕ → Type 0

@@ -6,21 +6,21 @@ use Rattle.std.specs.Option.{ForSome}
 use Rattle.fisca_grid.specs.Axes.{step_of}
 use Rattle.fisca_grid.specs.AxesRow.{values_of}
 use Rattle.fisca_grid.specs.declared.axes.AxisSpec.{AxisSpec}
-use Rattle.fisca_heights.specs.Entries.{Entries}
-use Rattle.fisca_heights.specs.Reads.{unless_moved}
-use Rattle.fisca_meaning.specs.Dialogues.{Key}
-use Rattle.fisca_memo.specs.Evaluators.{IsMemoryOf, marks_in, simulation_of, turned_by}
-use Rattle.fisca_memo.specs.declared.evaluator.Evaluator.{Evaluator}
+use Rattle.fisca_memo_theory.specs.Entries.{Entries}
+use Rattle.fisca_memo_theory.specs.Reads.{unless_moved}
+use Rattle.fisca_model.specs.Values.{Key}
+use Rattle.fisca_evaluator.specs.Evaluators.{IsMemoryOf, marks_in, simulation_of, turned_by}
+use Rattle.fisca_evaluator.specs.declared.evaluator.Evaluator.{Evaluator}
 use Rattle.fisca_num.specs.Number.{Number}
 use Rattle.fisca_commands.proofs.AxisValues.{one_more, one_passed, value_there}
 use Rattle.fisca_commands.proofs.Passing.{just_for, just_none, just_on, turned_just}
 use Rattle.fisca_commands.specs.Kept.{with_inputs}
 use Rattle.fisca_commands.specs.Remembered.{AreJust}
-use Rattle.fisca_memo.specs.Slots.{turned_below}
+use Rattle.fisca_slots.specs.Turning.{turned_below}
 use Rattle.fisca_situations.specs.Slots.{turned}
 use Rattle.fisca_situations.specs.Views.{slot as slot_view}
 use Rattle.fisca_situations.specs.declared.slot.Slot.{Slot}
-use Rattle.fisca_eval.specs.Simulations.{Simulation}
+use Rattle.fisca_simulation.specs.Simulations.{Simulation}
 
 module _ {R : Type 0} (find : R → Entries) (t : ℕ) (slots : List Slot) (axes : List (AxisSpec × ℕ)) where
   -- where the slots from a place on are turned, all are

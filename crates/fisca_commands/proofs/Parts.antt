@@ -2,7 +2,7 @@
 use Rattle.std.proofs.Common.{OnErr, Result, Ok, Err, ◌≡◌, ℕ, ◌+◌, List, ◌++◌, length, take, sym, ◌∙◌, ap, arith}
 use Rattle.std.proofs.lemmas.List.{take-append-le, length-append}
 use Rattle.std.proofs.Math.Seq.{take-append-add}
-use Rattle.fisca_lines.specs.Run.{IsProperPrefix}
+use Rattle.fisca_writer.specs.Run.{IsProperPrefix}
 
 -- a beginning of the first part
 pub of_first : (part xs ys : List ℕ) → IsProperPrefix part xs → IsProperPrefix part (xs ++ ys)

@@ -1,18 +1,18 @@
 -- What is remembered in a run of keys whose work reads no wheel, from position to position.
 use Rattle.std.proofs.Common.{◌≡◌, ◌⊎◌, ◌+◌, ℕ, List, Some, Ok, refl, sym, ap, subst, ◌∙◌, inl, inr, ⊎_elim}
-use Rattle.fisca_eval.specs.Told.{told_in}
-use Rattle.fisca_heights.proofs.Reading.{reads_none}
-use Rattle.fisca_heights.proofs.Turned.{still_here, still_there}
-use Rattle.fisca_heights.specs.Added.{IsFreeKey}
-use Rattle.fisca_heights.specs.Entries.{Entries}
-use Rattle.fisca_heights.specs.Reads.{IsReads, reads_wheel, unless_moved}
-use Rattle.fisca_inputs.specs.declared.key.Key as inputs
-use Rattle.fisca_meaning.specs.Dialogues.{Key}
-use Rattle.fisca_memo.proofs.Risen.{raised_on}
-use Rattle.fisca_memo.specs.Counting.{raised}
-use Rattle.fisca_memo.specs.Evaluators.{IsMemoryOf, simulation_of}
-use Rattle.fisca_memo.specs.declared.evaluator.Evaluator.{Evaluator}
-use Rattle.fisca_memo.specs.declared.counts.Counts.{Counts}
+use Rattle.fisca_simulation.specs.Told.{told_in}
+use Rattle.fisca_memo_theory.proofs.Reading.{reads_none}
+use Rattle.fisca_memo_theory.proofs.Turned.{still_here, still_there}
+use Rattle.fisca_memo_theory.specs.Added.{IsFreeKey}
+use Rattle.fisca_memo_theory.specs.Entries.{Entries}
+use Rattle.fisca_memo_theory.specs.Reads.{IsReads, reads_wheel, unless_moved}
+use Rattle.fisca_model.specs.declared.key.Key as inputs
+use Rattle.fisca_model.specs.Values.{Key}
+use Rattle.fisca_evaluator.proofs.Risen.{raised_on}
+use Rattle.fisca_evaluator.specs.Counting.{raised}
+use Rattle.fisca_evaluator.specs.Evaluators.{IsMemoryOf, simulation_of}
+use Rattle.fisca_evaluator.specs.declared.evaluator.Evaluator.{Evaluator}
+use Rattle.fisca_evaluator.specs.declared.counts.Counts.{Counts}
 use Rattle.fisca_rules.specs.declared.rule_set.RuleSet.{RuleSet}
 use Rattle.fisca_commands.proofs.Gone.{HaveAllWorked, HaveSomeWorked}
 use Rattle.fisca_commands.proofs.Still.{free_read, read_free}
@@ -22,7 +22,7 @@ use Rattle.fisca_commands.specs.Remembered.{AreJust, AreRaised, IsStillWork, Wor
 use Rattle.fisca_commands.specs.Runs.{simulation_in}
 use Rattle.fisca_run_file.specs.Positions.{situation_with}
 use Rattle.fisca_run_file.specs.RunFiles.{RunFile}
-use Rattle.fisca_eval.specs.Simulations.{Simulation, sources}
+use Rattle.fisca_simulation.specs.Simulations.{Simulation, sources}
 
 pub just_none : (m : Entries) (work : Key → Type 0) → ((k : Key) → work k → ⊥) → AreJust m m work
 just_none m work none = record { kept = λ k free. free; only = λ k free. inl free; all = λ k w. absurd (none k w) }

@@ -7,7 +7,7 @@ use Rattle.fisca_grid.specs.Grid.{axes_at, count_of, counts_of}
 use Rattle.fisca_inputs.proofs.Typed.{then_ok}
 use Rattle.fisca_inputs.specs.Entries.{Entries}
 use Rattle.fisca_inputs.specs.declared.given.Given.{Given}
-use Rattle.fisca_lines.specs.Odometer.{IsNear, places_at}
+use Rattle.fisca_writer.specs.Odometer.{IsNear, places_at}
 use Rattle.fisca_num.specs.Number.{Number}
 use Rattle.fisca_params.specs.Results.{and_then}
 use Rattle.fisca_rules.specs.Views.{rule_set}
@@ -17,11 +17,12 @@ use Rattle.fisca_commands.specs.Runs.{IsAsked, positions}
 use Rattle.fisca_run_file.specs.Positions.{inputs_with, moved_at, situation_with, with_values}
 use Rattle.fisca_run_file.specs.RunFiles.{RunFile}
 use Rattle.fisca_situations.specs.Situations.{Situation}
-use Rattle.fisca_memo.proofs.OfFiles.{at_position, start, starts}
-use Rattle.fisca_memo.proofs.OfPositions.{turned_to}
-use Rattle.fisca_memo.proofs.Positions.{each_situated}
-use Rattle.fisca_memo.specs.Slots.{places_of, slots_of, turned_below}
-use Rattle.fisca_eval.specs.Simulations.{Simulation}
+use Rattle.fisca_run.proofs.OfFiles.{at_position, start, starts}
+use Rattle.fisca_run.proofs.OfPositions.{turned_to}
+use Rattle.fisca_run.proofs.Positions.{each_situated}
+use Rattle.fisca_run.specs.Slots.{places_of, slots_of}
+use Rattle.fisca_slots.specs.Turning.{turned_below}
+use Rattle.fisca_simulation.specs.Simulations.{Simulation}
 use Rattle.fisca_yaml.specs.Node.{Node}
 
 -- the values of which inputs were made

@@ -3,13 +3,13 @@ use Rattle.std.proofs.Common.{◌≡◌, ◌<◌, ℕ, zero, suc, ◌/◌, ◌^�
 use Rattle.std.proofs.Math.Nat.{pow-suc}
 use Rattle.std.proofs.lemmas.Nat.Bits.{bit_at_lowest, bit_at-suc, bit_at-lt}
 use Rattle.std.specs.Int.{bit_at}
-use Rattle.fisca_answers.specs.Answers.{Sources}
-use Rattle.fisca_heights.proofs.Reading.{reads_none}
-use Rattle.fisca_heights.specs.Added.{IsFreeKey}
-use Rattle.fisca_heights.specs.Entries.{Entries, Remembered}
-use Rattle.fisca_heights.specs.Memory.{IsTrueEntry, IsTrueMemory}
-use Rattle.fisca_heights.specs.Reads.{AreReads, IsReads, reads_wheel}
-use Rattle.fisca_meaning.specs.Dialogues.{Key}
+use Rattle.fisca_key_semantics.specs.Answers.{Sources}
+use Rattle.fisca_memo_theory.proofs.Reading.{reads_none}
+use Rattle.fisca_memo_theory.specs.Added.{IsFreeKey}
+use Rattle.fisca_memo_theory.specs.Entries.{Entries, Remembered}
+use Rattle.fisca_memo_theory.specs.Memory.{IsTrueEntry, IsTrueMemory}
+use Rattle.fisca_memo_theory.specs.Reads.{AreReads, IsReads, reads_wheel}
+use Rattle.fisca_model.specs.Values.{Key}
 
 -- a number none of whose bits is set is 0
 below_power : (n : ℕ) → n < 2 ^ n

@@ -1,25 +1,25 @@
 -- What is known of the tests of a file once it is read: each is worked out in a situation whose inputs are of their types.
 use Rattle.std.proofs.Common.{◌≡◌, ◌∙◌, ℕ, List, Ok, Err, ap, subst}
-use Rattle.fisca_eval.specs.Told.{IsReady}
+use Rattle.fisca_simulation.specs.Told.{IsReady}
 use Rattle.fisca_params.specs.Source.{Source}
 use Rattle.fisca_params.specs.Tree.{TreeNode}
 use Rattle.fisca_rule_files.proofs.Built.{built}
 use Rattle.fisca_rule_files.specs.RuleFiles.{IsAccepted}
 use Rattle.std.specs.Prelude.{Option, Result}
 use Rattle.std.specs.Io.KnownBytes.{Appends}
-use Rattle.fisca_lines.specs.Run.{AppendsPart}
+use Rattle.fisca_writer.specs.Run.{AppendsPart}
 use Rattle.fisca_rules.specs.Rules.{Rules, rules_of}
 use Rattle.fisca_rules.specs.Views.{rule_set}
 use Rattle.fisca_rules.specs.declared.rule_set.RuleSet.{RuleSet}
 use Rattle.fisca_situations.specs.Situations.{Situation, situation_of}
-use Rattle.fisca_eval.specs.Sound.{InputsFit, IsSafeRules}
-use Rattle.fisca_syntax.specs.Modules.{Statement}
+use Rattle.fisca_simulation.specs.Sound.{InputsFit, IsSafeRules}
+use Rattle.fisca_ast.specs.Modules.{Statement}
 use Rattle.fisca_time.specs.Period.{Span}
-use Rattle.fisca_verdicts.specs.Read.{IsRead}
+use Rattle.fisca_test_file.specs.Read.{IsRead}
 use Rattle.fisca_yaml.specs.Node.{Node}
-use Rattle.fisca_verdicts.specs.Report.{IsReport, failed_of, passed_of, report_text}
-use Rattle.fisca_verdicts.specs.Tests.{tests_of}
-use Rattle.fisca_verdicts.specs.declared.all.Verdict.{Verdict}
+use Rattle.fisca_test_file.specs.Report.{IsReport, failed_of, passed_of, report_text}
+use Rattle.fisca_test_file.specs.Tests.{tests_of}
+use Rattle.fisca_test_file.specs.declared.all.Verdict.{Verdict}
 use Rattle.fisca_rule_files.specs.declared.refusal.Refusal.{Refusal}
 use Rattle.fisca_commands.specs.Test.{IsTested, IsWritten, Testing, scene_in, simulation_in}
 

@@ -2,15 +2,15 @@
 use Rattle.std.proofs.Common.{◌≡◌, ℕ, ◌*◌, List, [], ◌∷◌, ◌++◌, codes, refl}
 use Rattle.std.specs.Prelude.{true, false, Some, Result, Ok, Err, if◌then◌else◌, ◌==◌}
 use Rattle.std.specs.Fmt.{decimal}
-use Rattle.fisca_calc.specs.Shown.{shown}
-use Rattle.fisca_grid.specs.declared.condition.Comparison.{Comparison}
-use Rattle.fisca_grid.specs.declared.condition.Comparison.TheVariants.{AtLeast, AtMost, Equal, NotEqual, Above, Below}
+use Rattle.fisca_columns.specs.Shown.{shown}
+use Rattle.fisca_grid.specs.declared.condition.AxisComparison.{AxisComparison}
+use Rattle.fisca_grid.specs.declared.condition.AxisComparison.TheVariants.{AtLeast, AtMost, Equal, NotEqual, Above, Below}
 use Rattle.fisca_inputs.specs.Entries.{key}
 use Rattle.fisca_inputs.specs.declared.given.Given.{Given}
-use Rattle.fisca_inputs.specs.declared.given.Value.{Value}
-use Rattle.fisca_inputs.specs.declared.given.Value.TheVariants as v
-use Rattle.fisca_inputs.specs.declared.key.Key.{Key}
-use Rattle.fisca_lines.specs.Row.{Row, Nothing, Line, Fault}
+use Rattle.fisca_model.specs.declared.value.Value.{Value}
+use Rattle.fisca_model.specs.declared.value.Value.TheVariants as v
+use Rattle.fisca_model.specs.declared.key.Key.{Key}
+use Rattle.fisca_writer.specs.Row.{Row, Nothing, Line, Fault}
 use Rattle.fisca_num.specs.Number.{zero_number, one_number}
 use Rattle.fisca_num.specs.Text.{text_of as number_text}
 use Rattle.fisca_commands.specs.Conditions.{all_met, meets}
@@ -18,9 +18,9 @@ use Rattle.fisca_commands.specs.Lines.{asked_row}
 use Rattle.fisca_run_file.specs.declared.condition.Condition.{Condition}
 use Rattle.fisca_time.specs.Period.{Span, months}
 use Rattle.fisca_time.specs.declared.unit.Unit.TheVariants as unit
-use Rattle.fisca_typing.specs.Tables.{Tables, Variable}
-use Rattle.fisca_typing.specs.declared.kinds.ValueType.{ValueType}
-use Rattle.fisca_typing.specs.declared.kinds.ValueType.TheVariants as type
+use Rattle.fisca_model.specs.Tables.{Tables, Variable}
+use Rattle.fisca_model.specs.declared.value_type.ValueType.{ValueType}
+use Rattle.fisca_model.specs.declared.value_type.ValueType.TheVariants as type
 
 -- a number, a bool and an Enum
 
@@ -56,7 +56,7 @@ answer k =
     if k.member == 0 then (if k.variable == 0 then Ok (v.Number one_number) else (if k.variable == 1 then Ok (v.Bool true) else Ok (v.Member 1)))
     else Err k.member
 
-abbrev if_is : Key → Comparison → Value → Condition
+abbrev if_is : Key → AxisComparison → Value → Condition
 if_is k x c = record { key = k; comparison = x; constant = c }
 
 abbrev moved : List Given

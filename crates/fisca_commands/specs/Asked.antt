@@ -1,7 +1,7 @@
 -- Which keys a row asks for, by the answers of keys.
 use Rattle.std.specs.Prelude.{List, [], ◌∷◌, ◌++◌, Bool, true, false, if◌then◌else◌, Result, Ok, Err}
-use Rattle.fisca_inputs.specs.declared.given.Value.{Value}
-use Rattle.fisca_inputs.specs.declared.key.Key.{Key}
+use Rattle.fisca_model.specs.declared.value.Value.{Value}
+use Rattle.fisca_model.specs.declared.key.Key.{Key}
 use Rattle.fisca_commands.specs.Conditions.{all_met, meets}
 use Rattle.fisca_run_file.specs.declared.condition.Condition.{Condition}
 

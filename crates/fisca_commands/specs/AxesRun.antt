@@ -5,13 +5,13 @@ use Rattle.std.specs.Io.KnownBytes.{Keeps}
 use Rattle.fisca_grid.specs.AxesRow.{axes_row}
 use Rattle.fisca_grid.specs.Grid.{axes_fault, groups_of, size_of}
 use Rattle.fisca_grid.specs.NamedAxes.{name_of, specs_of, own_groups, has_twins, filter_from}
-use Rattle.fisca_lines.specs.Run.{IsRun}
+use Rattle.fisca_writer.specs.Run.{IsRun}
 use Rattle.fisca_grid.specs.declared.axes.AxisSpec.{AxisSpec}
 use Rattle.fisca_grid.specs.declared.axes.AxesFault.{AxesFault}
 use Rattle.fisca_grid.specs.declared.axes.AxesFault.TheVariants.{AxisOverlap}
 use Rattle.fisca_grid.specs.declared.condition.Filter.{Filter}
-use Rattle.fisca_lines.specs.declared.fault.RunEnd.{RunEnd}
-use Rattle.fisca_lines.specs.declared.fault.RunFault.{RunFault}
+use Rattle.fisca_writer.specs.declared.fault.RunEnd.{RunEnd}
+use Rattle.fisca_writer.specs.declared.fault.RunFault.{RunFault}
 use Rattle.std.specs.declared.convert.Infallible.{Infallible}
 use Rattle.fisca_rule_files.specs.declared.refusal.Refusal.{Refusal}
 use Rattle.fisca_rule_files.specs.declared.refusal.Refusal.TheVariants.{Axes, BadWord, BadCondition, Memory}

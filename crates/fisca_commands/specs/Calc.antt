@@ -1,25 +1,25 @@
 -- What `fisca calc` answers and writes.
 use Rattle.std.specs.Prelude.{◌≡◌, ◌≢◌, ◌⊎◌, ℕ, ◌++◌, List, [], length, Option, Some, None, Result, Ok, Err}
 use Rattle.std.specs.Io.KnownBytes.{Appends, Keeps}
-use Rattle.fisca_calc.specs.Calc.{Calc, calc_of}
-use Rattle.fisca_calc.specs.Lines.{column_row}
-use Rattle.fisca_calc.specs.declared.fault.RunFileFault.{RunFileFault}
-use Rattle.fisca_calc.specs.declared.fault.RunFileKind.TheVariants as file
-use Rattle.fisca_eval.specs.Told.{told_in}
-use Rattle.fisca_eval.specs.declared.fault.EvalFault.{EvalFault}
-use Rattle.fisca_lines.specs.Lines.{lines}
-use Rattle.fisca_lines.specs.Row.{Row}
-use Rattle.fisca_lines.specs.Run.{IsRun, texts}
-use Rattle.fisca_lines.specs.declared.fault.RunEnd.{RunEnd}
-use Rattle.fisca_lines.specs.declared.fault.RunEnd.TheVariants.{End}
-use Rattle.fisca_lines.specs.declared.fault.RunFault.{RunFault}
-use Rattle.fisca_lines.specs.declared.fault.RunFault.TheVariants as run
-use Rattle.fisca_rosters.specs.declared.entity_members.EntityMembers.{EntityMembers}
+use Rattle.fisca_columns.specs.Calc.{Calc, calc_of}
+use Rattle.fisca_columns.specs.Lines.{column_row}
+use Rattle.fisca_columns.specs.declared.fault.RunFileFault.{RunFileFault}
+use Rattle.fisca_columns.specs.declared.fault.RunFileKind.TheVariants as file
+use Rattle.fisca_simulation.specs.Told.{told_in}
+use Rattle.fisca_model.specs.declared.eval_fault.EvalFault.{EvalFault}
+use Rattle.fisca_writer.specs.Lines.{lines}
+use Rattle.fisca_writer.specs.Row.{Row}
+use Rattle.fisca_writer.specs.Run.{IsRun, texts}
+use Rattle.fisca_writer.specs.declared.fault.RunEnd.{RunEnd}
+use Rattle.fisca_writer.specs.declared.fault.RunEnd.TheVariants.{End}
+use Rattle.fisca_writer.specs.declared.fault.RunFault.{RunFault}
+use Rattle.fisca_writer.specs.declared.fault.RunFault.TheVariants as run
+use Rattle.fisca_groups.specs.declared.entity_members.EntityMembers.{EntityMembers}
 use Rattle.fisca_params.specs.Source.{Source}
 use Rattle.fisca_rules.specs.Views.{rule_set}
 use Rattle.fisca_rules.specs.declared.rule_set.RuleSet.{RuleSet}
-use Rattle.fisca_eval.specs.Simulations.{Simulation}
-use Rattle.fisca_tables.specs.Known.{tables as known}
+use Rattle.fisca_simulation.specs.Simulations.{Simulation}
+use Rattle.fisca_symbols.specs.Known.{tables as known}
 use Rattle.fisca_yaml.specs.Grouping.{document}
 use Rattle.fisca_yaml.specs.Node.{Node}
 use Rattle.fisca_rule_files.specs.RuleFiles.{IsAccepted, RefusesFiles}

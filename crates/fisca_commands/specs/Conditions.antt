@@ -1,17 +1,17 @@
 -- When the values of keys meet the conditions of a filter.
 use Rattle.std.specs.Prelude.{List, [], ◌∷◌, ℕ, ◌==◌, Bool, true, false, not, if◌then◌else◌, Result, Ok}
 use Rattle.fisca_grid.specs.Condition.{is_met_by}
-use Rattle.fisca_grid.specs.declared.condition.Comparison.{Comparison}
-use Rattle.fisca_grid.specs.declared.condition.Comparison.TheVariants.{AtLeast, AtMost, Equal, NotEqual, Above, Below}
-use Rattle.fisca_inputs.specs.declared.given.Value.{Value}
-use Rattle.fisca_inputs.specs.declared.given.Value.TheVariants as v
-use Rattle.fisca_inputs.specs.declared.key.Key.{Key}
+use Rattle.fisca_grid.specs.declared.condition.AxisComparison.{AxisComparison}
+use Rattle.fisca_grid.specs.declared.condition.AxisComparison.TheVariants.{AtLeast, AtMost, Equal, NotEqual, Above, Below}
+use Rattle.fisca_model.specs.declared.value.Value.{Value}
+use Rattle.fisca_model.specs.declared.value.Value.TheVariants as v
+use Rattle.fisca_model.specs.declared.key.Key.{Key}
 use Rattle.fisca_num.specs.Number.{Number, number_cmp}
 use Rattle.fisca_params.specs.Results.{and_then}
 use Rattle.fisca_run_file.specs.declared.condition.Condition.{Condition}
 
 -- values that are the same, or not; without an order the other comparisons are never met
-abbrev pub is_met_by_sameness : Comparison → Bool → Bool
+abbrev pub is_met_by_sameness : AxisComparison → Bool → Bool
 is_met_by_sameness AtLeast same = false
 is_met_by_sameness AtMost same = false
 is_met_by_sameness Equal same = same
@@ -24,17 +24,17 @@ same_bool true b = b
 same_bool false b = not b
 
 -- by the order of numbers; a constant of another type is never met
-abbrev pub meets_number : Comparison → Number → Value → Bool
+abbrev pub meets_number : AxisComparison → Number → Value → Bool
 meets_number x n (v.Number m) = is_met_by x (number_cmp n m)
 meets_number x n (v.Bool b) = false
 meets_number x n (v.Member i) = false
 
-abbrev pub meets_bool : Comparison → Bool → Value → Bool
+abbrev pub meets_bool : AxisComparison → Bool → Value → Bool
 meets_bool x a (v.Number m) = false
 meets_bool x a (v.Bool b) = is_met_by_sameness x (same_bool a b)
 meets_bool x a (v.Member i) = false
 
-abbrev pub meets_member : Comparison → ℕ → Value → Bool
+abbrev pub meets_member : AxisComparison → ℕ → Value → Bool
 meets_member x i (v.Number m) = false
 meets_member x i (v.Bool b) = false
 meets_member x i (v.Member j) = is_met_by_sameness x (i == j)

@@ -1,8 +1,8 @@
 -- How a command ends: what it answers, tells and writes.
 use Rattle.std.specs.Prelude.{◌≡◌, ◌≢◌, ◌⊎◌, ℕ, ◌==◌, if◌then◌else◌, List, [], map, Option, Some, None, option_map, Result, Ok, Err, string_bytes}
 use Rattle.std.specs.Io.KnownBytes.{Appends, Keeps}
-use Rattle.fisca_lines.specs.Run.{AppendsPart}
-use Rattle.fisca_lines.specs.declared.fault.RunEnd.{RunEnd}
+use Rattle.fisca_writer.specs.Run.{AppendsPart}
+use Rattle.fisca_writer.specs.declared.fault.RunEnd.{RunEnd}
 use Rattle.fisca_params.specs.Source.{Source}
 use Rattle.fisca_rule_files.specs.declared.refusal.Refusal.{Refusal}
 use Rattle.fisca_rule_files.specs.declared.refusal.Refusal.TheVariants.{Write, Memory}
@@ -14,7 +14,7 @@ use Rattle.fisca_rule_files.specs.Check.{IsCheck}
 use Rattle.fisca_commands.specs.LastLine.{last_line}
 use Rattle.fisca_commands.specs.Run.{IsRunAnswer}
 use Rattle.fisca_commands.specs.Test.{IsTest}
-use Rattle.fisca_verdicts.specs.declared.all.Verdict.{Verdict}
+use Rattle.fisca_test_file.specs.declared.all.Verdict.{Verdict}
 use Rattle.fisca_rule_files.specs.Refusal.{status_of, line_of}
 
 -- an exit status, and what is told on standard error

@@ -1,7 +1,7 @@
 -- How runs end, and what they leave.
 use Rattle.std.specs.Prelude.{◌≡◌, ◌<◌, ℕ, Option, Some, Result, Ok, Err}
-use Rattle.fisca_lines.specs.declared.fault.RunEnd.{RunEnd}
-use Rattle.fisca_lines.specs.declared.fault.RunEnd.TheVariants as end
+use Rattle.fisca_writer.specs.declared.fault.RunEnd.{RunEnd}
+use Rattle.fisca_writer.specs.declared.fault.RunEnd.TheVariants as end
 use Rattle.fisca_commands.specs.Runs.{positions}
 use Rattle.fisca_run_file.specs.RunFiles.{RunFile}
 

@@ -1,13 +1,13 @@
 -- What a run of `fisca run` has written that nothing stopped, and one that a fault stopped.
 use Rattle.std.specs.Prelude.{◌≡◌, ◌≢◌, ◌≤◌, ◌<◌, ℕ, List, Option, Some, None, string_bytes}
 use Rattle.std.specs.Io.KnownBytes.{Appends}
-use Rattle.fisca_eval.specs.declared.fault.EvalFault.{EvalFault}
-use Rattle.fisca_lines.specs.Continued.{IsContinued}
-use Rattle.fisca_lines.specs.Lines.{FaultAt, lines, run_end}
-use Rattle.fisca_lines.specs.Row.{Row, Fault}
-use Rattle.fisca_lines.specs.Run.{texts}
-use Rattle.fisca_lines.specs.declared.fault.RunEnd.{RunEnd}
-use Rattle.fisca_lines.specs.declared.fault.RunEnd.TheVariants.{End, More}
+use Rattle.fisca_model.specs.declared.eval_fault.EvalFault.{EvalFault}
+use Rattle.fisca_writer.specs.Continued.{IsContinued}
+use Rattle.fisca_writer.specs.Lines.{FaultAt, lines, run_end}
+use Rattle.fisca_writer.specs.Row.{Row, Fault}
+use Rattle.fisca_writer.specs.Run.{texts}
+use Rattle.fisca_writer.specs.declared.fault.RunEnd.{RunEnd}
+use Rattle.fisca_writer.specs.declared.fault.RunEnd.TheVariants.{End, More}
 use Rattle.fisca_commands.specs.Runs.{positions, run_row}
 use Rattle.fisca_commands.specs.Run.{Running}
 use Rattle.fisca_commands.specs.Unanswered.{key_told}

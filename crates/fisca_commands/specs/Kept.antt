@@ -1,20 +1,20 @@
 -- One situation in which the axes of a run file move from position to position.
 use Rattle.std.specs.Prelude.{◌≡◌, ◌⊎◌, ◌<◌, ℕ, List, slice_get, Option, Some, None, Ok}
-use Rattle.fisca_heights.specs.Entries.{Entries}
+use Rattle.fisca_memo_theory.specs.Entries.{Entries}
 use Rattle.fisca_inputs.specs.Entries as inputs
 use Rattle.fisca_inputs.specs.declared.given.Given.{Given}
-use Rattle.fisca_meaning.specs.Dialogues.{Key}
-use Rattle.fisca_memo.specs.Evaluators.{AreMarked, IsMemoryOf}
+use Rattle.fisca_model.specs.Values.{Key}
+use Rattle.fisca_evaluator.specs.Evaluators.{AreMarked, IsMemoryOf}
 use Rattle.fisca_rules.specs.declared.rule_set.RuleSet.{RuleSet}
 use Rattle.fisca_commands.specs.Runs.{IsAsked, positions, simulation_in}
 use Rattle.fisca_run_file.specs.Positions.{moved_at, situation_with}
 use Rattle.fisca_run_file.specs.RunFiles.{RunFile}
 use Rattle.fisca_situations.specs.Situations.{Situation}
-use Rattle.fisca_memo.specs.Slots.{slots_of}
+use Rattle.fisca_run.specs.Slots.{slots_of}
 use Rattle.fisca_situations.specs.Views.{slot as slot_view, slot_list}
 use Rattle.fisca_situations.specs.declared.slot.Slot.{Slot}
-use Rattle.fisca_eval.specs.Simulations.{Simulation}
-use Rattle.fisca_tables.specs.declared.tables.Tables.{Tables}
+use Rattle.fisca_simulation.specs.Simulations.{Simulation}
+use Rattle.fisca_symbols.specs.declared.tables.Tables.{Tables}
 use Rattle.fisca_yaml.specs.Node.{Node}
 
 -- each slot's wheel is one of sixteen, and each key of its variable has the wheel's mark

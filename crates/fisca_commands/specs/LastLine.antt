@@ -1,8 +1,8 @@
 -- The line that tells how a run ended.
 use Rattle.std.specs.Prelude.{ℕ, ◌++◌, List, codes}
 use Rattle.std.specs.Fmt.{decimal}
-use Rattle.fisca_lines.specs.declared.fault.RunEnd.{RunEnd}
-use Rattle.fisca_lines.specs.declared.fault.RunEnd.TheVariants.{End, More}
+use Rattle.fisca_writer.specs.declared.fault.RunEnd.{RunEnd}
+use Rattle.fisca_writer.specs.declared.fault.RunEnd.TheVariants.{End, More}
 
 -- `end`, or `more` and the position from which a further run continues
 abbrev pub last_line : RunEnd → List ℕ

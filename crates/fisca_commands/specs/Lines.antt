@@ -1,16 +1,16 @@
 -- The line of a position: its number, the values of the axes, and those of the columns, with tabs between them, and a line feed.
 use Rattle.std.specs.Prelude.{ℕ, List, [], ◌∷◌, ◌++◌, Bool, true, false, Result, Ok, Err}
 use Rattle.std.specs.Fmt.{decimal}
-use Rattle.fisca_calc.specs.Texts.{value_text}
+use Rattle.fisca_columns.specs.Texts.{value_text}
 use Rattle.fisca_grid.specs.AxesRow.{tab, line_feed}
 use Rattle.fisca_inputs.specs.declared.given.Given.{Given}
-use Rattle.fisca_inputs.specs.declared.given.Value.{Value}
-use Rattle.fisca_inputs.specs.declared.key.Key.{Key}
-use Rattle.fisca_lines.specs.Row.{Row, Nothing, Line, Fault}
+use Rattle.fisca_model.specs.declared.value.Value.{Value}
+use Rattle.fisca_model.specs.declared.key.Key.{Key}
+use Rattle.fisca_writer.specs.Row.{Row, Nothing, Line, Fault}
 use Rattle.fisca_params.specs.Results.{and_then}
 use Rattle.fisca_commands.specs.Conditions.{all_met}
 use Rattle.fisca_run_file.specs.declared.condition.Condition.{Condition}
-use Rattle.fisca_typing.specs.Tables.{Tables}
+use Rattle.fisca_model.specs.Tables.{Tables}
 
 -- a tab, and the value of the variable at a place
 abbrev pub cell : Tables → ℕ → Value → List ℕ

@@ -1,7 +1,7 @@
 -- What functions answer that ask for the values of keys, where memory lasts.
 use Rattle.std.specs.Prelude.{◌≡◌, ⊤, ℕ, List, Result, Ok, Err}
-use Rattle.fisca_lines.specs.declared.fault.RowFault.{RowFault}
-use Rattle.fisca_lines.specs.declared.fault.RowFault.TheVariants as fault
+use Rattle.fisca_writer.specs.declared.fault.RowFault.{RowFault}
+use Rattle.fisca_writer.specs.declared.fault.RowFault.TheVariants as fault
 
 -- this outcome, or its fault; want of memory says nothing of it
 abbrev pub IsOutcome : {F X : Type 0} → Result X F → Result X (RowFault F) → Type 0

@@ -1,34 +1,34 @@
 -- What a run remembers of keys whose work reads no wheel: it is never forgotten, and so counted once.
 use Rattle.std.specs.Prelude.{◌≡◌, ◌⊎◌, ◌↔◌, ◌<◌, ◌≤◌, ◌+◌, ℕ, List, [], ◌∷◌, length, Some, Result, Ok, Err}
-use Rattle.fisca_answers.specs.Answers.{most_keys}
-use Rattle.fisca_answers.specs.Keys.{In}
-use Rattle.fisca_eval.specs.Told.{told_in}
-use Rattle.fisca_eval.specs.declared.fault.EvalFault.{EvalFault}
-use Rattle.fisca_heights.specs.Added.{AreDifferent, IsFreeKey}
-use Rattle.fisca_heights.specs.Entries.{Entries}
-use Rattle.fisca_heights.specs.Reads.{IsReads}
-use Rattle.fisca_heights.specs.Work.{IsWork}
-use Rattle.fisca_inputs.specs.Seen.{key_seen}
-use Rattle.fisca_inputs.specs.declared.key.Key as inputs
-use Rattle.fisca_lines.specs.declared.fault.RunEnd.{RunEnd}
-use Rattle.fisca_lines.specs.declared.fault.RunEnd.TheVariants as end
-use Rattle.fisca_lines.specs.declared.fault.RunFault.{RunFault}
-use Rattle.fisca_lines.specs.declared.fault.RunFault.TheVariants as fault
-use Rattle.fisca_meaning.specs.Dialogues.{Key}
-use Rattle.fisca_memo.specs.Counting.{raised}
-use Rattle.fisca_memo.specs.Evaluators.{marks_in}
-use Rattle.fisca_memo.specs.Recalled.{marks_of}
-use Rattle.fisca_memo.specs.declared.evaluator.Evaluator.{Evaluator}
-use Rattle.fisca_memo.specs.Counted.{one_more}
-use Rattle.fisca_memo.specs.declared.counts.Counts.{Counts}
+use Rattle.fisca_key_semantics.specs.Answers.{most_keys}
+use Rattle.fisca_key_semantics.specs.Keys.{In}
+use Rattle.fisca_simulation.specs.Told.{told_in}
+use Rattle.fisca_model.specs.declared.eval_fault.EvalFault.{EvalFault}
+use Rattle.fisca_memo_theory.specs.Added.{AreDifferent, IsFreeKey}
+use Rattle.fisca_memo_theory.specs.Entries.{Entries}
+use Rattle.fisca_memo_theory.specs.Reads.{IsReads}
+use Rattle.fisca_memo_theory.specs.Work.{IsWork}
+use Rattle.fisca_model.specs.Seen.{key_seen}
+use Rattle.fisca_model.specs.declared.key.Key as inputs
+use Rattle.fisca_writer.specs.declared.fault.RunEnd.{RunEnd}
+use Rattle.fisca_writer.specs.declared.fault.RunEnd.TheVariants as end
+use Rattle.fisca_writer.specs.declared.fault.RunFault.{RunFault}
+use Rattle.fisca_writer.specs.declared.fault.RunFault.TheVariants as fault
+use Rattle.fisca_model.specs.Values.{Key}
+use Rattle.fisca_evaluator.specs.Counting.{raised}
+use Rattle.fisca_evaluator.specs.Evaluators.{marks_in}
+use Rattle.fisca_evaluator.specs.Recalled.{marks_of}
+use Rattle.fisca_evaluator.specs.declared.evaluator.Evaluator.{Evaluator}
+use Rattle.fisca_evaluator.specs.Counted.{one_more}
+use Rattle.fisca_evaluator.specs.declared.counts.Counts.{Counts}
 use Rattle.fisca_rules.specs.declared.rule_set.RuleSet.{RuleSet}
 use Rattle.fisca_commands.specs.Asked.{keys_asked}
 use Rattle.fisca_commands.specs.Kept.{IsSituated}
 use Rattle.fisca_commands.specs.Runs.{positions}
 use Rattle.fisca_run_file.specs.RunFiles.{RunFile}
-use Rattle.fisca_memo.specs.Marks.{wheels_of}
-use Rattle.fisca_memo.specs.Slots.{slots_of}
-use Rattle.fisca_eval.specs.Simulations.{Simulation, normal_key, sources}
+use Rattle.fisca_run.specs.Marks.{wheels_of}
+use Rattle.fisca_run.specs.Slots.{slots_of}
+use Rattle.fisca_simulation.specs.Simulations.{Simulation, normal_key, sources}
 
 -- a key is one of these
 abbrev pub IsOneOf : List inputs.Key → inputs.Key → Type 0

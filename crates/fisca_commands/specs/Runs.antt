@@ -1,21 +1,21 @@
 -- The rows of a run file over the positions of its grid, under a rule set.
 use Rattle.std.specs.Prelude.{◌≡◌, ℕ, List, Option, Some, None, Result, Ok, Err}
-use Rattle.fisca_eval.specs.Told.{told_in}
-use Rattle.fisca_eval.specs.declared.fault.EvalFault.{EvalFault}
+use Rattle.fisca_simulation.specs.Told.{told_in}
+use Rattle.fisca_model.specs.declared.eval_fault.EvalFault.{EvalFault}
 use Rattle.fisca_grid.specs.Grid.{size_of}
 use Rattle.fisca_inputs.specs.declared.fault.SituationFault.{SituationFault}
 use Rattle.fisca_inputs.specs.declared.given.Given.{Given}
-use Rattle.fisca_lines.specs.Row.{Row, Nothing}
-use Rattle.fisca_rosters.specs.declared.entity_members.EntityMembers.{EntityMembers}
+use Rattle.fisca_writer.specs.Row.{Row, Nothing}
+use Rattle.fisca_groups.specs.declared.entity_members.EntityMembers.{EntityMembers}
 use Rattle.fisca_rules.specs.Views.{rule_set}
 use Rattle.fisca_rules.specs.declared.rule_set.RuleSet.{RuleSet}
 use Rattle.fisca_commands.specs.Lines.{asked_row}
 use Rattle.fisca_run_file.specs.Positions.{moved_at, situation_with}
 use Rattle.fisca_run_file.specs.RunFiles.{RunFile, run_file_of}
 use Rattle.fisca_situations.specs.Situations.{Situation}
-use Rattle.fisca_eval.specs.Simulations.{Simulation}
-use Rattle.fisca_eval.specs.Sound.{IsSafeRules}
-use Rattle.fisca_tables.specs.Known.{tables as known}
+use Rattle.fisca_simulation.specs.Simulations.{Simulation}
+use Rattle.fisca_simulation.specs.Sound.{IsSafeRules}
+use Rattle.fisca_symbols.specs.Known.{tables as known}
 use Rattle.fisca_yaml.specs.Node.{Node}
 
 -- a situation under the rule set, with what the file neutralises

@@ -1,10 +1,10 @@
 -- What `fisca test` answers and writes.
 use Rattle.std.specs.Prelude.{◌≡◌, ◌≢◌, ◌⊎◌, ℕ, List, [], Option, Some, Result, Ok, Err}
 use Rattle.std.specs.Io.KnownBytes.{Appends, Keeps}
-use Rattle.fisca_eval.specs.Faults.{name_of}
-use Rattle.fisca_eval.specs.Told.{told_in}
-use Rattle.fisca_eval.specs.declared.fault.EvalFault.{EvalFault}
-use Rattle.fisca_lines.specs.Run.{AppendsPart}
+use Rattle.fisca_model.specs.EvalFaults.{name_of}
+use Rattle.fisca_simulation.specs.Told.{told_in}
+use Rattle.fisca_model.specs.declared.eval_fault.EvalFault.{EvalFault}
+use Rattle.fisca_writer.specs.Run.{AppendsPart}
 use Rattle.fisca_params.specs.Source.{Source}
 use Rattle.fisca_rule_files.specs.declared.refusal.Refusal.{Refusal}
 use Rattle.fisca_rule_files.specs.declared.refusal.Refusal.TheVariants.{Tests, Write, Memory}
@@ -12,14 +12,14 @@ use Rattle.fisca_rule_files.specs.RuleFiles.{IsAccepted, RefusesFiles}
 use Rattle.fisca_rules.specs.Views.{rule_set}
 use Rattle.fisca_rules.specs.declared.rule_set.RuleSet.{RuleSet}
 use Rattle.fisca_situations.specs.Situations.{Situation}
-use Rattle.fisca_eval.specs.Simulations.{Simulation}
-use Rattle.fisca_tables.specs.Known.{tables as known}
-use Rattle.fisca_verdicts.specs.KeyFaults.{key_told}
-use Rattle.fisca_verdicts.specs.Report.{Scene, failed_of, passed_of, report_text, scene_of}
-use Rattle.fisca_verdicts.specs.Tests.{Test, tests_of}
-use Rattle.fisca_verdicts.specs.declared.all.Verdict.{Verdict}
-use Rattle.fisca_verdicts.specs.declared.fault.TestFault.{TestFault}
-use Rattle.fisca_verdicts.specs.declared.fault.TestKind.TheVariants as kind
+use Rattle.fisca_simulation.specs.Simulations.{Simulation}
+use Rattle.fisca_symbols.specs.Known.{tables as known}
+use Rattle.fisca_test_file.specs.KeyFaults.{key_told}
+use Rattle.fisca_test_file.specs.Report.{Scene, failed_of, passed_of, report_text, scene_of}
+use Rattle.fisca_test_file.specs.Tests.{Test, tests_of}
+use Rattle.fisca_test_file.specs.declared.all.Verdict.{Verdict}
+use Rattle.fisca_test_file.specs.declared.fault.TestFault.{TestFault}
+use Rattle.fisca_test_file.specs.declared.fault.TestKind.TheVariants as kind
 use Rattle.fisca_yaml.specs.Grouping.{document}
 use Rattle.fisca_yaml.specs.Node.{Node}
 use Rattle.fisca_commands.specs.Yaml.{IsYamlRefused}

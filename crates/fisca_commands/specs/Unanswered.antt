@@ -1,13 +1,13 @@
 -- What is told of a key that has no value.
 use Rattle.std.specs.Prelude.{◌≡◌, ℕ, List, codes, string_bytes, Option, Some, option_map}
-use Rattle.fisca_calc.specs.Texts.{key_text}
-use Rattle.fisca_eval.specs.Faults.{told}
-use Rattle.fisca_eval.specs.declared.fault.EvalFault.{EvalFault}
-use Rattle.fisca_inputs.specs.Seen.{key_of}
-use Rattle.fisca_rosters.specs.declared.entity_members.EntityMembers.{EntityMembers}
+use Rattle.fisca_columns.specs.Texts.{key_text}
+use Rattle.fisca_model.specs.EvalFaults.{told}
+use Rattle.fisca_model.specs.declared.eval_fault.EvalFault.{EvalFault}
+use Rattle.fisca_model.specs.Seen.{key_of}
+use Rattle.fisca_groups.specs.declared.entity_members.EntityMembers.{EntityMembers}
 use Rattle.fisca_rule_files.specs.declared.refusal.Unanswered.{Unanswered}
 use Rattle.fisca_rules.specs.declared.rule_set.RuleSet.{RuleSet}
-use Rattle.fisca_tables.specs.Known.{tables as known}
+use Rattle.fisca_symbols.specs.Known.{tables as known}
 
 -- the text of the key that a fault is told of, among these members
 abbrev pub key_told : RuleSet → List EntityMembers → EvalFault → Option (List ℕ)

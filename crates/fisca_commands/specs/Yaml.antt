@@ -4,7 +4,7 @@ use Rattle.std.specs.Str.Lines.{lines}
 use Rattle.fisca_rule_files.specs.declared.refusal.Refusal.{Refusal}
 use Rattle.fisca_rule_files.specs.declared.refusal.Refusal.TheVariants.{Yaml, Memory}
 use Rattle.fisca_yaml.specs.Grouping.{document}
-use Rattle.fisca_yaml.specs.declared.fault.Kind.TheVariants as yaml
+use Rattle.fisca_yaml.specs.declared.fault.YamlKind.TheVariants as yaml
 use Rattle.fisca_yaml.specs.declared.fault.YamlFault.{YamlFault}
 
 -- a fault of a text that has no tree: it is too long, which is told at line 1, or the fault stands at one of its lines

@@ -3,15 +3,15 @@
 ghost use Rattle.std.specs.Prelude.{◌≡◌, ◌≢◌, ℕ, map, option_map, IfOk, IfErr, Ok, Err, Some, None, string_bytes};
 ghost use Rattle.fisca_grid.specs.Grid.{axes_fault, groups_of};
 ghost use Rattle.fisca_grid.specs.NamedAxes.{name_of, specs_of, own_groups};
-ghost use Rattle.fisca_lines.specs.Sink.{CountsFailure};
+ghost use Rattle.fisca_writer.specs.Sink.{CountsFailure};
 ghost use Rattle.fisca_commands.specs.AxesRun.{axes_of_words, axes_within_limits, named_fault, optional_filter, IsAxesAnswer};
 ghost use Rattle.fisca_rule_files.specs.Refusal.{is_write};
 
 use fisca_grid::{
     Axes, AxesFault, AxisRows, AxisSpec, Filter, has_twins, own_groups, read_axes, read_filter,
 };
-use fisca_lines::{RowSink, RunEnd, write_lines};
 use fisca_rule_files::Refusal;
+use fisca_writer::{RowSink, RunEnd, write_lines};
 use std::alloc::Global;
 
 /// The condition that a text states of one of the axes that the words describe, if a text is given.

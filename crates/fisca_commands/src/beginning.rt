@@ -1,19 +1,19 @@
 //! The evaluator with which a run begins.
 
 ghost use Rattle.std.specs.Prelude.{◌≡◌, None, Ok, length};
-ghost use Rattle.fisca_meaning.specs.Dialogues as meaning;
-ghost use Rattle.fisca_memo.specs.Evaluators.{IsMemoryOf, marks_in, simulation_of};
-ghost use Rattle.fisca_memo.specs.Recalled.{marks_of};
-ghost use Rattle.fisca_memo.specs.Counted.{no_counts};
+ghost use Rattle.fisca_model.specs.Values as meaning;
+ghost use Rattle.fisca_evaluator.specs.Evaluators.{IsMemoryOf, marks_in, simulation_of};
+ghost use Rattle.fisca_evaluator.specs.Recalled.{marks_of};
+ghost use Rattle.fisca_evaluator.specs.Counted.{no_counts};
 ghost use Rattle.fisca_commands.specs.Kept.{IsKept, IsRunFile};
 ghost use Rattle.fisca_run_file.specs.Positions.{situation_with};
 ghost use Rattle.fisca_run_file.specs.Views.{run_file as run_file_view};
 ghost use Rattle.fisca_situations.specs.Views.{situation as situation_view};
-ghost use Rattle.fisca_memo.specs.Marks.{wheels_of};
-ghost use Rattle.fisca_memo.specs.Slots.{slots_of};
+ghost use Rattle.fisca_run.specs.Marks.{wheels_of};
+ghost use Rattle.fisca_run.specs.Slots.{slots_of};
 ghost use Rattle.fisca_situations.specs.Views.{slot_list};
 
-use fisca_memo::{Evaluator, Recall};
+use fisca_evaluator::{Evaluator, Recall};
 use fisca_rules::RuleSet;
 use fisca_run_file::RunFile;
 use fisca_situations::{Situation, Slot};

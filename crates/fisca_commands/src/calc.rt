@@ -1,9 +1,9 @@
 //! `fisca calc`: the values of the columns of a file.
 
 ghost use Rattle.std.specs.Prelude.{◌≡◌, Some, IfOk, IfErr};
-ghost use Rattle.fisca_calc.specs.Views.{calc};
-ghost use Rattle.fisca_eval.specs.Told.{IsReady};
-ghost use Rattle.fisca_lines.specs.Sink.{CountsFailure};
+ghost use Rattle.fisca_columns.specs.Views.{calc};
+ghost use Rattle.fisca_simulation.specs.Told.{IsReady};
+ghost use Rattle.fisca_writer.specs.Sink.{CountsFailure};
 ghost use Rattle.fisca_situations.specs.Views.{situation as situation_view};
 ghost use Rattle.fisca_yaml.specs.Grouping.{document};
 ghost use Rattle.fisca_yaml.specs.Views.{node};
@@ -12,15 +12,17 @@ ghost use Rattle.fisca_commands.specs.Yaml.{IsYamlRefused};
 ghost use Rattle.fisca_rule_files.specs.Refusal.{is_write};
 
 use super::unanswered::unanswered;
-use fisca_calc::{CalcFile, RunFileKind, write_columns};
-use fisca_eval::{EvalFault, calc_inputs_fit, rule_sets_are_safe};
-use fisca_lines::{RowSink, RunFault};
-use fisca_memo::{Evaluator, IndexRecall};
+use crate::calc_inputs_fit;
+use fisca_columns::{CalcFile, RunFileKind, write_columns};
+use fisca_evaluator::{Evaluator, IndexRecall};
+use fisca_model::EvalFault;
 use fisca_params::SourceFile;
 use fisca_rule_files::{Refusal, rules_of};
 use fisca_rules::RuleSet;
+use fisca_simulation::rule_sets_are_safe;
 use fisca_situations::Situation;
-use fisca_yaml::{Kind, Tree, read};
+use fisca_writer::{RowSink, RunFault};
+use fisca_yaml::{Tree, YamlKind, read};
 use std::alloc::Global;
 
 /// The tree of a text.
@@ -30,7 +32,7 @@ pub(crate) fn read_tree(alloc: Global, text: &str) -> Result<Tree<'_>, Refusal>
 {
     match read(alloc, text) {
         Ok(tree) => Ok(tree),
-        Err(fault) if fault.kind == Kind::Memory => Err(Refusal::Memory),
+        Err(fault) if fault.kind == YamlKind::Memory => Err(Refusal::Memory),
         Err(fault) => Err(Refusal::Yaml(fault)),
     }
 }

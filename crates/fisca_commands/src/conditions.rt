@@ -1,26 +1,29 @@
 //! When values meet the conditions of a filter.
 
 ghost use Rattle.std.specs.Prelude.{◌≡◌};
-ghost use Rattle.fisca_calc.specs.Asked.{HaveAsked};
+ghost use Rattle.fisca_situations.specs.Asked.{HaveAsked};
 ghost use Rattle.fisca_commands.specs.Asked.{keys_met};
 ghost use Rattle.fisca_commands.specs.Conditions as spec;
 ghost use Rattle.fisca_commands.specs.Outcomes.{IsOutcome};
 
-use fisca_calc::Answers;
-use fisca_grid::Comparison;
-use fisca_inputs::Value;
-use fisca_lines::RowFault;
+use fisca_grid::AxisComparison;
+use fisca_model::Value;
 use fisca_num::Fraction;
 use fisca_run_file::Condition;
+use fisca_situations::Answers;
+use fisca_writer::RowFault;
 
 /// Whether values that have no order meet a comparison, by whether they are the same.
-fn is_met_by_sameness(comparison: Comparison, same: bool) -> bool
+fn is_met_by_sameness(comparison: AxisComparison, same: bool) -> bool
     ensures { result ≡ spec.is_met_by_sameness comparison same }
 {
     match comparison {
-        Comparison::Equal => same,
-        Comparison::NotEqual => !same,
-        Comparison::AtLeast | Comparison::AtMost | Comparison::Above | Comparison::Below => false,
+        AxisComparison::Equal => same,
+        AxisComparison::NotEqual => !same,
+        AxisComparison::AtLeast
+        | AxisComparison::AtMost
+        | AxisComparison::Above
+        | AxisComparison::Below => false,
     }
 }
 
@@ -32,7 +35,7 @@ fn same_bool(ours: bool, theirs: bool) -> bool
 }
 
 /// Whether a number meets a comparison with a constant.
-fn meets_number(comparison: Comparison, number: Fraction, constant: Value) -> bool
+fn meets_number(comparison: AxisComparison, number: Fraction, constant: Value) -> bool
     ensures { result ≡ spec.meets_number comparison number constant }
 {
     match constant {
@@ -42,7 +45,7 @@ fn meets_number(comparison: Comparison, number: Fraction, constant: Value) -> bo
 }
 
 /// Whether a bool does.
-fn meets_bool(comparison: Comparison, truth: bool, constant: Value) -> bool
+fn meets_bool(comparison: AxisComparison, truth: bool, constant: Value) -> bool
     ensures { result ≡ spec.meets_bool comparison truth constant }
 {
     match constant {
@@ -52,7 +55,7 @@ fn meets_bool(comparison: Comparison, truth: bool, constant: Value) -> bool
 }
 
 /// Whether a member of an Enum does.
-fn meets_member(comparison: Comparison, place: usize, constant: Value) -> bool
+fn meets_member(comparison: AxisComparison, place: usize, constant: Value) -> bool
     ensures { result ≡ spec.meets_member comparison place constant }
 {
     match constant {

@@ -3,9 +3,9 @@
 ghost use Rattle.std.specs.Prelude.{◌≡◌, option_map};
 ghost use Rattle.fisca_commands.specs.Ending.{done, judged, told_of, IsTold};
 
-use fisca_lines::RunFault;
 use fisca_rule_files::Refusal;
-use fisca_verdicts::Verdict;
+use fisca_test_file::Verdict;
+use fisca_writer::RunFault;
 use std::alloc::Global;
 use std::borrow::CowStr;
 use std::marker::Model;

@@ -1,8 +1,8 @@
 //! The run over the grid of a run file.
 
 ghost use Rattle.std.specs.Prelude.{◌≡◌, ◌≢◌, ◌<◌, ◌≤◌, ◌↔◌, IfOk, IfSome, IfNone, IsErrOf, Some, length, map};
-ghost use Rattle.fisca_lines.specs.Run.{IsRun, is_write};
-ghost use Rattle.fisca_lines.specs.Sink.{CountsFailure};
+ghost use Rattle.fisca_writer.specs.Run.{IsRun, is_write};
+ghost use Rattle.fisca_writer.specs.Sink.{CountsFailure};
 ghost use Rattle.fisca_commands.specs.Ends.{IsAtOnce, end_of, stop_of};
 ghost use Rattle.fisca_commands.specs.Kept.{IsRunFile};
 ghost use Rattle.fisca_commands.specs.Remembered.{AreCounts};
@@ -10,8 +10,8 @@ ghost use Rattle.fisca_commands.specs.Runs.{IsAsked, positions, run_row};
 ghost use Rattle.fisca_run_file.specs.Positions.{situation_with};
 ghost use Rattle.fisca_run_file.specs.Views.{run_file as run_file_view};
 ghost use Rattle.fisca_situations.specs.Views.{situation as situation_view};
-ghost use Rattle.fisca_memo.specs.Marks.{wheels_of};
-ghost use Rattle.fisca_memo.specs.Slots.{slots_of};
+ghost use Rattle.fisca_run.specs.Marks.{wheels_of};
+ghost use Rattle.fisca_run.specs.Slots.{slots_of};
 ghost use Rattle.fisca_situations.specs.Views.{slot_list};
 ghost use Rattle.fisca_yaml.specs.Views.{node};
 
@@ -19,11 +19,11 @@ use crate::beginning::evaluator_of;
 use crate::kept::run_with;
 use crate::rows::RunRows;
 use crate::run_start::{RunStart, start};
-use fisca_eval::EvalFault;
-use fisca_lines::{RowSink, RunEnd, RunFault, write_lines};
-use fisca_memo::{Counts, IndexRecall};
+use fisca_evaluator::{Counts, IndexRecall};
+use fisca_model::EvalFault;
 use fisca_rules::RuleSet;
 use fisca_run_file::RunFile;
+use fisca_writer::{RowSink, RunEnd, RunFault, write_lines};
 use fisca_yaml::Tree;
 use std::alloc::Global;
 

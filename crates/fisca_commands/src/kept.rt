@@ -1,21 +1,21 @@
 //! A run in one situation, whose values are kept from position to position.
 
 ghost use Rattle.std.specs.Prelude.{◌≡◌, ◌<◌, ◌↔◌, None, IsErrOf};
-ghost use Rattle.fisca_lines.specs.Run.{IsRun, is_write};
-ghost use Rattle.fisca_lines.specs.Sink.{CountsFailure};
-ghost use Rattle.fisca_memo.specs.Evaluators.{marks_in, simulation_of};
+ghost use Rattle.fisca_writer.specs.Run.{IsRun, is_write};
+ghost use Rattle.fisca_writer.specs.Sink.{CountsFailure};
+ghost use Rattle.fisca_evaluator.specs.Evaluators.{marks_in, simulation_of};
 ghost use Rattle.fisca_commands.specs.Kept.{IsKept};
 ghost use Rattle.fisca_commands.specs.Remembered.{HasEnded};
 ghost use Rattle.fisca_commands.specs.Runs.{positions, run_row};
 ghost use Rattle.fisca_run_file.specs.Views.{run_file as run_file_view};
 
 use crate::kept_rows::{KeptRows, Room};
-use fisca_eval::EvalFault;
-use fisca_lines::{RowSink, RunEnd, RunFault, write_lines};
-use fisca_memo::{Evaluator, Recall};
+use fisca_evaluator::{Evaluator, Recall};
+use fisca_model::EvalFault;
 use fisca_rules::RuleSet;
 use fisca_run_file::RunFile;
 use fisca_situations::Slot;
+use fisca_writer::{RowSink, RunEnd, RunFault, write_lines};
 use std::alloc::Global;
 
 /// Writes the lines of rows whose values are kept. The rows hold the evaluator all along, so that what it is then is known where they were made.

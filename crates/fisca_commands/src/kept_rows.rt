@@ -1,11 +1,11 @@
 //! The rows of a run file in one situation, whose values are kept from position to position.
 
 ghost use Rattle.std.specs.Prelude.{◌≡◌, ◌<◌, [], Some, string_bytes};
-ghost use Rattle.fisca_calc.specs.Asked.{HaveAsked};
-ghost use Rattle.fisca_eval.specs.Told.{told_in};
-ghost use Rattle.fisca_lines.specs.Row.{IsWorkedOut};
-ghost use Rattle.fisca_memo.specs.Asked.{HasRefused, HasWorked};
-ghost use Rattle.fisca_memo.specs.Evaluators.{IsMemoryOf, marks_in, simulation_of};
+ghost use Rattle.fisca_situations.specs.Asked.{HaveAsked};
+ghost use Rattle.fisca_simulation.specs.Told.{told_in};
+ghost use Rattle.fisca_writer.specs.Row.{IsWorkedOut};
+ghost use Rattle.fisca_evaluator.specs.Asked.{HasRefused, HasWorked};
+ghost use Rattle.fisca_evaluator.specs.Evaluators.{IsMemoryOf, marks_in, simulation_of};
 ghost use Rattle.fisca_commands.specs.Asked.{keys_asked};
 ghost use Rattle.fisca_commands.specs.Kept.{IsRunFile, IsSituated};
 ghost use Rattle.fisca_commands.specs.Runs.{positions, run_row};
@@ -14,14 +14,14 @@ ghost use Rattle.fisca_run_file.specs.Views.{run_file as run_file_view};
 use crate::conditions::all_met;
 use crate::row::{Asked, write_line};
 use crate::turning::turn_slots;
-use fisca_eval::EvalFault;
+use fisca_evaluator::{Evaluator, Recall};
 use fisca_inputs::Given;
-use fisca_lines::{Groups, RowFault, Rows, Selection};
-use fisca_memo::{Evaluator, Recall};
+use fisca_model::EvalFault;
 use fisca_num::Fraction;
 use fisca_rules::RuleSet;
 use fisca_run_file::RunFile;
 use fisca_situations::Slot;
+use fisca_writer::{Groups, RowFault, Rows, Selection};
 use std::alloc::Global;
 
 /// A run file under a rule set, and an evaluator whose situation is that of the position that was worked out last or, before there is one, that with
@@ -66,7 +66,7 @@ impl Room {
 impl<'a, 'b, 'r, 't, R: Recall> Rows for KeptRows<'a, 'b, 'r, 't, R> {
     ghost use Rattle.std.specs.Prelude.{◌≡◌};
     ghost use Rattle.fisca_grid.specs.Grid.{counts_of};
-    ghost use Rattle.fisca_memo.specs.Evaluators.{marks_in, simulation_of};
+    ghost use Rattle.fisca_evaluator.specs.Evaluators.{marks_in, simulation_of};
     ghost use Rattle.fisca_commands.specs.Kept.{IsKept};
     ghost use Rattle.fisca_commands.specs.Remembered.{IsPassed, IsRefused};
     ghost use Rattle.fisca_commands.specs.Runs.{run_row};

@@ -3,11 +3,11 @@
 ghost use Rattle.std.specs.Prelude.{◌++◌, is_err, codes, OnOk, OnErr};
 ghost use Rattle.std.specs.Fmt.{decimal};
 ghost use Rattle.std.specs.Io.KnownBytes.{Appends};
-ghost use Rattle.fisca_lines.specs.Run.{AppendsPart};
-ghost use Rattle.fisca_lines.specs.Sink.{CountsFailure};
+ghost use Rattle.fisca_writer.specs.Run.{AppendsPart};
+ghost use Rattle.fisca_writer.specs.Sink.{CountsFailure};
 ghost use Rattle.fisca_commands.specs.LastLine.{last_line};
 
-use fisca_lines::{RowSink, RunEnd, SinkFault, hand_over};
+use fisca_writer::{RowSink, RunEnd, SinkFault, hand_over};
 
 /// Writes how a run ended: `end`, or `more` and the position from which a further run writes the remaining lines. It
 /// takes no memory.

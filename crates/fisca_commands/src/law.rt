@@ -3,14 +3,14 @@
 ghost use Rattle.std.specs.Prelude.{ℕ, List, Option, Ok, Err};
 ghost use Rattle.fisca_commands.specs.Headline.{IsFaulted, IsWhole};
 ghost use Rattle.fisca_commands.specs.Run.{IsRunAnswer, IsRunning, Running};
-ghost use Rattle.fisca_lines.specs.declared.fault.RunEnd.{RunEnd};
-ghost use Rattle.fisca_lines.specs.declared.fault.RunFault.TheVariants.{Eval};
+ghost use Rattle.fisca_writer.specs.declared.fault.RunEnd.{RunEnd};
+ghost use Rattle.fisca_writer.specs.declared.fault.RunFault.TheVariants.{Eval};
 ghost use Rattle.fisca_params.specs.Source.{Source};
 ghost use Rattle.fisca_rule_files.specs.declared.refusal.Refusal.TheVariants.{Run};
 ghost use Rattle.fisca_rule_files.specs.declared.refusal.Unanswered.{Unanswered};
 
-use fisca_eval::EvalFault;
-use fisca_lines::runs_continue;
+use fisca_model::EvalFault;
+use fisca_writer::runs_continue;
 
 /// The headline, of what `run_rules` answers: where nothing stopped a run, it has written exactly the lines of the positions from the start that
 /// satisfy the filter, up to the limit, and the position that it answers continues with exactly the remaining lines; a fault of an evaluation leaves

@@ -2,16 +2,18 @@
 
 ghost use Rattle.std.specs.Prelude.{◌≡◌, ◌++◌, [], OnOk, string_bytes};
 ghost use Rattle.std.specs.Fmt.{decimal};
-ghost use Rattle.fisca_calc.specs.Asked.{HaveAsked};
+ghost use Rattle.fisca_situations.specs.Asked.{HaveAsked};
 ghost use Rattle.fisca_commands.specs.Asked.{keys_written};
 ghost use Rattle.fisca_commands.specs.Lines as spec;
 ghost use Rattle.fisca_commands.specs.Outcomes.{IsWritten};
-ghost use Rattle.fisca_tables.specs.Known.{tables as known};
+ghost use Rattle.fisca_symbols.specs.Known.{tables as known};
 
-use fisca_calc::{Answers, write_value};
-use fisca_inputs::{Given, Key, Value};
-use fisca_lines::RowFault;
-use fisca_tables::Tables;
+use fisca_columns::write_value;
+use fisca_inputs::Given;
+use fisca_model::{Key, Value};
+use fisca_situations::Answers;
+use fisca_symbols::Tables;
+use fisca_writer::RowFault;
 use std::alloc::{AllocError, Global};
 
 /// Appends a tab and the value of the variable at a place.

@@ -1,20 +1,21 @@
 //! The row of a position.
 
 ghost use Rattle.std.specs.Prelude.{◌≡◌, [], string_bytes};
-ghost use Rattle.fisca_calc.specs.Asked.{HaveAsked};
-ghost use Rattle.fisca_lines.specs.Row.{IsWorkedOut};
+ghost use Rattle.fisca_situations.specs.Asked.{HaveAsked};
+ghost use Rattle.fisca_writer.specs.Row.{IsWorkedOut};
 ghost use Rattle.fisca_commands.specs.Asked.{keys_asked, keys_written};
 ghost use Rattle.fisca_commands.specs.Lines as spec;
 ghost use Rattle.fisca_commands.specs.Outcomes.{IsWritten};
-ghost use Rattle.fisca_tables.specs.Known.{tables as known};
+ghost use Rattle.fisca_symbols.specs.Known.{tables as known};
 
 use crate::conditions::all_met;
 use crate::lines::{write_columns, write_front};
-use fisca_calc::Answers;
-use fisca_inputs::{Given, Key};
-use fisca_lines::{RowFault, Selection};
+use fisca_inputs::Given;
+use fisca_model::Key;
 use fisca_run_file::Condition;
-use fisca_tables::Tables;
+use fisca_situations::Answers;
+use fisca_symbols::Tables;
+use fisca_writer::{RowFault, Selection};
 use std::alloc::Global;
 
 /// What a position asks for: the conditions of a filter, the keys of columns, and the inputs that axes move there.

@@ -2,26 +2,26 @@
 
 ghost use Rattle.std.specs.Prelude.{◌≡◌, [], Some, Ok, string_bytes};
 ghost use Rattle.fisca_inputs.specs.Outcomes.{Tells};
-ghost use Rattle.fisca_lines.specs.Row.{IsWorkedOut};
-ghost use Rattle.fisca_eval.specs.Told.{IsReady};
+ghost use Rattle.fisca_writer.specs.Row.{IsWorkedOut};
+ghost use Rattle.fisca_simulation.specs.Told.{IsReady};
 ghost use Rattle.fisca_commands.specs.Runs.{AreMembers, IsAsked, row_in, simulation_in};
 ghost use Rattle.fisca_run_file.specs.Positions.{moved_at, situation_with};
 ghost use Rattle.fisca_run_file.specs.Views.{run_file as run_file_view};
 ghost use Rattle.fisca_situations.specs.Views.{situation as situation_view};
-ghost use Rattle.fisca_memo.specs.Readings.{input_read};
+ghost use Rattle.fisca_run.specs.Readings.{input_read};
 ghost use Rattle.fisca_yaml.specs.Views.{node};
 
 use crate::row::{Asked, write_row};
-use fisca_calc::default_in;
-use fisca_eval::EvalFault;
+use fisca_columns::default_in;
+use fisca_evaluator::{Evaluator, IndexRecall};
 use fisca_inputs::{Given, SituationFault, SituationKind};
-use fisca_lines::{Groups, RowFault, Rows, Selection};
 use fisca_members::Members;
-use fisca_memo::{Evaluator, IndexRecall};
+use fisca_model::EvalFault;
 use fisca_rules::RuleSet;
 use fisca_run_file::RunFile;
 use fisca_situations::{Reading, Situation, reading_of};
-use fisca_tables::Tables;
+use fisca_symbols::Tables;
+use fisca_writer::{Groups, RowFault, Rows, Selection};
 use fisca_yaml::Tree;
 use std::alloc::Global;
 

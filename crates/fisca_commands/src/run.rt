@@ -2,7 +2,7 @@
 
 ghost use Rattle.std.specs.Prelude.{◌≡◌, IfOk, IfErr, Ok};
 ghost use Rattle.fisca_commands.specs.Run.{IsCounted, IsRunAnswer, IsRunTold, IsStopTold, RefusesRunTree};
-ghost use Rattle.fisca_lines.specs.Sink.{CountsFailure};
+ghost use Rattle.fisca_writer.specs.Sink.{CountsFailure};
 ghost use Rattle.fisca_rule_files.specs.Refusal.{is_write};
 ghost use Rattle.fisca_commands.specs.Ends.{end_of, stop_of};
 ghost use Rattle.fisca_commands.specs.Remembered.{AreCounts};
@@ -14,14 +14,15 @@ ghost use Rattle.fisca_yaml.specs.Views.{node};
 use super::calc::read_tree;
 use super::unanswered::unanswered;
 use crate::run_grid;
-use fisca_calc::RunFileKind;
-use fisca_eval::{EvalFault, rule_sets_are_safe};
-use fisca_lines::{RowSink, RunEnd, RunFault};
-use fisca_memo::Counts;
+use fisca_columns::RunFileKind;
+use fisca_evaluator::Counts;
+use fisca_model::EvalFault;
 use fisca_params::SourceFile;
 use fisca_rule_files::{Refusal, rules_of};
 use fisca_rules::RuleSet;
 use fisca_run_file::RunFile;
+use fisca_simulation::rule_sets_are_safe;
+use fisca_writer::{RowSink, RunEnd, RunFault};
 use fisca_yaml::Tree;
 use std::alloc::Global;
 

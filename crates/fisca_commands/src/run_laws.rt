@@ -6,7 +6,7 @@ ghost use Rattle.fisca_inputs.specs.declared.given.Given.{Given};
 ghost use Rattle.fisca_run_file.specs.Positions.{moved_at, situation_with};
 ghost use Rattle.fisca_run_file.specs.RunFiles.{RunFile, run_file_of};
 ghost use Rattle.fisca_situations.specs.Situations.{Situation};
-ghost use Rattle.fisca_tables.specs.declared.tables.Tables.{Tables};
+ghost use Rattle.fisca_symbols.specs.declared.tables.Tables.{Tables};
 ghost use Rattle.fisca_yaml.specs.Node.{Node};
 
 /// Law: each position of an accepted run file has a situation. The axes have values there, and the inputs can be shared with these values, since they

@@ -5,14 +5,14 @@ ghost use Rattle.fisca_commands.specs.Runs.{IsAsked};
 ghost use Rattle.fisca_run_file.specs.Positions.{situation_with};
 ghost use Rattle.fisca_run_file.specs.Views.{run_file as run_file_view};
 ghost use Rattle.fisca_situations.specs.Views.{situation as situation_view};
-ghost use Rattle.fisca_memo.specs.Marks.{wheels_of as wheels_spec};
-ghost use Rattle.fisca_memo.specs.Slots.{slots_of as slots_spec};
+ghost use Rattle.fisca_run.specs.Marks.{wheels_of as wheels_spec};
+ghost use Rattle.fisca_run.specs.Slots.{slots_of as slots_spec};
 ghost use Rattle.fisca_situations.specs.Views.{slot_list};
 ghost use Rattle.fisca_yaml.specs.Views.{node};
 
 use crate::rows::situation_of;
-use fisca_memo::{slots_of, wheels_of};
 use fisca_rules::RuleSet;
+use fisca_run::{slots_of, wheels_of};
 use fisca_run_file::RunFile;
 use fisca_situations::{Situation, Slot};
 use fisca_yaml::Tree;

@@ -1,7 +1,7 @@
 //! What a command line asks for, and the running of it.
 
 ghost use Rattle.std.specs.Prelude.{◌≡◌, ◌==◌, ◌&&◌, is_ok, map, option_map, string_bytes};
-ghost use Rattle.fisca_lines.specs.Sink.{CountsFailure};
+ghost use Rattle.fisca_writer.specs.Sink.{CountsFailure};
 ghost use Rattle.fisca_commands.specs.Ending.{IsAnswered, IsAxesEnding, IsCalcEnding, IsCheckEnding, IsGridEnding, IsJudged, IsRunEnding, IsTaskEnding, IsTestEnding};
 ghost use Rattle.fisca_commands.specs.Ends.{end_of};
 
@@ -11,11 +11,11 @@ use super::ending::Ending;
 use super::last_line::write_end;
 use super::run::run_rules;
 use super::test::test_rules;
-use fisca_lines::{RowSink, RunEnd};
-use fisca_memo::Counts;
+use fisca_evaluator::Counts;
 use fisca_params::SourceFile;
 use fisca_rule_files::{Refusal, check_rules};
-use fisca_verdicts::Verdict;
+use fisca_test_file::Verdict;
+use fisca_writer::{RowSink, RunEnd};
 use std::alloc::Global;
 
 /// What a command line asks for.

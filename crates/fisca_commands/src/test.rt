@@ -2,23 +2,23 @@
 
 ghost use Rattle.std.specs.Prelude.{◌≡◌, ℕ, string_bytes, IfOk, IfErr, Ok};
 ghost use Rattle.fisca_commands.specs.Test.{IsTest, IsWritten, RefusesTree, scene_in, simulation_in};
-ghost use Rattle.fisca_eval.specs.Told.{IsReady};
-ghost use Rattle.fisca_lines.specs.Sink.{CountsFailure};
+ghost use Rattle.fisca_simulation.specs.Told.{IsReady};
+ghost use Rattle.fisca_writer.specs.Sink.{CountsFailure};
 ghost use Rattle.fisca_rule_files.specs.Refusal.{is_write};
-ghost use Rattle.fisca_verdicts.specs.Report.{IsReport};
-ghost use Rattle.fisca_verdicts.specs.Tests.{Test, test_of, tests_of};
+ghost use Rattle.fisca_test_file.specs.Report.{IsReport};
+ghost use Rattle.fisca_test_file.specs.Tests.{Test, test_of, tests_of};
 ghost use Rattle.fisca_yaml.specs.Node.{Node};
 ghost use Rattle.fisca_yaml.specs.Views.{node};
 
 use super::calc::read_tree;
-use fisca_eval::{inputs_fit, rule_sets_are_safe};
-use fisca_lines::{RowSink, hand_over};
-use fisca_memo::{Evaluator, IndexRecall};
+use fisca_evaluator::{Evaluator, IndexRecall};
 use fisca_params::SourceFile;
 use fisca_rule_files::{Refusal, rules_of};
 use fisca_rules::RuleSet;
+use fisca_simulation::{inputs_fit, rule_sets_are_safe};
 use fisca_situations::Situation;
-use fisca_verdicts::{Report, Scenes, TestKind, Verdict, report_on, situations_are_read};
+use fisca_test_file::{Report, Scenes, TestKind, Verdict, report_on, situations_are_read};
+use fisca_writer::{RowSink, hand_over};
 use fisca_yaml::Tree;
 use std::alloc::{AllocError, Global};
 
@@ -30,7 +30,7 @@ struct RuleScenes<'r, 't> {
 
 impl<'r, 't> Scenes<Evaluator<'r, 't, IndexRecall>> for RuleScenes<'r, 't> {
     ghost use Rattle.fisca_commands.specs.Test.{simulation_in};
-    ghost use Rattle.fisca_eval.specs.Told.{IsReady, told_in};
+    ghost use Rattle.fisca_simulation.specs.Told.{IsReady, told_in};
 
     ghost answer_in = { λ r s. told_in (simulation_in r.rules.now s) };
 

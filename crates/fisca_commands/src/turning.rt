@@ -3,15 +3,15 @@
 ghost use Rattle.std.specs.Prelude.{◌≡◌, ◌<◌, List, Some, length, map};
 ghost use Rattle.fisca_grid.specs.AxesRow.{values_of};
 ghost use Rattle.fisca_grid.specs.Grid.{axes_at, axes_in, size_of};
-ghost use Rattle.fisca_memo.specs.Evaluators.{IsMemoryOf, marks_in, simulation_of};
+ghost use Rattle.fisca_evaluator.specs.Evaluators.{IsMemoryOf, marks_in, simulation_of};
 ghost use Rattle.fisca_num.specs.Number.{Number};
 ghost use Rattle.fisca_commands.specs.Kept.{AllMarked, with_inputs};
 ghost use Rattle.fisca_commands.specs.Remembered.{AreJust};
-ghost use Rattle.fisca_memo.specs.Slots.{turned_below};
+ghost use Rattle.fisca_slots.specs.Turning.{turned_below};
 ghost use Rattle.fisca_situations.specs.Views.{slot as slot_view};
 
+use fisca_evaluator::{Evaluator, Recall};
 use fisca_grid::Axes;
-use fisca_memo::{Evaluator, Recall};
 use fisca_situations::Slot;
 
 /// Turns the slots of the first `turned` wheels to the values that their axes have at a position, and forgets what reads one of these. It takes no

@@ -4,8 +4,8 @@ ghost use Rattle.std.specs.Prelude.{◌≡◌, IfOk};
 ghost use Rattle.fisca_commands.specs.Unanswered.{IsUnanswered};
 ghost use Rattle.fisca_situations.specs.Views.{situation as situation_view};
 
-use fisca_calc::key_text;
-use fisca_eval::EvalFault;
+use fisca_columns::key_text;
+use fisca_model::EvalFault;
 use fisca_rule_files::Unanswered;
 use fisca_rules::RuleSet;
 use fisca_situations::Situation;

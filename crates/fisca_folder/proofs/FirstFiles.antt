@@ -1,6 +1,6 @@
 -- The first of the files of a folder.
-use Rattle.std.proofs.Common.{◌≡◌, ◌+◌, ◌<◌, ◌≤◌, ◌^◌, ℕ, List, [], ◌∷◌, ◌++◌, String, length, take, map, min, string_bytes, All, sym, ◌∙◌, ap, append_assoc, arith, take_all, get_or, get_or-take, IsSorted, string_cmp, Result, Ok, Err, IfOk, Option, Some, None, option_map, subst}
-use Rattle.std.proofs.lemmas.List.{map-append, length-append, length-map, length-take, take-append-le, map_push, get_or-map}
+use Rattle.std.proofs.Common.{◌≡◌, ◌+◌, ◌≤◌, ◌^◌, ℕ, List, [], ◌∷◌, ◌++◌, String, length, take, map, min, string_bytes, All, sym, ◌∙◌, ap, append_assoc, arith, take_all, get_or, IsSorted, string_cmp, Result, Ok, Err, IfOk, Option, Some, None, option_map, subst}
+use Rattle.std.proofs.lemmas.List.{map-append, length-map, length-take, map_push, get_or-map}
 use Rattle.std.proofs.lemmas.List.Elements.{All-append, All-cons, All-nil}
 use Rattle.std.specs.Cmp.Lexicographic.{slice_cmp}
 use Rattle.std.specs.Ordering.{nat_cmp}
@@ -9,18 +9,6 @@ use Rattle.fisca_params.specs.Source.{Source}
 use Rattle.fisca_folder.specs.declared.folder.FolderFault.{FolderFault}
 use Rattle.fisca_folder.specs.declared.folder.FolderFault.TheVariants.{CannotList, CannotRead, TooLong, TooManyFiles, Memory}
 use Rattle.fisca_folder.specs.Folder.{AreRuleFiles, Folder, IsFileFault, IsFirstFault, IsReadable, IsTextOf, path_of}
-
-short : (n : ℕ) (xs : List (List ℕ)) (y : List ℕ) → length (take n xs) < n → take n (xs ++ y ∷ []) ≡ take n xs ++ y ∷ []
-short n xs y h =
-    let cut : length (take n xs) ≡ min n (length xs) = length-take n xs in
-    let few : length xs < n = omega (arith, cut, h) in
-    let more : length (xs ++ y ∷ []) ≡ length xs + 1 = length-append xs (y ∷ []) in
-    take_all n (xs ++ y ∷ []) (omega (arith, more, few)) ∙ ap (λ zs. zs ++ y ∷ []) (sym (take_all n xs (omega (arith, few))))
-
-full : (n : ℕ) (xs : List (List ℕ)) (y : List ℕ) → n ≤ length (take n xs) → take n (xs ++ y ∷ []) ≡ take n xs
-full n xs y h =
-    let cut : length (take n xs) ≡ min n (length xs) = length-take n xs in
-    take-append-le n xs (y ∷ []) (omega (arith, cut, h))
 
 abbrev Paths : Type 0
 Paths = List (String Global)
@@ -32,47 +20,34 @@ names paths = map (λ path. string_bytes path) paths
 pub gone_by : (all gone old new : Paths) (path : String Global) → all ≡ gone ++ old → old ≡ path ∷ new → all ≡ (gone ++ path ∷ []) ++ new
 gone_by all gone old new path e step = e ∙ ap (λ z. gone ++ z) step ∙ sym (append_assoc gone (path ∷ []) new)
 
--- one more file, as long as there is room
-pub one_more_kept : (gone : Paths) (path : String Global) (files : List Source) (file : Source) → map path_of files ≡ take 1001 (names gone) → length files < 1001 →
-    file.path ≡ string_bytes path → map path_of (files ++ file ∷ []) ≡ take 1001 (names (gone ++ path ∷ []))
-one_more_kept gone path files file h room is =
-    let same : length files ≡ length (take 1001 (names gone)) = sym (length-map files path_of) ∙ ap length h in
+-- one more file
+pub one_more_named : (gone : Paths) (path : String Global) (files : List Source) (file : Source) → map path_of files ≡ names gone → file.path ≡ string_bytes path → map path_of (files ++ file ∷ []) ≡ names (gone ++ path ∷ [])
+one_more_named gone path files file h is =
     map_push path_of files file
     ∙ ap (λ zs. zs ++ file.path ∷ []) h
-    ∙ ap (λ z. take 1001 (names gone) ++ z ∷ []) is
-    ∙ sym (short 1001 (names gone) (string_bytes path) (omega (arith, same, room)))
-    ∙ ap (take 1001) (sym (map_push (λ path. string_bytes path) gone path))
-
--- and none behind it
-pub no_more_kept : (gone : Paths) (path : String Global) (files : List Source) → map path_of files ≡ take 1001 (names gone) → 1001 ≤ length files →
-    map path_of files ≡ take 1001 (names (gone ++ path ∷ []))
-no_more_kept gone path files h room =
-    let same : length files ≡ length (take 1001 (names gone)) = sym (length-map files path_of) ∙ ap length h in
-    h ∙ sym (full 1001 (names gone) (string_bytes path) (omega (arith, same, room))) ∙ ap (take 1001) (sym (map_push (λ path. string_bytes path) gone path))
+    ∙ ap (λ z. names gone ++ z ∷ []) is
+    ∙ sym (map_push (λ path. string_bytes path) gone path)
 
 pub one_more_short : (files : List Source) (file : Source) → All (λ f. length f.text ≤ 2 ^ 20) files → length file.text ≤ 2 ^ 20 → All (λ f. length f.text ≤ 2 ^ 20) (files ++ file ∷ [])
 one_more_short files file h k = All-append (λ f. length f.text ≤ 2 ^ 20) files (file ∷ []) h (All-cons (λ f. length f.text ≤ 2 ^ 20) file [] k (All-nil (λ f. length f.text ≤ 2 ^ 20)))
 
-sorted_first : (n : ℕ) (path : String Global) (paths : Paths) → IsSorted string_cmp paths → IsSorted (slice_cmp nat_cmp) (take n (names paths))
-sorted_first n path paths h k d low inside =
-    let cut : length (take n (names paths)) ≡ min n (length (names paths)) = length-take n (names paths) in
+sorted_names : (path : String Global) (paths : Paths) → IsSorted string_cmp paths → IsSorted (slice_cmp nat_cmp) (names paths)
+sorted_names path paths h k d low inside =
     let same : length (names paths) ≡ length paths = length-map paths (λ path. string_bytes path) in
-    let before : get_or (take n (names paths)) k d ≡ string_bytes (get_or paths k path) =
-    get_or-take n (names paths) k d (omega (arith, cut, inside)) ∙ get_or-map (λ path. string_bytes path) paths k path d (omega (arith, cut, same, inside)) in
-    let behind : get_or (take n (names paths)) (k + 1) d ≡ string_bytes (get_or paths (k + 1) path) =
-    get_or-take n (names paths) (k + 1) d (omega (arith, cut, inside)) ∙ get_or-map (λ path. string_bytes path) paths (k + 1) path d (omega (arith, cut, same, inside)) in
-    rw (before, behind) (h k path low (omega (arith, cut, same, inside)))
+    let before : get_or (names paths) k d ≡ string_bytes (get_or paths k path) = get_or-map (λ path. string_bytes path) paths k path d (omega (arith, same, inside)) in
+    let behind : get_or (names paths) (k + 1) d ≡ string_bytes (get_or paths (k + 1) path) = get_or-map (λ path. string_bytes path) paths (k + 1) path d (omega (arith, same, inside)) in
+    rw (before, behind) (h k path low (omega (arith, same, inside)))
 
-sorted_files : (paths : Paths) (files : List Source) → IsSorted string_cmp paths → map path_of files ≡ take 1001 (names paths) → IsSorted (slice_cmp nat_cmp) (map path_of files)
+sorted_files : (paths : Paths) (files : List Source) → IsSorted string_cmp paths → map path_of files ≡ names paths → IsSorted (slice_cmp nat_cmp) (map path_of files)
 sorted_files [] files h e = rw e (λ k d low inside. absurd (omega (arith, inside)))
-sorted_files (path ∷ paths) files h e = rw e (sorted_first 1001 path (path ∷ paths) h)
+sorted_files (path ∷ paths) files h e = rw e (sorted_names path (path ∷ paths) h)
 
-pub are_rule_files : (paths : Paths) (files : List Source) → IsSorted string_cmp paths → map path_of files ≡ take 1001 (names paths) → All (λ f. length f.text ≤ 2 ^ 20) files → AreRuleFiles files
-are_rule_files paths files h e short =
-    let same : length files ≡ length (take 1001 (names paths)) = sym (length-map files path_of) ∙ ap length e in
-    let cut : length (take 1001 (names paths)) ≡ min 1001 (length (names paths)) = length-take 1001 (names paths) in
+pub are_rule_files : (paths : Paths) (files : List Source) → IsSorted string_cmp paths → length paths ≤ 1000 → map path_of files ≡ names paths → All (λ f. length f.text ≤ 2 ^ 20) files → AreRuleFiles files
+are_rule_files paths files h few e short =
+    let same : length files ≡ length (names paths) = sym (length-map files path_of) ∙ ap length e in
+    let count : length (names paths) ≡ length paths = length-map paths (λ path. string_bytes path) in
     record {
-      few = omega (arith, same, cut);
+      few = omega (arith, same, count, few);
       order = sorted_files paths files h e;
       short = short;
     }

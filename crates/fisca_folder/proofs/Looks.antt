@@ -1,5 +1,5 @@
 -- What is found in a folder, step by step.
-use Rattle.std.proofs.Common.{◌≡◌, ◌<◌, ◌≤◌, ◌+◌, ◌||◌, ℕ, zero, suc, Bool, true, false, cond, not, List, [], ◌∷◌, ◌++◌, length, map, take, Option, Some, unwrap_or, is_some, fold, refl, sym, ◌∙◌, ap, subst, arith, append_assoc, take_all, append-nil, ap₂, String, string_bytes, get_or, drop, drop-cons, ◌-◌, IsSorted, string_cmp}
+use Rattle.std.proofs.Common.{◌≡◌, ◌<◌, ◌≤◌, ◌+◌, ◌||◌, ℕ, zero, suc, Bool, true, false, cond, not, List, [], ◌∷◌, ◌++◌, length, map, take, Option, Some, unwrap_or, is_some, fold, refl, sym, ◌∙◌, ap, subst, arith, append_assoc, take_all, append-nil, ap₂, String, string_bytes, get_or, drop, drop-cons, inl, ◌-◌, IsSorted, string_cmp}
 use Rattle.std.specs.List.{filter}
 use Rattle.std.proofs.lemmas.List.{length-map, get_or-map, map-append, take-append-drop}
 use Rattle.std.proofs.lemmas.List.Sorted.{IsPermutation-map}
@@ -9,7 +9,7 @@ use Rattle.std.specs.Ordering.{nat_cmp}
 use Rattle.std.specs.declared.alloc.Global.{Global}
 use Rattle.std.proofs.lemmas.List.Sums.{fold-append}
 use Rattle.fisca_folder.specs.RulePaths.{is_rule_path}
-use Rattle.fisca_folder.specs.Folder.{Entry, Folder, Found, AreRulePaths, IsListFault, files_in, folders_in, found_deeper, found_in, found_on_top, path_in, with_folder}
+use Rattle.fisca_folder.specs.Folder.{Entry, Folder, Found, AreRulePaths, IsListFault, IsListRefusal, files_in, folders_in, found_deeper, found_in, found_on_top, is_folder_in, path_in, with_folder}
 use Rattle.fisca_folder.specs.FolderSteps.{with_entry}
 use Rattle.fisca_folder.specs.declared.folder.FolderFault.{FolderFault}
 use Rattle.fisca_folder.specs.declared.folder.FolderFault.TheVariants.{CannotList, CannotRead, TooLong, TooManyFiles, Memory}
@@ -18,7 +18,7 @@ use Rattle.fisca_folder.specs.declared.folder.FolderFault.TheVariants.{CannotLis
 entries_added : (path : List ℕ) (entries : List Entry) (found : Found)
     → fold (with_entry path) found entries ≡ record found { deeper = found.deeper ++ folders_in path entries; files = found.files ++ files_in path entries }
 entries_added path [] found = ap₂ (λ deeper files. record found { deeper = deeper; files = files }) (sym (append-nil found.deeper)) (sym (append-nil found.files))
-entries_added path (entry ∷ entries) found = go (λ f. entries_added path entries f) entry.is_folder
+entries_added path (entry ∷ entries) found = go (λ f. entries_added path entries f) (is_folder_in path entry)
   where
     named : ((f : Found) → fold (with_entry path) f entries ≡ record f { deeper = f.deeper ++ folders_in path entries; files = f.files ++ files_in path entries })
         → (b : Bool) → fold (with_entry path) (cond b (record found { files = found.files ++ path_in path entry ∷ [] }) found) entries
@@ -30,8 +30,8 @@ entries_added path (entry ∷ entries) found = go (λ f. entries_added path entr
         → (folder : Bool)
         → fold (with_entry path) (cond folder (record found { deeper = found.deeper ++ path_in path entry ∷ [] }) (cond (is_rule_path (path_in path entry)) (record found { files = found.files ++ path_in path entry ∷ [] }) found)) entries
         ≡ record found {
-          deeper = found.deeper ++ map (path_in path) (cond folder (entry ∷ filter (λ e. e.is_folder) entries) (filter (λ e. e.is_folder) entries));
-          files = found.files ++ filter is_rule_path (map (path_in path) (cond (not folder) (entry ∷ filter (λ e. not e.is_folder) entries) (filter (λ e. not e.is_folder) entries)));
+          deeper = found.deeper ++ map (path_in path) (cond folder (entry ∷ filter (is_folder_in path) entries) (filter (is_folder_in path) entries));
+          files = found.files ++ filter is_rule_path (map (path_in path) (cond (not folder) (entry ∷ filter (λ e. not (is_folder_in path e)) entries) (filter (λ e. not (is_folder_in path e)) entries)));
         }
     go later true = later _ ∙ ap (λ deeper. record found { deeper = deeper; files = found.files ++ files_in path entries }) (append_assoc found.deeper (path_in path entry ∷ []) (folders_in path entries))
     go later false = named later (is_rule_path (path_in path entry))
@@ -126,14 +126,22 @@ one_deeper folder levels found so =
     let e : suc levels ≡ levels + 1 = omega arith in
     ap (found_deeper folder) so ∙ ap (found_in folder) e
 
-pub fault_on_top : (folder : Folder) (fault : FolderFault) → IsListFault (found_on_top folder) fault → IsListFault (found_in folder 8) fault
-fault_on_top folder fault is = fault_of_level folder 8 0 fault (subst (λ (f : Found). IsListFault f fault) (sym (on_top folder)) is)
+-- a fault of what is found in all levels refuses it
+refused : (found : Found) (fault : FolderFault) → IsListFault found fault → IsListRefusal found fault
+refused found CannotList is = is
+refused found (CannotRead told) is = is
+refused found (TooLong told) is = is
+refused found TooManyFiles is = inl is
+refused found Memory is = is
 
-pub fault_below : (folder : Folder) (levels : ℕ) (found : Found) (fault : FolderFault) → levels < 8 → found ≡ found_in folder levels → IsListFault (found_deeper folder found) fault → IsListFault (found_in folder 8) fault
+pub fault_on_top : (folder : Folder) (fault : FolderFault) → IsListFault (found_on_top folder) fault → IsListRefusal (found_in folder 8) fault
+fault_on_top folder fault is = refused (found_in folder 8) fault (fault_of_level folder 8 0 fault (subst (λ (f : Found). IsListFault f fault) (sym (on_top folder)) is))
+
+pub fault_below : (folder : Folder) (levels : ℕ) (found : Found) (fault : FolderFault) → levels < 8 → found ≡ found_in folder levels → IsListFault (found_deeper folder found) fault → IsListRefusal (found_in folder 8) fault
 fault_below folder levels found fault inside so is =
     let here = subst (λ (f : Found). IsListFault f fault) (one_deeper folder levels found so) is in
     let e : (8 - (levels + 1)) + (levels + 1) ≡ 8 = omega arith in
-    subst (λ (n : ℕ). IsListFault (found_in folder n) fault) e (fault_of_level folder (8 - (levels + 1)) (levels + 1) fault here)
+    refused (found_in folder 8) fault (subst (λ (n : ℕ). IsListFault (found_in folder n) fault) e (fault_of_level folder (8 - (levels + 1)) (levels + 1) fault here))
 
 -- texts in order are in order of their bytes
 sorted_bytes : (paths : List (String Global)) → IsSorted string_cmp paths → IsSorted (slice_cmp nat_cmp) (map (λ p. string_bytes p) paths)
@@ -146,11 +154,19 @@ sorted_bytes (path ∷ paths) order k d low inside =
     let behind : get_or (map bytes all) (k + 1) d ≡ string_bytes (get_or all (k + 1) path) = get_or-map bytes all (k + 1) path d (omega (arith, same, inside)) in
     rw (before, behind) (order k path low (omega (arith, same, inside)))
 
-pub rule_paths : (folder : Folder) (found : Found) (files paths : List (String Global)) → found ≡ found_in folder 8 → found.is_short ≡ false → found.seen ≤ 100000 → map (λ p. string_bytes p) files ≡ found.files
+-- as many paths as texts
+count_kept : (files : List (String Global)) (paths : List (List ℕ)) (most : ℕ) → map (λ p. string_bytes p) files ≡ paths → length files ≤ most → length paths ≤ most
+count_kept files paths most named few =
+    let same : length (map (λ p. string_bytes p) files) ≡ length files = length-map files (λ p. string_bytes p) in
+    let count : length (map (λ p. string_bytes p) files) ≡ length paths = ap length named in
+    omega (arith, same, count, few)
+
+pub rule_paths : (folder : Folder) (found : Found) (files paths : List (String Global)) → found ≡ found_in folder 8 → found.is_short ≡ false → found.seen ≤ 100000 → length files ≤ 1000 → map (λ p. string_bytes p) files ≡ found.files
     → IsPermutation files paths → IsSorted string_cmp paths → AreRulePaths folder (map (λ p. string_bytes p) paths)
-rule_paths folder found files paths so whole few named same order = record {
+rule_paths folder found files paths so whole few bounded named same order = record {
   whole = subst (λ (f : Found). f.is_short ≡ false) so whole;
   few = subst (λ (f : Found). f.seen ≤ 100000) so few;
+  bounded = subst (λ (f : Found). length f.files ≤ 1000) so (count_kept files found.files 1000 named bounded);
   same = subst (λ (all : List (List ℕ)). IsPermutation all (map (λ p. string_bytes p) paths)) (named ∙ ap (λ f. f.files) so) (IsPermutation-map (λ p. string_bytes p) files paths same);
   order = sorted_bytes paths order;
 }

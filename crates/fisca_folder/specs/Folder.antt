@@ -1,5 +1,5 @@
 -- Which files of a folder are the rule set's, in which order, how deep and how many, and what is refused.
-use Rattle.std.specs.Prelude.{◌≡◌, ℕ, zero, suc, ◌+◌, ◌<◌, ◌≤◌, ◌^◌, ◌++◌, ◌∷◌, [], List, length, map, take, All, IsSorted, IsPermutation, Bool, true, false, not, ◌&&◌, ◌||◌, if◌then◌else◌, codes, Option, Some, None, is_some, unwrap_or, Result, Ok, Err, ⊤, String, string_bytes}
+use Rattle.std.specs.Prelude.{◌≡◌, ℕ, zero, suc, ◌+◌, ◌<◌, ◌≤◌, ◌^◌, ◌++◌, ◌∷◌, [], List, length, map, All, IsSorted, IsPermutation, Bool, true, false, not, ◌&&◌, ◌||◌, if◌then◌else◌, codes, Option, Some, None, is_some, unwrap_or, Result, Ok, Err, ⊤, ◌⊎◌, String, string_bytes}
 use Rattle.std.specs.declared.alloc.Global.{Global}
 use Rattle.std.specs.List.{filter, fold, list_any}
 use Rattle.std.specs.Str.{IsUtf8, bytes_eq}
@@ -11,10 +11,11 @@ use Rattle.fisca_folder.specs.Shown.{shown}
 use Rattle.fisca_folder.specs.declared.folder.FolderFault.{FolderFault}
 use Rattle.fisca_folder.specs.declared.folder.FolderFault.TheVariants.{CannotList, CannotRead, TooLong, TooManyFiles, Memory}
 
--- an entry of a folder: its name, and whether it leads to a folder
+-- an entry of a folder: its name, and whether it leads to a folder; `None` where the machine cannot tell, as of a link that
+-- leads nowhere
 pub record Entry : Type 0 where
   pub name : List ℕ
-  pub is_folder : Bool
+  pub is_folder : Option Bool
 
 -- what a machine says of a rule set's folder: the entries of a folder and the bytes of a file by its path, which is empty for
 -- the rule set's own folder; `None` where it cannot
@@ -32,13 +33,22 @@ slash = 47
 abbrev pub path_in : List ℕ → Entry → List ℕ
 path_in path entry = path ++ (slash ∷ entry.name)
 
+-- whether what stands at this path is taken for a folder. Where the machine cannot tell it is, so that nothing is passed over
+-- that may hold files of the rule set, but for what is named as a file of the rule set.
+abbrev pub counts_as_folder : List ℕ → Option Bool → Bool
+counts_as_folder path is_folder = unwrap_or is_folder (not (is_rule_path path))
+
+-- the same of an entry of a folder
+abbrev pub is_folder_in : List ℕ → Entry → Bool
+is_folder_in path entry = counts_as_folder (path_in path entry) entry.is_folder
+
 -- the folders in a folder
 abbrev pub folders_in : List ℕ → List Entry → List (List ℕ)
-folders_in path entries = map (path_in path) (filter (λ entry. entry.is_folder) entries)
+folders_in path entries = map (path_in path) (filter (is_folder_in path) entries)
 
 -- the rule set's files in a folder
 abbrev pub files_in : List ℕ → List Entry → List (List ℕ)
-files_in path entries = filter is_rule_path (map (path_in path) (filter (λ entry. not entry.is_folder) entries))
+files_in path entries = filter is_rule_path (map (path_in path) (filter (λ entry. not (is_folder_in path entry)) entries))
 
 -- this name, where an entry has it
 abbrev pub named : List ℕ → List Entry → List (List ℕ)
@@ -46,7 +56,7 @@ named name entries = if list_any (λ entry. bytes_eq entry.name name) entries th
 
 -- this name, where a folder has it: a file that has it is no rule file
 abbrev pub folder_named : List ℕ → List Entry → List (List ℕ)
-folder_named name entries = if list_any (λ entry. entry.is_folder && bytes_eq entry.name name) entries then name ∷ [] else []
+folder_named name entries = if list_any (λ entry. counts_as_folder entry.name entry.is_folder && bytes_eq entry.name name) entries then name ∷ [] else []
 
 -- the folders `parameters` and `variables`, where they are there
 abbrev pub top_of : List Entry → List (List ℕ)
@@ -89,21 +99,30 @@ unfoldable pub found_in : Folder → ℕ → Found
 found_in folder zero = found_on_top folder
 found_in folder (suc levels) = found_deeper folder (found_in folder levels)
 
--- the paths of the rule set's files, in order of their bytes: those in eight levels of folders, where each can be listed and no
--- more than 100,000 files and folders are looked at
+-- the paths of the rule set's files, in order of their bytes: those in eight levels of folders, where each can be listed, no
+-- more than 100,000 files and folders are looked at and no more than 1,000 of them are the rule set's files
 pub record AreRulePaths (folder : Folder) (paths : List (List ℕ)) : Type 0 where
   pub whole : (found_in folder 8).is_short ≡ false
   pub few : (found_in folder 8).seen ≤ 100000
+  pub bounded : length (found_in folder 8).files ≤ 1000
   pub same : IsPermutation (found_in folder 8).files paths
   pub order : IsSorted (slice_cmp nat_cmp) paths
 
--- what is refused of what is found
+-- what is refused of what is found in some levels, while they are looked into
 abbrev pub IsListFault : Found → FolderFault → Type 0
 IsListFault found CannotList = found.is_short ≡ true
 IsListFault found (CannotRead path) = ⊥
 IsListFault found (TooLong path) = ⊥
 IsListFault found TooManyFiles = 100000 < found.seen
 IsListFault found Memory = ⊤
+
+-- what is refused of what is found in all levels
+abbrev pub IsListRefusal : Found → FolderFault → Type 0
+IsListRefusal found CannotList = found.is_short ≡ true
+IsListRefusal found (CannotRead path) = ⊥
+IsListRefusal found (TooLong path) = ⊥
+IsListRefusal found TooManyFiles = (100000 < found.seen) ⊎ (1000 < length found.files)
+IsListRefusal found Memory = ⊤
 
 -- a file can be read, has at most 1 MiB and is UTF-8
 abbrev pub IsReadable : Option (List ℕ) → Type 0
@@ -135,10 +154,10 @@ IsTextOf path bytes (Err fault) = IsFileFault path bytes fault
 abbrev pub path_of : Source → List ℕ
 path_of file = file.path
 
--- the first 1,001 files, where each can be read
+-- the files at these paths, where each can be read
 pub record AreRead (folder : Folder) (paths : List (List ℕ)) (files : List Source) : Type 0 where
   pub readable : All (λ path. IsReadable (folder.bytes path)) paths
-  pub named : map path_of files ≡ take 1001 paths
+  pub named : map path_of files ≡ paths
   pub texts : All (λ file. folder.bytes file.path ≡ Some file.text) files
 
 -- the first of these files that is refused is refused so
@@ -160,12 +179,12 @@ abbrev pub IsRefused : Folder → FolderFault → Type 0
 IsRefused folder CannotList = (found_in folder 8).is_short ≡ true
 IsRefused folder (CannotRead path) = IsFaultIn folder (CannotRead path)
 IsRefused folder (TooLong path) = IsFaultIn folder (TooLong path)
-IsRefused folder TooManyFiles = 100000 < (found_in folder 8).seen
+IsRefused folder TooManyFiles = (100000 < (found_in folder 8).seen) ⊎ (1000 < length (found_in folder 8).files)
 IsRefused folder Memory = ⊤
 
--- at most 1,001 files, in order of the bytes of their paths, each of at most 1 MiB
+-- at most 1,000 files, in order of the bytes of their paths, each of at most 1 MiB
 pub record AreRuleFiles (files : List Source) : Type 0 where
-  pub few : length files ≤ 1001
+  pub few : length files ≤ 1000
   pub order : IsSorted (slice_cmp nat_cmp) (map path_of files)
   pub short : All (λ file. length file.text ≤ 2 ^ 20) files
 

@@ -3,13 +3,13 @@ use Rattle.std.specs.Prelude.{◌≡◌, ⊤, string_bytes, ℕ, ◌+◌, ◌++�
 use Rattle.fisca_folder.specs.RulePaths.{is_rule_path}
 use Rattle.fisca_folder.specs.declared.folder.FolderFault.{FolderFault}
 use Rattle.fisca_folder.specs.declared.folder.FolderFault.TheVariants.{CannotList, CannotRead, TooLong, TooManyFiles, Memory}
-use Rattle.fisca_folder.specs.Folder.{Entry, Folder, Found, entries_of, path_in}
+use Rattle.fisca_folder.specs.Folder.{Entry, Folder, Found, counts_as_folder, entries_of, path_in}
 
 -- with one entry of a folder more
 abbrev pub with_entry : List ℕ → Found → Entry → Found
 with_entry path found entry =
     let place = path_in path entry in
-    if entry.is_folder then record found { deeper = found.deeper ++ place ∷ [] }
+    if counts_as_folder place entry.is_folder then record found { deeper = found.deeper ++ place ∷ [] }
     else (if is_rule_path place then record found { files = found.files ++ place ∷ [] } else found)
 
 -- the files and folders that are looked at in one folder, after so many

@@ -1,6 +1,6 @@
 //! The folder of a rule set, and why its files could not be read.
 
-ghost use Rattle.std.specs.Prelude.{◌≡◌, ◌++◌, string_bytes, IfOk};
+ghost use Rattle.std.specs.Prelude.{◌≡◌, ◌++◌, None, Some, string_bytes, IfOk};
 ghost use Rattle.fisca_folder.specs.Shown.{shown};
 ghost use Rattle.fisca_folder.specs.Folder.{status_of, line_of};
 
@@ -9,11 +9,11 @@ use std::alloc::{AllocError, AllocFailed, Global};
 use std::marker::Model;
 use thiserror::Error;
 
-/// An entry of a folder: its name, and whether it leads to a folder.
+/// An entry of a folder: its name, and whether it leads to a folder, which a machine cannot always tell.
 #[derive(Debug, Drop)]
 pub struct FolderEntry {
     name: String,
-    is_folder: bool,
+    is_folder: Option<bool>,
 }
 
 impl Model for FolderEntry {
@@ -28,9 +28,23 @@ impl Model for FolderEntry {
 impl FolderEntry {
     /// The entry of this name, which leads to a folder or not. It takes no memory.
     pub fn new(name: String, is_folder: bool) -> FolderEntry
-        ensures { result ≡ record { name = string_bytes name; is_folder = is_folder } }
+        ensures { result ≡ record { name = string_bytes name; is_folder = Some is_folder } }
     {
-        FolderEntry { name, is_folder }
+        FolderEntry {
+            name,
+            is_folder: Some(is_folder),
+        }
+    }
+
+    /// The entry of this name that the machine cannot look at: a link that leads nowhere or back to itself, a path that is too
+    /// long, or what no right is given to look at. It takes no memory.
+    pub fn unknown(name: String) -> FolderEntry
+        ensures { result ≡ record { name = string_bytes name; is_folder = None } }
+    {
+        FolderEntry {
+            name,
+            is_folder: None,
+        }
     }
 
     /// The name.
@@ -40,8 +54,8 @@ impl FolderEntry {
         self.name.as_str()
     }
 
-    /// Whether it leads to a folder.
-    pub fn is_folder(&self) -> bool
+    /// Whether it leads to a folder; `None` where the machine cannot tell.
+    pub fn is_folder(&self) -> Option<bool>
         ensures { result ≡ self.now.is_folder }
     {
         self.is_folder
@@ -78,7 +92,7 @@ pub enum FolderFault {
     /// A file is longer than 1 MiB.
     #[error("{path}:1: TooLong")]
     TooLong { path: String },
-    /// The folders hold more than 100,000 files and folders.
+    /// The folders hold more than 100,000 files and folders, or more than 1,000 files of the rule set.
     #[error("TooManyFiles")]
     TooManyFiles,
     /// Memory was refused.

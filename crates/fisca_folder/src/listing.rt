@@ -4,7 +4,7 @@ ghost use Rattle.std.specs.Prelude.{◌≡◌, Some, ◌+◌, ◌++◌, ◌≤�
 ghost use Rattle.std.specs.String.{string_cmp};
 ghost use Rattle.std.specs.List.{list_any};
 ghost use Rattle.std.specs.Str.{bytes_eq};
-ghost use Rattle.fisca_folder.specs.Folder.{Folder, AreRulePaths, IsListFault, found_on_top, found_deeper, found_in, top_of, top_files_of, with_folder};
+ghost use Rattle.fisca_folder.specs.Folder.{Folder, AreRulePaths, IsListFault, IsListRefusal, counts_as_folder, found_on_top, found_deeper, found_in, top_of, top_files_of, with_folder};
 ghost use Rattle.fisca_folder.specs.FolderSteps.{looked_at, with_entry};
 
 use super::folder::{FolderEntry, FolderFault, RuleFolder};
@@ -17,6 +17,9 @@ const DEEPEST: usize = 8;
 
 /// So many files and folders are looked at in all, so that links that lead back keep no one waiting.
 const MOST_SEEN: usize = 100_000;
+
+/// So many files a rule set may have. More are refused unread.
+const MOST_FILES: usize = 1_000;
 
 /// What is found in some levels of folders: the folders one level deeper, the rule set's files, and how many files and folders
 /// were looked at.
@@ -37,14 +40,15 @@ impl Model for Found {
 }
 
 /// The paths of the rule set's files, in order of their bytes. `CannotList` where a folder cannot be listed, `TooManyFiles`
-/// where more than 100,000 files and folders are met; both are told before any file is read. `Memory` only where memory was
-/// refused.
+/// where more than 100,000 files and folders are met, or more than 1,000 files of the rule set; all are told before any file is
+/// read. `Memory` only where memory was refused.
 pub(crate) fn list_rules<F: RuleFolder>(
     alloc: Global,
     folder: &F,
 ) -> Result<Vec<String>, FolderFault>
-    ensures paths { (known : Folder) → F.says folder.now known → MatchResult result (λ paths. AreRulePaths known (map (λ path. string_bytes path) paths.items)) (IsListFault (found_in known 8)) }
+    ensures paths { (known : Folder) → F.says folder.now known → MatchResult result (λ paths. AreRulePaths known (map (λ path. string_bytes path) paths.items)) (IsListRefusal (found_in known 8)) }
     ensures order { IfOk result (λ paths. IsSorted string_cmp paths.items) }
+    ensures few { IfOk result (λ paths. length paths.items ≤ MOST_FILES) }
 {
     let mut found = find_top(alloc, folder)?;
     'levels: for level in 0..DEEPEST {
@@ -54,6 +58,9 @@ pub(crate) fn list_rules<F: RuleFolder>(
         files: mut paths,
         ..
     } = found;
+    if paths.len() > MOST_FILES {
+        return Err(FolderFault::TooManyFiles);
+    }
     paths.sort()?;
     Ok(paths)
 }
@@ -124,11 +131,20 @@ fn has(entries: &[FolderEntry], name: &str) -> bool
 
 /// Whether a folder has this name. A file that has it is no rule file.
 fn has_folder(entries: &[FolderEntry], name: &str) -> bool
-    ensures { result ≡ list_any (λ entry. entry.is_folder && bytes_eq entry.name name.now) entries.now }
+    ensures { result ≡ list_any (λ entry. counts_as_folder entry.name entry.is_folder && bytes_eq entry.name name.now) entries.now }
 {
-    entries
-        .iter()
-        .any(|entry| entry.is_folder() && entry.name() == name)
+    entries.iter().any(|entry| counts_as_folder(entry, entry.name()) && entry.name() == name)
+}
+
+/// Whether an entry at this path is taken for a folder. One that cannot be looked at is, so that it is told that it cannot be
+/// listed, but for one that is named as a file of the rule set, of which it is told that it cannot be read.
+fn counts_as_folder(entry: &FolderEntry, path: &str) -> bool
+    ensures { result ≡ counts_as_folder path.now entry.now.is_folder }
+{
+    match entry.is_folder() {
+        Some(is_folder) => is_folder,
+        None => !is_rule_path(path),
+    }
 }
 
 /// What is found in one level more.
@@ -182,7 +198,7 @@ fn add_entry(
     ensures { OnOk result (found.new ≡ with_entry path.now found.old entry.now) }
 {
     let path = format!(in alloc; "{path}/{}", entry.name())?;
-    if entry.is_folder() {
+    if counts_as_folder(entry, path.as_str()) {
         found.deeper.push(path)?;
     } else if is_rule_path(path.as_str()) {
         found.files.push(path)?;

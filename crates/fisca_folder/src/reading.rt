@@ -1,6 +1,6 @@
 //! The rule files of a folder, read.
 
-ghost use Rattle.std.specs.Prelude.{◌≡◌, ◌≤◌, ◌^◌, length, take, map, option_map, string_bytes, All, IfOk, MatchResult};
+ghost use Rattle.std.specs.Prelude.{◌≡◌, ◌≤◌, ◌^◌, length, map, option_map, string_bytes, All, IfOk, MatchResult};
 ghost use Rattle.std.specs.Str.{IsUtf8};
 ghost use Rattle.fisca_folder.specs.Folder.{Folder, AreFilesOf, AreRead, AreRuleFiles, IsFileFault, IsFirstFault, IsRefused, IsTextOf, path_of};
 ghost use Rattle.fisca_folder.specs.FolderSteps.{IsOverlong, IsUnread};
@@ -13,14 +13,12 @@ use std::alloc::Global;
 /// A file may have so many bytes.
 pub const LONGEST: u64 = 1 << 20;
 
-/// Of so many files the texts are kept. A rule set with more is refused whatever their texts are.
-const KEPT: usize = 1_001;
-
-/// Reads the parameter files of a folder, in order of the bytes of their paths, which are relative to it: those below its
-/// folder `parameters`, in eight levels of folders, whose names end in `.yaml` or `.yml`. Of more than 1,001 files the first
-/// 1,001 are answered. The first fault in this order is told:
+/// Reads the files of a rule set in a folder, in order of the bytes of their paths, which are relative to it: `entities.py`,
+/// and in eight levels of folders those below its folder `parameters` whose names end in `.yaml` or `.yml`, and those below its
+/// folder `variables` whose names end in `.py`. The first fault in this order is told:
 ///
-/// - `CannotList` where a folder cannot be listed, `TooManyFiles` where more than 100,000 files and folders are met.
+/// - `CannotList` where a folder cannot be listed, `TooManyFiles` where more than 100,000 files and folders are met, or more
+///   than 1,000 files of the rule set: before any file is read.
 /// - of the files, in order of their paths: `CannotRead` where one cannot be read or is not UTF-8, `TooLong` where one has
 ///   more than 1 MiB.
 /// - `Memory` only where memory was refused.
@@ -34,22 +32,20 @@ pub fn read_rules<F: RuleFolder>(alloc: Global, folder: &F) -> Result<Vec<Source
     read_files(alloc, folder, paths)
 }
 
-/// The files of these paths, of which the first 1,001 are kept.
+/// The files of these paths.
 fn read_files<F: RuleFolder>(
     alloc: Global,
     folder: &F,
     paths: Vec<String>,
 ) -> Result<Vec<SourceFile>, FolderFault>
     ensures answer { (known : Folder) → F.says folder.now known → MatchResult result (λ files. AreRead known (map (λ path. string_bytes path) paths.items) files.items) (IsFirstFault known (map (λ path. string_bytes path) paths.items)) }
-    ensures paths { IfOk result (λ files. map path_of files.items ≡ take KEPT (map (λ path. string_bytes path) paths.items)) }
+    ensures paths { IfOk result (λ files. map path_of files.items ≡ map (λ path. string_bytes path) paths.items) }
     ensures texts { IfOk result (λ files. All (λ file. length file.text ≤ LONGEST) files.items) }
 {
     let mut files = Vec::new(alloc);
     for path in paths {
         let text = read_text(alloc, folder, path.as_str())?;
-        if files.len() < KEPT {
-            files.push(SourceFile::new(path, text))?;
-        }
+        files.push(SourceFile::new(path, text))?;
     }
     Ok(files)
 }

@@ -4,7 +4,7 @@ use Rattle.std.proofs.Math.Seq.{drop-append_seam}
 use Rattle.std.proofs.lemmas.List.{length-drop, length-map, length-take-le, take-append-drop}
 use Rattle.std.specs.List.{sum}
 use Rattle.std.specs.Prelude.{if◌then◌else◌, is_ok, OnOk, Result, Ok, Err}
-use Rattle.fisca_lines.specs.Odometer.{AreSameFrom, IsNear, places_at}
+use Rattle.fisca_writer.specs.Odometer.{AreSameFrom, IsNear, places_at}
 use Rattle.fisca_num.specs.Number.{Number}
 use Rattle.fisca_num.specs.Text.{text_of}
 use Rattle.fisca_grid.specs.Axes.{step_of}

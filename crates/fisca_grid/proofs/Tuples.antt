@@ -7,7 +7,7 @@ use Rattle.std.proofs.lemmas.List.{get_or-append-add}
 use Rattle.std.proofs.lemmas.List.FromFn.{get_or-map-range_with_len, length-map-range_with_len}
 use Rattle.std.specs.List.{flat_map, range_with_len}
 use Rattle.fisca_grid.specs.Grid.{grid}
-use Rattle.fisca_lines.specs.Odometer.{places_at, product_of}
+use Rattle.fisca_writer.specs.Odometer.{places_at, product_of}
 
 abbrev row_of : ℕ → List ℕ → List (List ℕ)
 row_of n places = map (λ place. place ∷ places) (range_with_len 0 n)

@@ -9,7 +9,7 @@ use Rattle.fisca_num.specs.Text.{text_of}
 use Rattle.fisca_grid.specs.Axes.{step_of}
 use Rattle.fisca_grid.specs.Grid.{axes_in, axes_at, leading_in}
 use Rattle.fisca_grid.specs.Condition.{meets}
-use Rattle.fisca_lines.specs.Row.{Row, Nothing, Line}
+use Rattle.fisca_writer.specs.Row.{Row, Nothing, Line}
 use Rattle.fisca_grid.specs.declared.axes.AxisSpec.{AxisSpec}
 use Rattle.fisca_grid.specs.declared.condition.Filter.{Filter}
 

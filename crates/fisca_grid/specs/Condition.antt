@@ -7,12 +7,12 @@ use Rattle.std.specs.declared.cmp.Ordering.TheVariants as order
 use Rattle.fisca_num.specs.declared.faults.NumFault.{NumFault}
 use Rattle.fisca_num.specs.Number.{Number, number_cmp}
 use Rattle.fisca_num.specs.Literal.{number_of_literal}
-use Rattle.fisca_grid.specs.declared.condition.Comparison.{Comparison}
-use Rattle.fisca_grid.specs.declared.condition.Condition.{Condition}
-use Rattle.fisca_grid.specs.declared.condition.Comparison.TheVariants.{AtLeast, AtMost, Equal, NotEqual, Above, Below}
+use Rattle.fisca_grid.specs.declared.condition.AxisComparison.{AxisComparison}
+use Rattle.fisca_grid.specs.declared.condition.AxisCondition.{AxisCondition}
+use Rattle.fisca_grid.specs.declared.condition.AxisComparison.TheVariants.{AtLeast, AtMost, Equal, NotEqual, Above, Below}
 
 -- a value that stands so to the constant meets the comparison
-abbrev pub is_met_by : Comparison → Ordering → Bool
+abbrev pub is_met_by : AxisComparison → Ordering → Bool
 is_met_by AtLeast Less = false
 is_met_by AtLeast other = true
 is_met_by AtMost Greater = false
@@ -36,31 +36,31 @@ past_spaces [] = []
 past_spaces (b ∷ bs) = if b == 32 then past_spaces bs else b ∷ bs
 
 -- the first of these signs that begins the text, with what follows it
-abbrev pub first_sign : List (Comparison × List ℕ) → List ℕ → Option (Comparison × List ℕ)
+abbrev pub first_sign : List (AxisComparison × List ℕ) → List ℕ → Option (AxisComparison × List ℕ)
 first_sign [] text = None
 first_sign (sign ∷ signs) text = if starts_with nat_eq text sign.1 then Some (sign.0, drop (length sign.1) text) else first_sign signs text
 
 -- the comparisons and their signs, a longer sign before the one that begins it
-abbrev pub signs : List (Comparison × List ℕ)
+abbrev pub signs : List (AxisComparison × List ℕ)
 signs = (AtLeast, codes ">=") ∷ (AtMost, codes "<=") ∷ (Equal, codes "==") ∷ (NotEqual, codes "!=") ∷ (Above, codes ">") ∷ (Below, codes "<") ∷ []
 
 -- the comparison whose sign begins the text, and what follows the sign
-abbrev pub comparison_of : List ℕ → Option (Comparison × List ℕ)
+abbrev pub comparison_of : List ℕ → Option (AxisComparison × List ℕ)
 comparison_of text = first_sign signs text
 
 -- a comparison with the number that a literal writes
-abbrev pub with_constant : Comparison → Result Number NumFault → Option Condition
+abbrev pub with_constant : AxisComparison → Result Number NumFault → Option AxisCondition
 with_constant comparison (Ok constant) = Some (record { comparison = comparison; constant = constant })
 with_constant comparison (Err fault) = None
 
 -- a comparison, and behind it, perhaps after spaces, a decimal literal
-abbrev pub comparison_in : List ℕ → Option Condition
+abbrev pub comparison_in : List ℕ → Option AxisCondition
 comparison_in text = option_and_then (λ sign. with_constant sign.0 (number_of_literal (past_spaces sign.1))) (comparison_of text)
 
 -- the condition that a text states of the axis of this name: the name, a comparison and a decimal literal, where spaces may stand around the comparison
-abbrev pub condition_of : List ℕ → List ℕ → Option Condition
+abbrev pub condition_of : List ℕ → List ℕ → Option AxisCondition
 condition_of name text = option_and_then (λ rest. comparison_in (past_spaces rest)) (after name text)
 
 -- a value meets a condition
-abbrev pub meets : Condition → Number → Bool
+abbrev pub meets : AxisCondition → Number → Bool
 meets condition value = is_met_by condition.comparison (number_cmp value condition.constant)

@@ -2,7 +2,7 @@
 use Rattle.std.specs.Prelude.{ℕ, ◌+◌, ◌^◌, Bool, ◌==◌, ◌||◌, not, nat_lt, if◌then◌else◌, List, [], ◌∷◌, ◌++◌, map, take, drop, length, Option, Some, None}
 use Rattle.std.specs.List.{list_any, flat_map, range_with_len}
 use Rattle.std.specs.Option.{option_or}
-use Rattle.fisca_lines.specs.Odometer.{places_at, product_of}
+use Rattle.fisca_writer.specs.Odometer.{places_at, product_of}
 use Rattle.fisca_grid.specs.Axes.{first_axis_fault}
 use Rattle.fisca_grid.specs.declared.axes.AxisSpec.{AxisSpec}
 use Rattle.fisca_grid.specs.declared.axes.AxesFault.{AxesFault}

@@ -6,7 +6,7 @@ use Rattle.std.specs.Str.{bytes_eq}
 use Rattle.fisca_grid.specs.Condition.{condition_of}
 use Rattle.fisca_grid.specs.Words.{axis_of}
 use Rattle.fisca_grid.specs.declared.axes.AxisSpec.{AxisSpec}
-use Rattle.fisca_grid.specs.declared.condition.Condition.{Condition}
+use Rattle.fisca_grid.specs.declared.condition.AxisCondition.{AxisCondition}
 use Rattle.fisca_grid.specs.declared.condition.Filter.{Filter}
 
 -- the name of the axis that a word describes
@@ -28,7 +28,7 @@ has_twins [] = false
 has_twins (name ∷ names) = list_any (λ other. bytes_eq other name) names || has_twins names
 
 -- a condition on the axis at an index
-abbrev pub filter_on : ℕ → Condition → Filter
+abbrev pub filter_on : ℕ → AxisCondition → Filter
 filter_on axis condition = record { axis = axis; condition = condition }
 
 -- the condition that a text states of one of the axes of these names, the first of which stands at `axis`

@@ -8,8 +8,8 @@ ghost use Rattle.fisca_grid.specs.AxesRow.{values_of, cells, tab, line_of, IsMet
 
 use super::condition::Filter;
 use super::grid::Axes;
-use fisca_lines::{Groups, RowFault, Rows, Selection};
 use fisca_num::Fraction;
+use fisca_writer::{Groups, RowFault, Rows, Selection};
 use std::alloc::{AllocError, Global};
 use std::convert::Infallible;
 

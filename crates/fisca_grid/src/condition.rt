@@ -8,7 +8,7 @@ use std::cmp::Ordering;
 
 /// How an axis value is compared with a constant.
 #[derive(Clone, Copy, Debug, PartialEq, Eq)]
-pub enum Comparison {
+pub enum AxisComparison {
     /// `>=`
     AtLeast,
     /// `<=`
@@ -23,18 +23,18 @@ pub enum Comparison {
     Below,
 }
 
-impl Comparison {
+impl AxisComparison {
     /// Whether a value meets the comparison, by the value's order to the constant.
     pub fn is_met_by(self, order: Ordering) -> bool
         ensures { result ≡ is_met_by self order }
     {
         match self {
-            Comparison::AtLeast => order != Ordering::Less,
-            Comparison::AtMost => order != Ordering::Greater,
-            Comparison::Equal => order == Ordering::Equal,
-            Comparison::NotEqual => order != Ordering::Equal,
-            Comparison::Above => order == Ordering::Greater,
-            Comparison::Below => order == Ordering::Less,
+            AxisComparison::AtLeast => order != Ordering::Less,
+            AxisComparison::AtMost => order != Ordering::Greater,
+            AxisComparison::Equal => order == Ordering::Equal,
+            AxisComparison::NotEqual => order != Ordering::Equal,
+            AxisComparison::Above => order == Ordering::Greater,
+            AxisComparison::Below => order == Ordering::Less,
         }
     }
 }
@@ -58,21 +58,21 @@ pub fn past_spaces(text: &str) -> &str
 }
 
 /// The comparison whose sign begins the text, and what follows the sign.
-fn read_comparison(text: &str) -> Option<(Comparison, &str)>
+fn read_comparison(text: &str) -> Option<(AxisComparison, &str)>
     ensures { option_map (λ read. (read.0, read.1.now)) result ≡ comparison_of text.now }
 {
     if let Some(rest) = after(">=", text) {
-        Some((Comparison::AtLeast, rest))
+        Some((AxisComparison::AtLeast, rest))
     } else if let Some(rest) = after("<=", text) {
-        Some((Comparison::AtMost, rest))
+        Some((AxisComparison::AtMost, rest))
     } else if let Some(rest) = after("==", text) {
-        Some((Comparison::Equal, rest))
+        Some((AxisComparison::Equal, rest))
     } else if let Some(rest) = after("!=", text) {
-        Some((Comparison::NotEqual, rest))
+        Some((AxisComparison::NotEqual, rest))
     } else if let Some(rest) = after(">", text) {
-        Some((Comparison::Above, rest))
+        Some((AxisComparison::Above, rest))
     } else if let Some(rest) = after("<", text) {
-        Some((Comparison::Below, rest))
+        Some((AxisComparison::Below, rest))
     } else {
         None
     }
@@ -80,18 +80,18 @@ fn read_comparison(text: &str) -> Option<(Comparison, &str)>
 
 /// A condition on the values of an axis: how they are compared with a constant.
 #[derive(Clone, Copy, Debug, PartialEq, Eq)]
-pub struct Condition {
-    pub comparison: Comparison,
+pub struct AxisCondition {
+    pub comparison: AxisComparison,
     pub constant: Fraction,
 }
 
 /// The comparison and the constant that a text states.
-fn read_comparison_in(text: &str) -> Option<Condition>
+fn read_comparison_in(text: &str) -> Option<AxisCondition>
     ensures { result ≡ comparison_in text.now }
 {
     let (comparison, rest) = read_comparison(text)?;
     let constant = Fraction::from_decimal(past_spaces(rest)).ok()?;
-    Some(Condition {
+    Some(AxisCondition {
         comparison,
         constant,
     })
@@ -100,7 +100,7 @@ fn read_comparison_in(text: &str) -> Option<Condition>
 /// The condition that a text states of the axis of this name: the name, one of `>= <= == != > <`, and a decimal
 /// literal; spaces may stand around the comparison alone. `None` where the text has not this form or the constant is
 /// no number within the limits. This project's own rule.
-pub fn read_condition(name: &str, text: &str) -> Option<Condition>
+pub fn read_condition(name: &str, text: &str) -> Option<AxisCondition>
     ensures { result ≡ condition_of name.now text.now }
 {
     let rest = after(name, text)?;
@@ -111,5 +111,5 @@ pub fn read_condition(name: &str, text: &str) -> Option<Condition>
 #[derive(Clone, Copy, Debug)]
 pub struct Filter {
     pub axis: usize,
-    pub condition: Condition,
+    pub condition: AxisCondition,
 }

@@ -3,11 +3,11 @@
 ghost use Rattle.std.specs.Prelude.{◌≡◌, ◌<◌, IfSome, length};
 ghost use Rattle.std.specs.Iterator.{YieldsFirst, item_count};
 ghost use Rattle.fisca_grid.specs.Grid.{counts_of, size_of};
-ghost use Rattle.fisca_lines.specs.Lines.{positions_from};
-ghost use Rattle.fisca_lines.specs.Odometer.{after_next, left_of, product_of, HaveTurned};
+ghost use Rattle.fisca_writer.specs.Lines.{positions_from};
+ghost use Rattle.fisca_writer.specs.Odometer.{after_next, left_of, product_of, HaveTurned};
 
 use super::grid::Axes;
-use fisca_lines::Odometer;
+use fisca_writer::Odometer;
 use std::marker::Model;
 
 /// The positions of a grid from a start to the last, in order. Contracts see the lengths of the groups, the start and the next
@@ -18,7 +18,7 @@ pub struct GridCursor {
 }
 
 impl Model for GridCursor {
-    ghost use Rattle.fisca_lines.specs.Odometer.{Going};
+    ghost use Rattle.fisca_writer.specs.Odometer.{Going};
 
     ghost Value = { Going };
 

@@ -10,8 +10,8 @@ ghost use Rattle.fisca_grid.specs.Turning.{specs_of, axes_of, turned, placed};
 
 use super::axes::{AxesFault, Axis, AxisSpec};
 use super::turning::Turning;
-use fisca_lines::Groups;
 use fisca_num::Fraction;
+use fisca_writer::Groups;
 use std::alloc::{AllocError, Global};
 use std::cmp::Ordering;
 use std::marker::Model;

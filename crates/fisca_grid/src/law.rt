@@ -2,7 +2,7 @@
 
 ghost use Rattle.std.specs.Prelude.{◌≡◌, ℕ, ◌<◌, List, [], length, slice_index_or};
 ghost use Rattle.fisca_grid.specs.Grid.{grid};
-ghost use Rattle.fisca_lines.specs.Odometer.{places_at, product_of};
+ghost use Rattle.fisca_writer.specs.Odometer.{places_at, product_of};
 
 /// A grid has a position for each tuple of places, of which the first place turns fastest: as many as the product of the
 /// counts, and the places at a position are the tuple that stands there among all.

@@ -13,7 +13,7 @@ mod words;
 
 pub use axes::{AxesFault, AxisSpec, each_step_is_a_number};
 pub use axis_rows::AxisRows;
-pub use condition::{Comparison, Condition, Filter, past_spaces, read_condition};
+pub use condition::{AxisComparison, AxisCondition, Filter, past_spaces, read_condition};
 pub use cursor::GridCursor;
 pub use grid::Axes;
 pub use law::positions_are_tuples;

@@ -9,8 +9,8 @@ use Rattle.fisca_inputs.specs.Defaults.{and_row, beside, beside_by, count_of, fi
 use Rattle.fisca_inputs.specs.Entries.{Entries, has, key, put, put_all, same_key}
 use Rattle.fisca_inputs.specs.Rules.{Rule}
 use Rattle.fisca_inputs.specs.declared.given.Given.{Given}
-use Rattle.fisca_inputs.specs.declared.given.Value.{Value}
-use Rattle.fisca_inputs.specs.declared.key.Key.{Key}
+use Rattle.fisca_model.specs.declared.value.Value.{Value}
+use Rattle.fisca_model.specs.declared.key.Key.{Key}
 use Rattle.fisca_inputs.proofs.First.{all_in}
 
 small : (cs : List ℕ) (i : ℕ) → list_all (λ c. nat_lt c 2) cs ≡ true → nat_lt (count_of cs i) 2 ≡ true

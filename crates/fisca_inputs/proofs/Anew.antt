@@ -5,9 +5,9 @@ use Rattle.std.specs.Map.{keys_of, lookup, set_value}
 use Rattle.std.proofs.lemmas.Map.Keys.{IsDistinct-head, IsDistinct-tail}
 use Rattle.fisca_inputs.specs.Anew.{set_keys}
 use Rattle.fisca_inputs.specs.Entries.{Entries, same_key}
-use Rattle.fisca_inputs.specs.contracts.key.KeyEq.TheImpl.Laws.{laws-law}
-use Rattle.fisca_inputs.specs.declared.key.Key.{Key}
-use Rattle.fisca_inputs.specs.declared.given.Value.{Value}
+use Rattle.fisca_model.specs.contracts.key.KeyEq.TheImpl.Laws.{laws-law}
+use Rattle.fisca_model.specs.declared.key.Key.{Key}
+use Rattle.fisca_model.specs.declared.value.Value.{Value}
 
 -- a value at no key is nowhere
 module _ (k : Key) (x : Value) where

@@ -9,8 +9,8 @@ use Rattle.std.proofs.lemmas.Map.Keys.{IsDistinct-head, IsDistinct-tail}
 use Rattle.indexmap.specs.IndexMap.{set_value_at}
 use Rattle.fisca_inputs.specs.Entries.{same_key}
 use Rattle.fisca_inputs.specs.Places.{AreOnce}
-use Rattle.fisca_inputs.specs.contracts.key.KeyEq.TheImpl.Laws.{laws-law}
-use Rattle.fisca_inputs.specs.declared.key.Key.{Key}
+use Rattle.fisca_model.specs.contracts.key.KeyEq.TheImpl.Laws.{laws-law}
+use Rattle.fisca_model.specs.declared.key.Key.{Key}
 
 module _ {X : Type 0} where
   -- whether the key stands at the place

@@ -15,12 +15,12 @@ use Rattle.std.proofs.lemmas.Map.Made.{IsDistinct-keys_filter}
 use Rattle.std.proofs.lemmas.Option.{slice_get-get_or}
 use Rattle.indexmap.specs.IndexMap.{set_value_at}
 use Rattle.fisca_time.specs.Period.{span_cmp}
-use Rattle.fisca_inputs.specs.contracts.key.KeyEq.TheImpl.Laws.{laws-law}
+use Rattle.fisca_model.specs.contracts.key.KeyEq.TheImpl.Laws.{laws-law}
 use Rattle.fisca_inputs.specs.Anew.{set_keys}
 use Rattle.fisca_inputs.specs.Entries.{Entries, has, same_key, value_at}
 use Rattle.fisca_inputs.specs.Places.{AreNumbered, AreOccupied, AreOnce, Pages, StandsAt, number_at, number_in, number_of, numbered_from, page_key}
-use Rattle.fisca_inputs.specs.declared.given.Value.{Value}
-use Rattle.fisca_inputs.specs.declared.key.Key.{Key}
+use Rattle.fisca_model.specs.declared.value.Value.{Value}
+use Rattle.fisca_model.specs.declared.key.Key.{Key}
 use Rattle.fisca_inputs.proofs.Anew.{set_nowhere, set_once}
 use Rattle.fisca_inputs.proofs.Noted.{not_first, set_seen, set_there, stands}
 

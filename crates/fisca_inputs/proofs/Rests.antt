@@ -9,9 +9,9 @@ use Rattle.fisca_inputs.specs.Faults.{at_line}
 use Rattle.fisca_inputs.specs.Sharing.{computed, without, rest_of, count_free}
 use Rattle.fisca_inputs.specs.declared.fault.SituationFault.{SituationFault}
 use Rattle.fisca_inputs.specs.declared.fault.SituationKind.TheVariants.{BadValue, Memory}
-use Rattle.fisca_inputs.specs.declared.given.Value.{Value}
-use Rattle.fisca_inputs.specs.declared.given.Value.TheVariants as v
-use Rattle.fisca_inputs.specs.declared.key.Key.{Key}
+use Rattle.fisca_model.specs.declared.value.Value.{Value}
+use Rattle.fisca_model.specs.declared.value.Value.TheVariants as v
+use Rattle.fisca_model.specs.declared.key.Key.{Key}
 use Rattle.fisca_inputs.proofs.Steps.{drop_at, goes_on, stops}
 
 bad_value : (line : ℕ) (f : SituationFault) → at_line line BadValue ≡ f → f.kind ≢ Memory

@@ -8,8 +8,8 @@ use Rattle.fisca_inputs.specs.Defaults.{row_of}
 use Rattle.fisca_inputs.specs.Entries.{Entries, key, has, limit, put_free}
 use Rattle.fisca_inputs.specs.Faults.{at_line}
 use Rattle.fisca_inputs.specs.declared.fault.SituationKind.TheVariants.{TooMany}
-use Rattle.fisca_inputs.specs.declared.given.Value.{Value}
-use Rattle.fisca_inputs.specs.declared.key.Key.{Key}
+use Rattle.fisca_model.specs.declared.value.Value.{Value}
+use Rattle.fisca_model.specs.declared.key.Key.{Key}
 
 -- the line is told of a refusal alone
 module _ (m n : ℕ) (x : Value) (k : Key) (es : Entries) where

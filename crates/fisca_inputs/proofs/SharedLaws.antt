@@ -1,9 +1,9 @@
 -- Laws of one given input.
 use Rattle.std.proofs.Common.{◌≡◌, ℕ, List, [], Bool, true, false, Some, sym, ap, ◌∙◌, if◌then◌else◌}
 use Rattle.std.specs.Prelude.{Ok, Err, Result}
-use Rattle.fisca_meaning.specs.Questions.{fits, key_period}
+use Rattle.fisca_model.specs.Periods.{fits, key_period}
 use Rattle.fisca_num.specs.Number.{Number}
-use Rattle.fisca_tables.specs.declared.variable.SetInput.TheVariants as sharing
+use Rattle.fisca_symbols.specs.declared.variable.SetInput.TheVariants as sharing
 use Rattle.fisca_params.specs.Results.{and_then}
 use Rattle.fisca_inputs.specs.Defaults.{rows_of, with_defaults}
 use Rattle.fisca_inputs.specs.Entries.{Entries, key, value_at}
@@ -16,8 +16,8 @@ use Rattle.fisca_inputs.specs.Totals.{AddUpTo, value_or_default}
 use Rattle.fisca_inputs.specs.declared.fault.SituationFault.{SituationFault}
 use Rattle.fisca_inputs.specs.declared.fault.SituationKind.TheVariants.{PeriodMismatch}
 use Rattle.fisca_inputs.specs.declared.given.Given.{Given}
-use Rattle.fisca_inputs.specs.declared.given.Value.TheVariants as v
-use Rattle.fisca_inputs.specs.declared.key.Key.{Key}
+use Rattle.fisca_model.specs.declared.value.Value.TheVariants as v
+use Rattle.fisca_model.specs.declared.key.Key.{Key}
 use Rattle.fisca_inputs.proofs.Beside.{defaults_beside}
 use Rattle.fisca_inputs.proofs.Shares.{divided_adds}
 

@@ -5,16 +5,17 @@ use Rattle.std.specs.List.{range_with_len}
 use Rattle.std.specs.Map.{lookup}
 use Rattle.std.specs.Ordering.{int_eq, is_lt}
 use Rattle.std.proofs.lemmas.Bool.{and_parts, eqb-true}
-use Rattle.fisca_meaning.specs.Dialogues as meaning
-use Rattle.fisca_meaning.specs.Questions.{fits, variable_type}
+use Rattle.fisca_model.specs.Values as meaning
+use Rattle.fisca_model.specs.Periods.{fits}
+use Rattle.fisca_model.specs.Tables.{variable_type}
 use Rattle.fisca_num.specs.Number.{Number}
 use Rattle.fisca_params.specs.Results.{and_then}
-use Rattle.fisca_tables.specs.declared.variable.SetInput.{SetInput}
-use Rattle.fisca_tables.specs.declared.variable.SetInput.TheVariants as sharing
+use Rattle.fisca_symbols.specs.declared.variable.SetInput.{SetInput}
+use Rattle.fisca_symbols.specs.declared.variable.SetInput.TheVariants as sharing
 use Rattle.fisca_time.specs.Period.{Span}
-use Rattle.fisca_typing.specs.Tables.{Tables}
-use Rattle.fisca_typing.specs.declared.kinds.ValueType.{ValueType}
-use Rattle.fisca_typing.specs.declared.kinds.ValueType.TheVariants as vt
+use Rattle.fisca_model.specs.Tables.{Tables}
+use Rattle.fisca_model.specs.declared.value_type.ValueType.{ValueType}
+use Rattle.fisca_model.specs.declared.value_type.ValueType.TheVariants as vt
 use Rattle.fisca_time.specs.Period.{subs}
 use Rattle.fisca_inputs.specs.Defaults.{count_of, first_line, row_of, row_with, rows_of, beside, beside_by, with_defaults}
 use Rattle.fisca_inputs.specs.Entries.{Entries, key, same_key, value_at, has, limit, put, put_free, put_all}
@@ -22,15 +23,15 @@ use Rattle.fisca_inputs.specs.Faults.{at_line}
 use Rattle.fisca_inputs.specs.Inputs.{inputs_of}
 use Rattle.fisca_inputs.specs.Order.{given_cmp, put_in_order, in_order_with, in_order}
 use Rattle.fisca_inputs.specs.Rules.{Rule, is_longer}
-use Rattle.fisca_inputs.specs.Seen.{value_seen}
+use Rattle.fisca_model.specs.Seen.{value_seen}
 use Rattle.fisca_inputs.specs.Sharing.{rest_of, count_free, share_of, spread, divided_value, alone, parts_of, over_parts, own_key, shared_by, all_shared}
 use Rattle.fisca_inputs.specs.Typed.{is_typed, IsValueOf, GivensTyped, EntriesTyped, DefaultsTyped}
 use Rattle.fisca_inputs.specs.declared.fault.SituationFault.{SituationFault}
 use Rattle.fisca_inputs.specs.declared.fault.SituationKind.TheVariants.{InconsistentInput, PeriodMismatch, TooMany}
 use Rattle.fisca_inputs.specs.declared.given.Given.{Given}
-use Rattle.fisca_inputs.specs.declared.given.Value.{Value}
-use Rattle.fisca_inputs.specs.declared.given.Value.TheVariants as v
-use Rattle.fisca_inputs.specs.declared.key.Key.{Key}
+use Rattle.fisca_model.specs.declared.value.Value.{Value}
+use Rattle.fisca_model.specs.declared.value.Value.TheVariants as v
+use Rattle.fisca_model.specs.declared.key.Key.{Key}
 
 pub then_ok : {X Y E : Type 0} (r : Result X E) (f : X → Result Y E) (y : Y) → and_then r f ≡ Ok y → (x : X) × (r ≡ Ok x) × (f x ≡ Ok y)
 then_ok (Ok x) f y h = (x, refl, h)

@@ -4,16 +4,16 @@ use Rattle.std.specs.Prelude.{Some, None, Option, Ok, Err, true, false}
 use Rattle.std.specs.List.{range_with_len}
 use Rattle.jiff_core.specs.Calendar.{day_count, days_of_years, days_of_months}
 use Rattle.fisca_num.specs.Number.{Number, zero_number}
-use Rattle.fisca_tables.specs.declared.variable.SetInput.{SetInput}
-use Rattle.fisca_tables.specs.declared.variable.SetInput.TheVariants as sharing
+use Rattle.fisca_symbols.specs.declared.variable.SetInput.{SetInput}
+use Rattle.fisca_symbols.specs.declared.variable.SetInput.TheVariants as sharing
 use Rattle.fisca_time.specs.Period.{Span, eternity, months, day_at, month_at}
 use Rattle.fisca_time.specs.declared.unit.Unit.{Unit}
 use Rattle.fisca_time.specs.declared.unit.Unit.TheVariants as unit
 use Rattle.fisca_inputs.specs.declared.fault.SituationKind.TheVariants.{UnknownVariable, PeriodMismatch, InconsistentInput}
 use Rattle.fisca_inputs.specs.declared.given.Given.{Given}
-use Rattle.fisca_inputs.specs.declared.key.Key.{Key}
-use Rattle.fisca_inputs.specs.declared.given.Value.{Value}
-use Rattle.fisca_inputs.specs.declared.given.Value.TheVariants as v
+use Rattle.fisca_model.specs.declared.key.Key.{Key}
+use Rattle.fisca_model.specs.declared.value.Value.{Value}
+use Rattle.fisca_model.specs.declared.value.Value.TheVariants as v
 use Rattle.fisca_inputs.specs.Entries.{key}
 use Rattle.fisca_inputs.specs.Faults.{at_line}
 use Rattle.fisca_inputs.specs.Inputs.{inputs_of, and_given, without_marked}

@@ -8,8 +8,8 @@ use Rattle.fisca_inputs.specs.Entries.{Entries, key, same_key, has, put_all}
 use Rattle.fisca_inputs.specs.Rules.{Rule}
 use Rattle.fisca_inputs.specs.declared.fault.SituationFault.{SituationFault}
 use Rattle.fisca_inputs.specs.declared.given.Given.{Given}
-use Rattle.fisca_inputs.specs.declared.key.Key.{Key}
-use Rattle.fisca_inputs.specs.declared.given.Value.{Value}
+use Rattle.fisca_model.specs.declared.key.Key.{Key}
+use Rattle.fisca_model.specs.declared.value.Value.{Value}
 
 -- the line of the first input of a variable, in the order of the file
 abbrev pub first_line : List Given → ℕ → ℕ

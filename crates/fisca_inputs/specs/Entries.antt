@@ -8,8 +8,8 @@ use Rattle.fisca_time.specs.Period.{Span, span_cmp}
 use Rattle.fisca_inputs.specs.Faults.{at_line}
 use Rattle.fisca_inputs.specs.declared.fault.SituationFault.{SituationFault}
 use Rattle.fisca_inputs.specs.declared.fault.SituationKind.TheVariants.{TooMany}
-use Rattle.fisca_inputs.specs.declared.key.Key.{Key}
-use Rattle.fisca_inputs.specs.declared.given.Value.{Value}
+use Rattle.fisca_model.specs.declared.key.Key.{Key}
+use Rattle.fisca_model.specs.declared.value.Value.{Value}
 
 abbrev pub key : ℕ → ℕ → Span → Key
 key x m p = record { variable = x; member = m; period = p }

@@ -12,7 +12,7 @@ use Rattle.fisca_inputs.specs.Sharing.{all_shared}
 use Rattle.fisca_inputs.specs.declared.fault.SituationFault.{SituationFault}
 use Rattle.fisca_inputs.specs.declared.fault.SituationKind.TheVariants.{InconsistentInput}
 use Rattle.fisca_inputs.specs.declared.given.Given.{Given}
-use Rattle.fisca_inputs.specs.declared.key.Key.{Key}
+use Rattle.fisca_model.specs.declared.key.Key.{Key}
 
 -- The inputs that are given, in the order of the file, with the number of members of each kind: the shorter are shared first, and then each
 -- member that has none gets the default beside another's.

@@ -9,7 +9,6 @@ pub mod Overlaps
 pub mod Places
 pub mod Ranks
 pub mod Rules
-pub mod Seen
 pub mod Sharing
 pub mod Totals
 pub mod Typed

@@ -4,8 +4,8 @@ use Rattle.std.specs.List.{IsDistinct}
 use Rattle.std.specs.Map.{keys_of, lookup}
 use Rattle.std.specs.Option.{unwrap_or}
 use Rattle.fisca_inputs.specs.Entries.{Entries, has, key, same_key}
-use Rattle.fisca_inputs.specs.declared.given.Value.{Value}
-use Rattle.fisca_inputs.specs.declared.key.Key.{Key}
+use Rattle.fisca_model.specs.declared.value.Value.{Value}
+use Rattle.fisca_model.specs.declared.key.Key.{Key}
 
 -- the number at a place; 0 past the last
 abbrev pub number_at : List ℕ → ℕ → ℕ

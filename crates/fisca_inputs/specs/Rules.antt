@@ -1,14 +1,14 @@
 -- What inputs turn on of a variable, and the periods that one is given for.
 use Rattle.std.specs.Prelude.{ℕ, Bool, true, false, ◌&&◌, ◌||◌, nat_lt, length, Option, Some, None}
-use Rattle.fisca_meaning.specs.Questions.{fits}
-use Rattle.fisca_tables.specs.declared.variable.DefaultValue.{DefaultValue}
-use Rattle.fisca_tables.specs.declared.variable.DefaultValue.TheVariants as default
-use Rattle.fisca_tables.specs.declared.variable.SetInput.{SetInput}
-use Rattle.fisca_tables.specs.declared.variable.Variable.{Variable}
+use Rattle.fisca_model.specs.Periods.{fits}
+use Rattle.fisca_symbols.specs.declared.variable.DefaultValue.{DefaultValue}
+use Rattle.fisca_symbols.specs.declared.variable.DefaultValue.TheVariants as default
+use Rattle.fisca_symbols.specs.declared.variable.SetInput.{SetInput}
+use Rattle.fisca_symbols.specs.declared.variable.Variable.{Variable}
 use Rattle.fisca_time.specs.Period.{Span, subs}
 use Rattle.fisca_time.specs.declared.unit.Unit.{Unit}
-use Rattle.fisca_inputs.specs.declared.given.Value.{Value}
-use Rattle.fisca_inputs.specs.declared.given.Value.TheVariants as v
+use Rattle.fisca_model.specs.declared.value.Value.{Value}
+use Rattle.fisca_model.specs.declared.value.Value.TheVariants as v
 
 -- its entity, its definition period, how longer inputs are shared, and what stands beside another member's input
 pub record Rule : Type 0 where

@@ -1,14 +1,14 @@
 -- Given inputs, one after another, as values of keys.
 use Rattle.std.specs.Prelude.{ℕ, suc, pos, ◌*◌, ◌==◌, List, [], ◌∷◌, map, if◌then◌else◌, slice_get, Option, Some, None, Result, Ok, Err}
 use Rattle.std.specs.Ordering.{int_eq}
-use Rattle.fisca_meaning.specs.Questions.{fits, key_period}
+use Rattle.fisca_model.specs.Periods.{fits, key_period}
 use Rattle.fisca_num.specs.Number.{Number}
 use Rattle.fisca_num.specs.Rational.{Ratio}
 use Rattle.fisca_num.specs.Operations.{number_of, difference_of}
 use Rattle.fisca_num.specs.declared.faults.NumFault.{NumFault}
 use Rattle.fisca_params.specs.Results.{and_then}
-use Rattle.fisca_tables.specs.declared.variable.SetInput.{SetInput}
-use Rattle.fisca_tables.specs.declared.variable.SetInput.TheVariants as sharing
+use Rattle.fisca_symbols.specs.declared.variable.SetInput.{SetInput}
+use Rattle.fisca_symbols.specs.declared.variable.SetInput.TheVariants as sharing
 use Rattle.fisca_time.specs.Period.{subs}
 use Rattle.fisca_time.specs.declared.unit.Unit.{Unit}
 use Rattle.fisca_inputs.specs.Entries.{Entries, key, value_at, has, put, put_all}
@@ -17,9 +17,9 @@ use Rattle.fisca_inputs.specs.Rules.{Rule, is_longer}
 use Rattle.fisca_inputs.specs.declared.fault.SituationFault.{SituationFault}
 use Rattle.fisca_inputs.specs.declared.fault.SituationKind.TheVariants.{UnknownVariable, BadValue, PeriodMismatch, InconsistentInput}
 use Rattle.fisca_inputs.specs.declared.given.Given.{Given}
-use Rattle.fisca_inputs.specs.declared.key.Key.{Key}
-use Rattle.fisca_inputs.specs.declared.given.Value.{Value}
-use Rattle.fisca_inputs.specs.declared.given.Value.TheVariants as v
+use Rattle.fisca_model.specs.declared.key.Key.{Key}
+use Rattle.fisca_model.specs.declared.value.Value.{Value}
+use Rattle.fisca_model.specs.declared.value.Value.TheVariants as v
 
 -- what is too wide is a bad value
 abbrev pub computed : ℕ → Result Number NumFault → Result Number SituationFault

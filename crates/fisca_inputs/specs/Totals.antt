@@ -3,13 +3,13 @@ use Rattle.std.specs.Prelude.{◌≡◌, ℕ, ◌<◌, nat_lt, ℤ, pos, ◌+ℤ
 use Rattle.std.specs.List.{AllZip, list_any}
 use Rattle.fisca_num.specs.Number.{Number, ratio_of}
 use Rattle.fisca_num.specs.Rational.{IsSame}
-use Rattle.fisca_typing.specs.Tables.{otherwise}
+use Rattle.fisca_model.specs.Tables.{otherwise}
 use Rattle.fisca_inputs.specs.Defaults.{count_of, row_key}
 use Rattle.fisca_inputs.specs.Entries.{Entries, same_key, value_at}
 use Rattle.fisca_inputs.specs.Rules.{Rule}
-use Rattle.fisca_inputs.specs.declared.key.Key.{Key}
-use Rattle.fisca_inputs.specs.declared.given.Value.{Value}
-use Rattle.fisca_inputs.specs.declared.given.Value.TheVariants as v
+use Rattle.fisca_model.specs.declared.key.Key.{Key}
+use Rattle.fisca_model.specs.declared.value.Value.{Value}
+use Rattle.fisca_model.specs.declared.value.Value.TheVariants as v
 
 -- the number is z over that denominator
 abbrev pub IsOver : ℕ → Number → ℤ → Type 0

@@ -1,15 +1,15 @@
 -- Values of the types of their variables.
 use Rattle.std.specs.Prelude.{◌≡◌, ⊤, ℕ, List, [], ◌∷◌, length, nat_lt, slice_get, Bool, true, false, Option, Some, None}
-use Rattle.fisca_meaning.specs.Dialogues as meaning
-use Rattle.fisca_meaning.specs.Questions.{variable_type}
-use Rattle.fisca_typing.specs.Tables.{Tables, members_at}
-use Rattle.fisca_typing.specs.declared.kinds.ValueType.{ValueType}
-use Rattle.fisca_typing.specs.declared.kinds.ValueType.TheVariants as vt
+use Rattle.fisca_model.specs.Values as meaning
+use Rattle.fisca_model.specs.Tables.{variable_type}
+use Rattle.fisca_model.specs.Tables.{Tables, members_at}
+use Rattle.fisca_model.specs.declared.value_type.ValueType.{ValueType}
+use Rattle.fisca_model.specs.declared.value_type.ValueType.TheVariants as vt
 use Rattle.fisca_inputs.specs.Entries.{Entries}
 use Rattle.fisca_inputs.specs.Rules.{Rule}
-use Rattle.fisca_inputs.specs.Seen.{value_seen}
+use Rattle.fisca_model.specs.Seen.{value_seen}
 use Rattle.fisca_inputs.specs.declared.given.Given.{Given}
-use Rattle.fisca_inputs.specs.declared.given.Value.{Value}
+use Rattle.fisca_model.specs.declared.value.Value.{Value}
 
 -- A value of just this type: for a number no bool serves. A member of an Enum is one that it has.
 abbrev pub is_just : Tables → ValueType → meaning.Value → Bool

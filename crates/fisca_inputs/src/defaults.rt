@@ -9,12 +9,12 @@ ghost use Rattle.fisca_inputs.specs.Outcomes.{Becomes};
 ghost use Rattle.fisca_inputs.specs.Rules as rules;
 
 use crate::fault::{SituationFault, SituationKind};
-use crate::given::{Given, Value};
+use crate::given::Given;
 use crate::hashed::Numbers;
 use crate::inputs::Inputs;
-use crate::key::Key;
 use crate::sharing::fault;
-use fisca_tables::{DefaultValue, Variable};
+use fisca_model::{Key, Value};
+use fisca_symbols::{DefaultValue, Variable};
 
 /// The line of the first given input of a variable; 0 where there is none.
 fn first_line(givens: &[Given], variable: usize) -> usize

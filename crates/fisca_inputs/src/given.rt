@@ -1,18 +1,7 @@
-//! Values, and inputs as they are given.
+//! Inputs as they are given.
 
-use fisca_num::Fraction;
+use fisca_model::Value;
 use fisca_time::Period;
-
-/// A value of a variable.
-#[derive(Clone, Copy, Debug, PartialEq, Eq)]
-pub enum Value {
-    /// A number.
-    Number(Fraction),
-    /// `True` or `False`.
-    Bool(bool),
-    /// The member at this place of the variable's Enum.
-    Member(usize),
-}
 
 /// An input as it is given, at most longer than the variable's definition period.
 #[derive(Clone, Copy, Debug, PartialEq, Eq)]

@@ -1,8 +1,8 @@
 //! What is found by the hashes of keys.
 
-use crate::key::Key;
 use crate::page::Page;
-use fisca_hashes::KeyHasher;
+use fisca_key_hash::KeyHasher;
+use fisca_model::Key;
 use indexmap::IndexMap;
 use std::hash::BuildHasherDefault;
 

@@ -10,10 +10,9 @@ ghost use Rattle.fisca_inputs.specs.Entries as spec;
 ghost use Rattle.fisca_inputs.specs.Outcomes.{Becomes};
 
 use crate::fault::{SituationFault, SituationKind};
-use crate::given::Value;
 use crate::hashed::Numbers;
-use crate::key::Key;
 use crate::table::{ROOM, Table};
+use fisca_model::{Key, Value};
 use std::alloc::{AllocError, Global};
 use std::hash::BuildHasherDefault;
 use std::marker::Model;

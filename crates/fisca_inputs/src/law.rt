@@ -8,11 +8,11 @@ ghost use Rattle.fisca_inputs.specs.Rules.{Rule, is_longer};
 ghost use Rattle.fisca_inputs.specs.Sharing.{all_shared, shared, parts_of};
 ghost use Rattle.fisca_inputs.specs.Totals.{AddUpTo, value_or_default};
 ghost use Rattle.fisca_inputs.specs.declared.given.Given.{Given};
-ghost use Rattle.fisca_inputs.specs.declared.given.Value.TheVariants as v;
-ghost use Rattle.fisca_inputs.specs.declared.key.Key.{Key};
-ghost use Rattle.fisca_meaning.specs.Questions.{fits};
+ghost use Rattle.fisca_model.specs.declared.value.Value.TheVariants as v;
+ghost use Rattle.fisca_model.specs.declared.key.Key.{Key};
+ghost use Rattle.fisca_model.specs.Periods.{fits};
 ghost use Rattle.fisca_num.specs.Number.{Number};
-ghost use Rattle.fisca_tables.specs.declared.variable.SetInput.TheVariants as sharing;
+ghost use Rattle.fisca_symbols.specs.declared.variable.SetInput.TheVariants as sharing;
 
 /// Law: where an input is divided over the parts of its period, what these had before and their shares add up to it. The sum is that of
 /// rationals: brought to any common denominator, the numerators add up.

@@ -8,7 +8,7 @@ ghost use Rattle.fisca_inputs.specs.Rules.{rule_of};
 ghost use Rattle.fisca_time.specs.Period.{start_of, unit_of};
 
 use crate::given::Given;
-use fisca_tables::Variable;
+use fisca_symbols::Variable;
 use fisca_time::{Instant, Period, Unit};
 use std::alloc::{AllocError, Global};
 use std::collections::BTreeMap;

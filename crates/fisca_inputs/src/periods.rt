@@ -2,20 +2,11 @@
 
 ghost use Rattle.std.specs.Prelude.{◌≡◌};
 ghost use Rattle.fisca_inputs.specs.Rules as spec;
-ghost use Rattle.fisca_meaning.specs.Questions as asking;
+ghost use Rattle.fisca_model.specs.Periods as asking;
 
-use fisca_tables::Variable;
+use fisca_model::fits;
+use fisca_symbols::Variable;
 use fisca_time::{Period, Unit};
-
-/// Whether a period is just one of this unit; of eternity each is.
-pub fn fits(unit: Unit, period: Period) -> bool
-    ensures { result ≡ asking.fits unit period }
-{
-    match unit {
-        Unit::Day | Unit::Month | Unit::Year => period.unit() == unit && period.size() == Some(1),
-        Unit::Eternity => true,
-    }
-}
 
 /// Whether a period has more than one of this unit in it.
 pub(crate) fn is_longer(unit: Unit, period: Period) -> bool

@@ -13,7 +13,7 @@ use crate::given::Given;
 use crate::inputs::{Inputs, LIMIT};
 use crate::order::{Rank, in_order};
 use crate::sharing::fault;
-use fisca_tables::Variable;
+use fisca_symbols::Variable;
 use std::alloc::Global;
 use std::collections::BTreeMap;
 

@@ -7,12 +7,12 @@ ghost use Rattle.fisca_inputs.specs.Rules.{rule_of};
 ghost use Rattle.fisca_inputs.specs.Sharing as spec;
 
 use crate::fault::{SituationFault, SituationKind};
-use crate::given::{Given, Value};
+use crate::given::Given;
 use crate::inputs::Inputs;
-use crate::key::Key;
-use crate::periods::{fits, key_period};
+use crate::periods::key_period;
+use fisca_model::{Key, Value, fits};
 use fisca_num::{Fraction, NumFault};
-use fisca_tables::{SetInput, Variable};
+use fisca_symbols::{SetInput, Variable};
 use fisca_time::Unit;
 
 /// The fault of this kind at a line.

@@ -7,12 +7,12 @@ ghost use Rattle.fisca_inputs.specs.Entries as spec;
 ghost use Rattle.fisca_inputs.specs.Anew.{set_keys};
 ghost use Rattle.fisca_inputs.specs.Inputs.{is_marked as is_marked_at, without_marked};
 ghost use Rattle.fisca_inputs.specs.Places.{AreNumbered, AreOccupied, AreOnce, StandsAt, number_of, page_key};
-ghost use Rattle.fisca_inputs.specs.declared.key.Key as declared;
+ghost use Rattle.fisca_model.specs.declared.key.Key as declared;
 
-use crate::given::Value;
 use crate::hashed::Pages;
-use crate::key::{Key, NOTES};
+use crate::marks::is_marked;
 use crate::page::Page;
+use fisca_model::{Key, NOTES, Value};
 use indexmap::IndexMap;
 use std::alloc::{AllocError, Global};
 use std::hash::BuildHasherDefault;
@@ -132,16 +132,6 @@ fn renumber_all(pages: &mut Pages, entries: &[(Key, Value)])
 {
     for (place, entry) in entries.iter().enumerate() {
         renumber(pages, &entry.0, place as u32 + 1);
-    }
-}
-
-/// Whether the variable at this place has a mark.
-fn is_marked(marks: &[bool], variable: usize) -> bool
-    ensures { result ≡ is_marked_at marks.now variable }
-{
-    match marks.get(variable) {
-        Some(mark) => *mark,
-        None => false,
     }
 }
 

@@ -1,11 +1,13 @@
 -- What a node says before k is what it means, and then k.
 use Rattle.std.proofs.Common.{◌≡◌, ℕ, ◌+◌, ◌*◌, List, [], ◌∷◌, Option, Some, None, Result, Ok, Err, true, false, refl, sym, ap, ap₂, ◌∙◌, slice_get}
 use Rattle.fisca_num.specs.Number.{Number}
-use Rattle.fisca_meaning.specs.Answers.{arithmetic_of, logic_of, comparison_of, same_of, negative_of, not_of}
-use Rattle.fisca_meaning.specs.Dialogues.{Value, Dialogue, number, bool, member, gives, fails, stuck, asks, ◌>>=◌, with_number, with_member}
-use Rattle.fisca_meaning.specs.Meaning.{mean, at_index, at_person, in_turn, from_first, total_over, chosen, local_at}
-use Rattle.fisca_meaning.specs.Meaning as meaning
-use Rattle.fisca_meaning.specs.Questions.{Groups, Point, at_start, in_range, on_start, moved_all, persons_at}
+use Rattle.fisca_formula_semantics.specs.Answers.{arithmetic_of, logic_of, comparison_of, same_of, negative_of, not_of}
+use Rattle.fisca_model.specs.Values.{Value, number, bool, member}
+use Rattle.fisca_key_semantics.specs.Dialogues.{Dialogue, gives, fails, stuck, asks, ◌>>=◌, with_number, with_member}
+use Rattle.fisca_formula_semantics.specs.Meaning.{mean, at_index, at_person, in_turn, from_first, total_over, chosen, local_at}
+use Rattle.fisca_formula_semantics.specs.Meaning as meaning
+use Rattle.fisca_model.specs.Groups.{Groups, Point, persons_at}
+use Rattle.fisca_formula_semantics.specs.Questions.{at_start, in_range, on_start, moved_all}
 use Rattle.fisca_time.specs.Instant.{CivilDate}
 use Rattle.fisca_time.specs.Period.{Span, start_of}
 use Rattle.fisca_time.specs.declared.fault.TimeFault.{TimeFault}
@@ -16,7 +18,7 @@ use Rattle.fisca_typing.specs.declared.operations.Total.{Total}
 use Rattle.fisca_typing.specs.declared.operations.Total.TheVariants as total
 use Rattle.fisca_typing.specs.Nodes as node
 use Rattle.fisca_typing.specs.Nodes.{Node, Indices, no_index, index}
-use Rattle.fisca_typing.specs.Tables.{Tables}
+use Rattle.fisca_model.specs.Tables.{Tables}
 use Rattle.fisca_machine.specs.Running.{After, Locals, says, chooses, turn_then, first_then, total_then}
 
 -- two ways to go on are alike where they are alike at each value

@@ -1,14 +1,14 @@
 -- What a node is whose operands stand behind a pointer.
 use Rattle.std.proofs.Common.{◌≡◌, rules, ap, ◌∙◌, Box, Global}
-use Rattle.fisca_expressions.specs.declared.tree.Comparison.{Comparison}
-use Rattle.fisca_nodes.specs.Views.{node}
-use Rattle.fisca_nodes.specs.declared.node.Ask.{Ask}
-use Rattle.fisca_nodes.specs.declared.node.Node.{Node, the_lemmas}
-use Rattle.fisca_nodes.specs.declared.node.Node.TheVariants as held
-use Rattle.fisca_nodes.specs.declared.node.Pair.{Pair}
-use Rattle.fisca_nodes.specs.declared.node.Parameter.{Parameter}
-use Rattle.fisca_nodes.specs.declared.node.ScaleSum.{ScaleSum}
-use Rattle.fisca_nodes.specs.declared.node.Totalled.{Totalled}
+use Rattle.fisca_ast.specs.declared.tree.Comparison.{Comparison}
+use Rattle.fisca_ir.specs.Views.{node}
+use Rattle.fisca_ir.specs.declared.node.Ask.{Ask}
+use Rattle.fisca_ir.specs.declared.node.Node.{Node, the_lemmas}
+use Rattle.fisca_ir.specs.declared.node.Node.TheVariants as held
+use Rattle.fisca_ir.specs.declared.node.Pair.{Pair}
+use Rattle.fisca_ir.specs.declared.node.Parameter.{Parameter}
+use Rattle.fisca_ir.specs.declared.node.ScaleSum.{ScaleSum}
+use Rattle.fisca_ir.specs.declared.node.Totalled.{Totalled}
 use Rattle.fisca_typing.specs.Nodes as spec
 use Rattle.fisca_typing.specs.declared.operations.Arithmetic.{Arithmetic}
 use Rattle.fisca_typing.specs.declared.operations.Logic.{Logic}

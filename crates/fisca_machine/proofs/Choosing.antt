@@ -1,9 +1,9 @@
 -- What a parameter in memory stands for, by its lists.
 use Rattle.std.proofs.Common.{rules, ◌≡◌, ◌≤◌, ◌<◌, ℕ, zero, suc, ◌+◌, false, List, [], ◌∷◌, length, Some, None, refl, sym, ap, ◌∙◌, arith, slice_get, slice_index_or}
-use Rattle.fisca_nodes.specs.Views.{node, index_view, indices}
-use Rattle.fisca_nodes.specs.declared.node.Index.{Index}
-use Rattle.fisca_nodes.specs.declared.node.Node.{Node}
-use Rattle.fisca_nodes.specs.declared.node.Parameter.{Parameter, out-Parameter, the_lemmas}
+use Rattle.fisca_ir.specs.Views.{node, index_view, indices}
+use Rattle.fisca_ir.specs.declared.node.Index.{Index}
+use Rattle.fisca_ir.specs.declared.node.Node.{Node}
+use Rattle.fisca_ir.specs.declared.node.Parameter.{Parameter, out-Parameter, the_lemmas}
 use Rattle.fisca_typing.specs.Nodes.{no_index, index}
 use Rattle.fisca_machine.specs.Plans.{is_alone}
 use Rattle.fisca_machine.specs.Running.{from, parametric}

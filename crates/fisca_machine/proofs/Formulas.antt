@@ -1,13 +1,13 @@
 -- A formula with its locals says what it means.
 use Rattle.std.proofs.Common.{◌≡◌, ℕ, zero, suc, List, [], ◌∷◌, ◌++◌, length, map, Option, Some, None, eq-eqb, ne_eqb, refl, sym, ap, ◌∙◌, ⊎_elim, slice_get}
 use Rattle.std.proofs.lemmas.Bool.{cases_eq}
-use Rattle.fisca_meaning.specs.Dialogues.{Dialogue, stuck, ◌>>=◌}
-use Rattle.fisca_meaning.specs.Meaning.{Locals, mean, mean_from, local_at}
-use Rattle.fisca_meaning.specs.Questions.{Groups, Point}
-use Rattle.fisca_nodes.specs.Views.{node}
-use Rattle.fisca_nodes.specs.declared.node.Node.{Node}
+use Rattle.fisca_key_semantics.specs.Dialogues.{Dialogue, stuck, ◌>>=◌}
+use Rattle.fisca_formula_semantics.specs.Meaning.{Locals, mean, mean_from, local_at}
+use Rattle.fisca_model.specs.Groups.{Groups, Point}
+use Rattle.fisca_ir.specs.Views.{node}
+use Rattle.fisca_ir.specs.declared.node.Node.{Node}
 use Rattle.fisca_typing.specs.Nodes as spec
-use Rattle.fisca_typing.specs.Tables.{Tables}
+use Rattle.fisca_model.specs.Tables.{Tables}
 use Rattle.fisca_machine.specs.Running.{After, says, says_below, says_or}
 use Rattle.fisca_machine.proofs.Binds.{says_on}
 

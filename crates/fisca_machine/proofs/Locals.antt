@@ -1,12 +1,12 @@
 -- What a local says: its node, over the locals before it.
 use Rattle.std.proofs.Common.{◌≡◌, ℕ, zero, suc, ◌<◌, ◌≤◌, List, Some, None, eq-eqb, ne_eqb, refl, sym, subst, arith, ⊎_elim, slice_get}
 use Rattle.std.proofs.lemmas.Bool.{cases_eq}
-use Rattle.fisca_meaning.specs.Dialogues.{stuck}
-use Rattle.fisca_meaning.specs.Questions.{Groups, Point}
-use Rattle.fisca_nodes.specs.Views.{node}
-use Rattle.fisca_nodes.specs.declared.node.Node.{Node}
-use Rattle.fisca_typing.specs.Tables.{Tables}
-use Rattle.fisca_values.specs.Ended.{IsMoving}
+use Rattle.fisca_key_semantics.specs.Dialogues.{stuck}
+use Rattle.fisca_model.specs.Groups.{Groups, Point}
+use Rattle.fisca_ir.specs.Views.{node}
+use Rattle.fisca_ir.specs.declared.node.Node.{Node}
+use Rattle.fisca_model.specs.Tables.{Tables}
+use Rattle.fisca_ops.specs.Ended.{IsMoving}
 use Rattle.fisca_machine.specs.declared.pending.Frame.{Frame}
 use Rattle.fisca_machine.specs.Running.{After, says, says_below, says_or}
 use Rattle.fisca_machine.specs.Weights.{weight, weight_below, weight_or}

@@ -1,12 +1,13 @@
 -- Steps that follow one another.
 use Rattle.std.proofs.Common.{◌≡◌, List, [], ◌∷◌, ◌++◌, Some, Bool, true, false, ◌&&◌, refl, sym, ap, ◌∙◌}
 use Rattle.std.specs.List.{list_all}
-use Rattle.fisca_meaning.specs.Answers.{arithmetic_of}
-use Rattle.fisca_meaning.specs.Dialogues.{bool, ◌>>=◌}
-use Rattle.fisca_meaning.specs.Questions.{Groups, Point}
+use Rattle.fisca_formula_semantics.specs.Answers.{arithmetic_of}
+use Rattle.fisca_model.specs.Values.{bool}
+use Rattle.fisca_key_semantics.specs.Dialogues.{◌>>=◌}
+use Rattle.fisca_model.specs.Groups.{Groups, Point}
 use Rattle.fisca_typing.specs.Nodes as node
 use Rattle.fisca_typing.specs.Nodes.{Node}
-use Rattle.fisca_typing.specs.Tables.{Tables}
+use Rattle.fisca_model.specs.Tables.{Tables}
 use Rattle.fisca_typing.specs.declared.operations.Arithmetic.{Arithmetic}
 use Rattle.fisca_machine.specs.declared.pending.Operation.TheVariants as operation
 use Rattle.fisca_machine.specs.declared.plan.Operand.{Operand}

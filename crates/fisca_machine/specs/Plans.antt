@@ -1,17 +1,18 @@
 -- What is made of known values and of the values of keys, one after another.
 use Rattle.std.specs.Prelude.{◌≡◌, ℕ, Bool, true, false, ◌&&◌, List, [], ◌∷◌, ◌++◌, Option, Some, None}
-use Rattle.fisca_inputs.specs.Seen.{key_seen, value_seen}
-use Rattle.fisca_meaning.specs.Dialogues.{Dialogue, Value, bool, gives, fails, stuck, asks, ◌>>=◌}
-use Rattle.fisca_meaning.specs.Questions.{Groups, Point}
+use Rattle.fisca_model.specs.Seen.{key_seen, value_seen}
+use Rattle.fisca_key_semantics.specs.Dialogues.{Dialogue, gives, fails, stuck, asks, ◌>>=◌}
+use Rattle.fisca_model.specs.Values.{Value, bool}
+use Rattle.fisca_model.specs.Groups.{Groups, Point}
 use Rattle.fisca_typing.specs.Nodes as node
 use Rattle.fisca_typing.specs.Nodes.{Node, Indices, no_index, index}
-use Rattle.fisca_typing.specs.Tables.{Tables}
+use Rattle.fisca_model.specs.Tables.{Tables}
 use Rattle.fisca_typing.specs.declared.asking.Asking.{Asking}
 use Rattle.fisca_typing.specs.declared.asking.Asking.TheVariants as asking
 use Rattle.fisca_typing.specs.declared.asking.Whom.{Whom}
 use Rattle.fisca_typing.specs.declared.asking.Whom.TheVariants as whom
-use Rattle.fisca_values.specs.Casts.{cast}
-use Rattle.fisca_values.specs.Ended.{fault_seen}
+use Rattle.fisca_ops.specs.Casts.{cast}
+use Rattle.fisca_ops.specs.Ended.{fault_seen}
 use Rattle.fisca_machine.specs.Running.{After, Locals, applied, says}
 use Rattle.fisca_machine.specs.declared.pending.Operation.{Operation}
 use Rattle.fisca_machine.specs.declared.plan.Operand.{Operand}

@@ -1,13 +1,15 @@
 -- What a machine has still to do, told with what comes after it.
 use Rattle.std.specs.Prelude.{◌≡◌, ℕ, zero, suc, ◌+◌, ◌*◌, ◌==◌, if◌then◌else◌, List, [], ◌∷◌, drop, slice_get, length, Option, Some, None}
-use Rattle.fisca_inputs.specs.Seen.{key_seen, value_seen}
-use Rattle.fisca_meaning.specs.Answers.{arithmetic_of, logic_of, comparison_of, same_of, negative_of, not_of}
-use Rattle.fisca_meaning.specs.Dialogues.{Value, Dialogue, number, bool, member, gives, fails, stuck, asks, ◌>>=◌, with_number, with_member, computed, no_member}
-use Rattle.fisca_meaning.specs.Meaning.{at_person, at_place, chosen, parameter_value, scale_value}
-use Rattle.fisca_meaning.specs.Questions.{Groups, Point, at_period, at_start, part_of, counted, has, persons_at, ask_all, ask_known}
-use Rattle.fisca_nodes.specs.Views.{node, node_step, index_step, pair_step, parameter_step, scale_step, totalled_step, Indexed, Paired, Parametric, Scaled, Summed}
-use Rattle.fisca_nodes.specs.declared.node.Node.{Node as Held}
-use Rattle.fisca_nodes.specs.declared.node.Parameter.{Parameter, fold-Parameter}
+use Rattle.fisca_model.specs.Seen.{key_seen, value_seen}
+use Rattle.fisca_formula_semantics.specs.Answers.{arithmetic_of, logic_of, comparison_of, same_of, negative_of, not_of}
+use Rattle.fisca_model.specs.Values.{Value, number, bool, member}
+use Rattle.fisca_key_semantics.specs.Dialogues.{Dialogue, gives, fails, stuck, asks, ◌>>=◌, with_number, with_member, computed, no_member}
+use Rattle.fisca_formula_semantics.specs.Meaning.{at_person, at_place, chosen, parameter_value, scale_value}
+use Rattle.fisca_model.specs.Groups.{Groups, Point, has, persons_at}
+use Rattle.fisca_formula_semantics.specs.Questions.{at_period, at_start, part_of, counted, ask_all, ask_known}
+use Rattle.fisca_ir.specs.Views.{node, node_step, index_step, pair_step, parameter_step, scale_step, totalled_step, Indexed, Paired, Parametric, Scaled, Summed}
+use Rattle.fisca_ir.specs.declared.node.Node.{Node as Held}
+use Rattle.fisca_ir.specs.declared.node.Parameter.{Parameter, fold-Parameter}
 use Rattle.fisca_num.specs.Number.{Number}
 use Rattle.fisca_num.specs.Operations.{sum_of}
 use Rattle.fisca_params.specs.Lookup.{value_in, sum_in}
@@ -16,13 +18,13 @@ use Rattle.fisca_time.specs.Instant.{CivilDate}
 use Rattle.fisca_time.specs.Period.{Span, subs}
 use Rattle.fisca_typing.specs.Nodes as node
 use Rattle.fisca_typing.specs.Nodes.{Node, Indices, no_index, index}
-use Rattle.fisca_typing.specs.Tables.{Tables}
+use Rattle.fisca_model.specs.Tables.{Tables}
 use Rattle.fisca_typing.specs.declared.operations.Total.{Total}
-use Rattle.fisca_values.specs.Casts.{cast}
-use Rattle.fisca_values.specs.Ended.{fault_seen}
-use Rattle.fisca_values.specs.Parts.{shared}
-use Rattle.fisca_values.specs.Persons.{persons_from}
-use Rattle.fisca_values.specs.Totals.{beginning, step_of}
+use Rattle.fisca_ops.specs.Casts.{cast}
+use Rattle.fisca_ops.specs.Ended.{fault_seen}
+use Rattle.fisca_ops.specs.Parts.{shared}
+use Rattle.fisca_ops.specs.Persons.{persons_from}
+use Rattle.fisca_ops.specs.Totals.{beginning, step_of}
 use Rattle.fisca_machine.specs.World.{tables, groups}
 use Rattle.fisca_machine.specs.declared.pending.At.{At}
 use Rattle.fisca_machine.specs.declared.pending.Frame.{Frame}

@@ -1,11 +1,11 @@
 -- How many steps are left at most until a machine answers.
 use Rattle.std.specs.Prelude.{ℕ, zero, suc, ◌+◌, ◌==◌, if◌then◌else◌, List, [], ◌∷◌, slice_get, Option, Some, None}
-use Rattle.fisca_meaning.specs.Questions.{Groups}
-use Rattle.fisca_nodes.specs.Views.{node}
-use Rattle.fisca_nodes.specs.declared.node.Node.{Node as Held}
+use Rattle.fisca_model.specs.Groups.{Groups}
+use Rattle.fisca_ir.specs.Views.{node}
+use Rattle.fisca_ir.specs.declared.node.Node.{Node as Held}
 use Rattle.fisca_typing.specs.Nodes as node
 use Rattle.fisca_typing.specs.Nodes.{Node, Indices, no_index, index}
-use Rattle.fisca_values.specs.Persons.{persons_from}
+use Rattle.fisca_ops.specs.Persons.{persons_from}
 use Rattle.fisca_machine.specs.Running.{behind, below_frame, from, parametric}
 use Rattle.fisca_machine.specs.World.{groups}
 use Rattle.fisca_machine.specs.declared.pending.At.{At}

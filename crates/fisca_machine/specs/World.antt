@@ -1,8 +1,8 @@
 -- What formulas are worked out over: the tables of a rule set, and how a situation groups its persons.
-use Rattle.fisca_rosters.specs.Grouped.{grouped}
-use Rattle.fisca_meaning.specs.Questions.{Groups}
-use Rattle.fisca_tables.specs.Known as known
-use Rattle.fisca_typing.specs.Tables.{Tables}
+use Rattle.fisca_groups.specs.Grouped.{grouped}
+use Rattle.fisca_model.specs.Groups.{Groups}
+use Rattle.fisca_symbols.specs.Known as known
+use Rattle.fisca_model.specs.Tables.{Tables}
 use Rattle.fisca_machine.specs.declared.world.World.{World}
 
 abbrev pub tables : World → Tables

@@ -1,8 +1,8 @@
 //! Values that are given to what is pending.
 
 ghost use Rattle.std.specs.Prelude.{◌≡◌, ◌∷◌, ◌<◌, ◌+◌, IfOk, IfErr, OnOk};
-ghost use Rattle.fisca_inputs.specs.Seen.{value_seen};
-ghost use Rattle.fisca_values.specs.Ended.{IsMoving};
+ghost use Rattle.fisca_model.specs.Seen.{value_seen};
+ghost use Rattle.fisca_ops.specs.Ended.{IsMoving};
 ghost use Rattle.fisca_machine.specs.Running.{rest, waiting, resume, Told, top, waits};
 ghost use Rattle.fisca_machine.specs.Weights.{load, stack_weight};
 
@@ -10,10 +10,10 @@ use crate::found::applied;
 use crate::machine::{Control, Machine, Step};
 use crate::pending::{At, Kept, Operation, Pending};
 use crate::world::World;
-use fisca_inputs::Value;
-use fisca_nodes::Node;
-use fisca_tables::DeclaredType;
-use fisca_values::{Share, cast, negative, opposite, share_of};
+use fisca_ir::Node;
+use fisca_model::Value;
+use fisca_ops::{Share, cast, negative, opposite, share_of};
+use fisca_symbols::DeclaredType;
 
 impl<'a> Machine<'a> {
     /// The value is the left operand.

@@ -1,12 +1,12 @@
 //! What nodes ask for.
 
 ghost use Rattle.std.specs.Prelude.{◌≡◌, ◌∷◌, ◌<◌, ◌+◌, IfOk, IfErr, OnOk, drop, slice_get, Some};
-ghost use Rattle.fisca_inputs.specs.Seen.{value_seen};
-ghost use Rattle.fisca_meaning.specs.Questions as questions;
-ghost use Rattle.fisca_meaning.specs.Dialogues.{computed, with_number};
+ghost use Rattle.fisca_model.specs.Seen.{value_seen};
+ghost use Rattle.fisca_formula_semantics.specs.Questions as questions;
+ghost use Rattle.fisca_key_semantics.specs.Dialogues.{computed, with_number};
 ghost use Rattle.fisca_num.specs.Operations.{sum_of};
 ghost use Rattle.fisca_time.specs.Period.{subs};
-ghost use Rattle.fisca_values.specs.Ended.{IsMoving};
+ghost use Rattle.fisca_ops.specs.Ended.{IsMoving};
 ghost use Rattle.fisca_machine.specs.Running.{before, rest, waiting, resume, Told, point, top, waits};
 ghost use Rattle.fisca_machine.specs.Weights.{load, stack_weight};
 ghost use Rattle.fisca_machine.specs.World.{tables, groups};
@@ -15,15 +15,15 @@ use crate::found::{type_of, variable_at};
 use crate::machine::{Control, Machine, Step};
 use crate::pending::{At, Kept, PartSum, Pending};
 use crate::world::World;
-use fisca_inputs::{Key, Value};
-use fisca_nodes::Ask;
+use fisca_ir::Ask;
+use fisca_model::{Key, RolePlace, Value, ValueType};
 use fisca_num::Fraction;
-use fisca_time::{Period, Unit};
-use fisca_typing::{Asking, RolePlace, ValueType, Whom};
-use fisca_values::{
+use fisca_ops::{
     Fault, default_by, fault_of, group_of, has_no_parts, moved_all, next_part, next_person,
     plain_key, year_part,
 };
+use fisca_time::{Period, Unit};
+use fisca_typing::{Asking, Whom};
 
 impl<'a> Machine<'a> {
     /// Goes on with the parts of a period from a place on.

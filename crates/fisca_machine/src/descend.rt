@@ -1,11 +1,11 @@
 //! Nodes that are begun.
 
 ghost use Rattle.std.specs.Prelude.{◌≡◌, ◌∷◌, ◌<◌, ◌+◌, IfOk, IfErr, OnOk, option_map, length};
-ghost use Rattle.fisca_meaning.specs.Meaning.{chosen};
-ghost use Rattle.fisca_meaning.specs.Questions.{counted as counts};
-ghost use Rattle.fisca_rosters.specs.Grouped.{grouped};
-ghost use Rattle.fisca_values.specs.Persons.{persons_from};
-ghost use Rattle.fisca_values.specs.Ended.{IsMoving, ended};
+ghost use Rattle.fisca_formula_semantics.specs.Meaning.{chosen};
+ghost use Rattle.fisca_formula_semantics.specs.Questions.{counted as counts};
+ghost use Rattle.fisca_groups.specs.Grouped.{grouped};
+ghost use Rattle.fisca_ops.specs.Persons.{persons_from};
+ghost use Rattle.fisca_ops.specs.Ended.{IsMoving, ended};
 ghost use Rattle.fisca_machine.specs.Running.{before, rest, waiting, resume, Told, saying, says_below, point, applied, top};
 ghost use Rattle.fisca_machine.specs.Weights.{load, stack_weight, weighing, weight_below};
 ghost use Rattle.fisca_machine.specs.World.{tables, groups};
@@ -14,11 +14,10 @@ use crate::found::{date_part, local_at};
 use crate::machine::{Control, Machine, Step};
 use crate::pending::{At, Operation, Pending};
 use crate::world::World;
-use fisca_inputs::Value;
+use fisca_ir::{Node, Pair};
 use fisca_members::Members;
-use fisca_nodes::{Node, Pair};
-use fisca_typing::RolePlace;
-use fisca_values::{Fault, count_of, counted, has, role_of};
+use fisca_model::{RolePlace, Value};
+use fisca_ops::{Fault, count_of, counted, has, role_of};
 
 /// The role that is wanted, where one is.
 fn role_wanted(role: &Option<Box<RolePlace>>) -> Option<RolePlace>

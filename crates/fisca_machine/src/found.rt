@@ -1,23 +1,23 @@
 //! What nodes name, looked up.
 
 ghost use Rattle.std.specs.Prelude.{◌≡◌, slice_get, None, Some, MatchOption};
-ghost use Rattle.fisca_meaning.specs.Questions.{at_start, part_of as part_of_day, counted as counts};
-ghost use Rattle.fisca_nodes.specs.Views.{node};
+ghost use Rattle.fisca_formula_semantics.specs.Questions.{at_start, part_of as part_of_day, counted as counts};
+ghost use Rattle.fisca_ir.specs.Views.{node};
 ghost use Rattle.fisca_typing.specs.Nodes.{no_index, index};
-ghost use Rattle.fisca_tables.specs.Known.{tables as known};
-ghost use Rattle.fisca_tables.specs.KnownVariables.{value_type, variable};
-ghost use Rattle.fisca_values.specs.Ended.{IsMoving, ended};
+ghost use Rattle.fisca_symbols.specs.Known.{tables as known};
+ghost use Rattle.fisca_symbols.specs.KnownVariables.{value_type, variable};
+ghost use Rattle.fisca_ops.specs.Ended.{IsMoving, ended};
 ghost use Rattle.fisca_machine.specs.Running.{applied as applies, from, parametric};
-ghost use Rattle.fisca_inputs.specs.Seen.{value_seen};
+ghost use Rattle.fisca_model.specs.Seen.{value_seen};
 
 use crate::pending::Operation;
-use fisca_inputs::Value;
-use fisca_nodes::{Node, Parameter};
+use fisca_ir::{Node, Parameter};
+use fisca_model::{Value, ValueType};
+use fisca_ops::{Fault, arithmetic, comparison, counted, logic, moved_all, part_of, same};
 use fisca_params::NodeId;
-use fisca_tables::{DeclaredType, Tables, Variable};
+use fisca_symbols::{DeclaredType, Tables, Variable};
 use fisca_time::Period;
-use fisca_typing::{DatePart, Move, ValueType};
-use fisca_values::{Fault, arithmetic, comparison, counted, logic, moved_all, part_of, same};
+use fisca_typing::{DatePart, Move};
 
 /// The type in formulas of values that are declared so; days and texts have none.
 pub(crate) fn type_of(declared: DeclaredType) -> Option<ValueType>

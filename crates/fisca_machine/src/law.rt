@@ -2,11 +2,11 @@
 
 ghost use Rattle.std.specs.List.{list_all};
 ghost use Rattle.std.specs.Prelude.{◌≡◌};
-ghost use Rattle.fisca_meaning.specs.Questions.{Groups, Point};
+ghost use Rattle.fisca_model.specs.Groups.{Groups, Point};
 ghost use Rattle.fisca_machine.specs.Plans.{has_plan, is_operand, operands};
 ghost use Rattle.fisca_machine.specs.Running.{Locals};
 ghost use Rattle.fisca_typing.specs.Nodes.{Node};
-ghost use Rattle.fisca_typing.specs.Tables.{Tables};
+ghost use Rattle.fisca_model.specs.Tables.{Tables};
 
 /// A formula has a plan exactly where each of its operands, from left to right, is known at once or is what a key asks for.
 pub fn plans_are_of_operands()

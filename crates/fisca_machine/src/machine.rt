@@ -1,11 +1,11 @@
 //! The machine.
 
 ghost use Rattle.std.specs.Prelude.{◌≡◌, ◌∷◌, ◌<◌, ◌+◌, [], IfOk, IfErr, OnOk, map};
-ghost use Rattle.fisca_inputs.specs.Seen.{value_seen};
-ghost use Rattle.fisca_meaning.specs.Meaning.{formula_means};
-ghost use Rattle.fisca_nodes.specs.Views.{node};
-ghost use Rattle.fisca_values.specs.Casts.{cast};
-ghost use Rattle.fisca_values.specs.Ended.{IsMoving};
+ghost use Rattle.fisca_model.specs.Seen.{value_seen};
+ghost use Rattle.fisca_formula_semantics.specs.Meaning.{formula_means};
+ghost use Rattle.fisca_ir.specs.Views.{node};
+ghost use Rattle.fisca_ops.specs.Casts.{cast};
+ghost use Rattle.fisca_ops.specs.Ended.{IsMoving};
 ghost use Rattle.fisca_machine.specs.Running.{before, rest, waiting, resume, Told};
 ghost use Rattle.fisca_machine.specs.Weights.{load};
 ghost use Rattle.fisca_machine.specs.World.{tables, groups};
@@ -13,11 +13,11 @@ ghost use Rattle.fisca_machine.specs.World.{tables, groups};
 use crate::pending::{At, Frame, Kept, Pending};
 use crate::stack::Stack;
 use crate::world::World;
-use fisca_inputs::{Key, Value};
-use fisca_nodes::Node;
-use fisca_tables::DeclaredType;
+use fisca_ir::Node;
+use fisca_model::{Key, Value};
+use fisca_ops::Fault;
+use fisca_symbols::DeclaredType;
 use fisca_time::Period;
-use fisca_values::Fault;
 use std::alloc::{AllocError, Global};
 
 /// What is done next: a node is worked out, or the machine's value is given to what is pending.

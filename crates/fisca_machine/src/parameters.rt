@@ -1,12 +1,12 @@
 //! Parameters and scales.
 
 ghost use Rattle.std.specs.Prelude.{◌≡◌, ◌∷◌, ◌<◌, ◌+◌, ◌*◌, MatchOption, ⊤, IfOk, IfErr, OnOk, drop};
-ghost use Rattle.fisca_inputs.specs.Seen.{value_seen};
-ghost use Rattle.fisca_meaning.specs.Meaning.{scale_value};
-ghost use Rattle.fisca_meaning.specs.Questions.{at_start};
+ghost use Rattle.fisca_model.specs.Seen.{value_seen};
+ghost use Rattle.fisca_formula_semantics.specs.Meaning.{scale_value};
+ghost use Rattle.fisca_formula_semantics.specs.Questions.{at_start};
 ghost use Rattle.fisca_params.specs.Lookup.{sum_in};
 ghost use Rattle.fisca_params.specs.Tree.{content_at};
-ghost use Rattle.fisca_values.specs.Ended.{IsMoving};
+ghost use Rattle.fisca_ops.specs.Ended.{IsMoving};
 ghost use Rattle.fisca_machine.specs.Running.{before, rest, waiting, resume, Told, saying, choosing, from, parametric, chosen_parameter, scale_by, top, waits};
 ghost use Rattle.fisca_machine.specs.Weights.{load, stack_weight, weighing, indices_weighing};
 ghost use Rattle.fisca_machine.specs.World.{tables};
@@ -15,11 +15,11 @@ use crate::found::{choice_at, place_at};
 use crate::machine::{Control, Machine, Step};
 use crate::pending::{At, Day, Kept, Pending};
 use crate::world::World;
-use fisca_inputs::Value;
-use fisca_nodes::{Parameter, ScaleSum};
+use fisca_ir::{Parameter, ScaleSum};
+use fisca_model::Value;
 use fisca_num::Fraction;
+use fisca_ops::{Fault, moved_all, parameter_at, scale_sum_at};
 use fisca_time::Instant;
-use fisca_values::{Fault, moved_all, parameter_at, scale_sum_at};
 
 /// Which parameter is chosen by one member more; none where the place has no number.
 fn chosen_behind(chosen: usize, size: usize, member: usize) -> Option<usize>

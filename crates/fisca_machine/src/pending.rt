@@ -1,13 +1,13 @@
 //! What is to be done with a value.
 
-use fisca_expressions::Comparison;
-use fisca_inputs::Value;
-use fisca_nodes::{Node, Parameter, ScaleSum, Totalled};
+use fisca_ast::Comparison;
+use fisca_ir::{Node, Parameter, ScaleSum, Totalled};
+use fisca_model::Value;
 use fisca_num::Fraction;
-use fisca_tables::DeclaredType;
+use fisca_ops::Share;
+use fisca_symbols::DeclaredType;
 use fisca_time::{Instant, Period, Unit};
 use fisca_typing::{Arithmetic, Logic, Total};
-use fisca_values::Share;
 
 /// For which person of the group a node is worked out, where for one, and how many locals it sees.
 #[derive(Clone, Copy, Debug, PartialEq, Eq)]

@@ -2,25 +2,25 @@
 
 ghost use Rattle.std.specs.Bool.{OnTrue};
 ghost use Rattle.std.specs.Prelude.{◌≡◌, [], ◌∷◌, List, None, false, map, is_some, IfOk, IfSome};
-ghost use Rattle.fisca_meaning.specs.Dialogues.{bool};
-ghost use Rattle.fisca_meaning.specs.Meaning.{formula_means};
-ghost use Rattle.fisca_meaning.specs.Questions.{Groups};
-ghost use Rattle.fisca_nodes.specs.Views.{node};
-ghost use Rattle.fisca_nodes.specs.declared.node.Node.{Node as Held};
-ghost use Rattle.fisca_tables.specs.Known.{tables as known};
+ghost use Rattle.fisca_model.specs.Values.{bool};
+ghost use Rattle.fisca_formula_semantics.specs.Meaning.{formula_means};
+ghost use Rattle.fisca_model.specs.Groups.{Groups};
+ghost use Rattle.fisca_ir.specs.Views.{node};
+ghost use Rattle.fisca_ir.specs.declared.node.Node.{Node as Held};
+ghost use Rattle.fisca_symbols.specs.Known.{tables as known};
 ghost use Rattle.fisca_machine.specs.Plans.{has_plan, is_alone, is_operand, plays, then_operand, then_steps};
 ghost use Rattle.fisca_machine.specs.Running.{After, Locals, before, parametric, point, says};
 ghost use Rattle.fisca_typing.specs.Nodes.{arithmetic, ask as asks_node, no_index, parameter};
-ghost use Rattle.fisca_values.specs.Casts.{cast};
+ghost use Rattle.fisca_ops.specs.Casts.{cast};
 
 use crate::found::{type_of, variable_at};
 use crate::pending::{Frame, Operation};
-use fisca_inputs::{Key, Value};
-use fisca_nodes::{Ask, Node, Parameter};
+use fisca_ir::{Ask, Node, Parameter};
+use fisca_model::{Key, Value};
+use fisca_ops::{moved_all, parameter_at, plain_key, start_at};
 use fisca_params::NodeId;
-use fisca_tables::{DeclaredType, Tables};
+use fisca_symbols::{DeclaredType, Tables};
 use fisca_typing::{Arithmetic, Asking, Whom};
-use fisca_values::{moved_all, parameter_at, plain_key, start_at};
 use std::alloc::{AllocError, Global};
 
 /// An operand.

@@ -1,17 +1,17 @@
 //! Plans that are played: step by step, until there is a value, none can be, or the value of a key is needed.
 
 ghost use Rattle.std.specs.Prelude.{◌≡◌, false};
-ghost use Rattle.fisca_inputs.specs.Seen.{value_seen};
-ghost use Rattle.fisca_meaning.specs.Dialogues.{bool};
-ghost use Rattle.fisca_values.specs.Ended.{IsMoving, ended};
+ghost use Rattle.fisca_model.specs.Seen.{value_seen};
+ghost use Rattle.fisca_model.specs.Values.{bool};
+ghost use Rattle.fisca_ops.specs.Ended.{IsMoving, ended};
 ghost use Rattle.fisca_machine.specs.Plans.{Stops, behind_operand, made as made_of, plays};
 
 use crate::found::applied;
 use crate::pending::Operation;
 use crate::plan::{Operand, Plan, PlanStep};
-use fisca_inputs::{Key, Value};
-use fisca_tables::DeclaredType;
-use fisca_values::{Fault, cast};
+use fisca_model::{Key, Value};
+use fisca_ops::{Fault, cast};
+use fisca_symbols::DeclaredType;
 
 /// Where a plan stops.
 #[derive(Clone, Copy)]

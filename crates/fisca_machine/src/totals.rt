@@ -1,10 +1,10 @@
 //! Totals over the persons of a group, one after another.
 
 ghost use Rattle.std.specs.Prelude.{◌≡◌, ◌∷◌, ◌<◌, ◌+◌, IfOk, IfErr, OnOk};
-ghost use Rattle.fisca_inputs.specs.Seen.{value_seen};
-ghost use Rattle.fisca_values.specs.Ended.{IsMoving};
-ghost use Rattle.fisca_values.specs.Persons.{persons_from};
-ghost use Rattle.fisca_values.specs.Totals.{step_of};
+ghost use Rattle.fisca_model.specs.Seen.{value_seen};
+ghost use Rattle.fisca_ops.specs.Ended.{IsMoving};
+ghost use Rattle.fisca_ops.specs.Persons.{persons_from};
+ghost use Rattle.fisca_ops.specs.Totals.{step_of};
 ghost use Rattle.fisca_machine.specs.Running.{rest, waiting, resume, Told, saying_for, turn_then, first_then, total_then, top, waits};
 ghost use Rattle.fisca_machine.specs.Weights.{load, stack_weight, weighing, persons_weight};
 ghost use Rattle.fisca_machine.specs.World.{groups};
@@ -12,11 +12,11 @@ ghost use Rattle.fisca_machine.specs.World.{groups};
 use crate::machine::{Control, Machine, Step};
 use crate::pending::{At, Kept, Pending};
 use crate::world::World;
-use fisca_inputs::Value;
-use fisca_nodes::Totalled;
+use fisca_ir::Totalled;
+use fisca_model::Value;
 use fisca_num::Fraction;
+use fisca_ops::{Fault, beginning, next_person, stepped};
 use fisca_typing::Total;
-use fisca_values::{Fault, beginning, next_person, stepped};
 
 impl<'a> Machine<'a> {
     /// Goes on with the persons from a place on.

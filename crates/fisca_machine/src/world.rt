@@ -1,7 +1,7 @@
 //! What formulas are worked out over.
 
 use fisca_members::Members;
-use fisca_tables::Tables;
+use fisca_symbols::Tables;
 
 /// What formulas are worked out over.
 #[derive(Clone, Copy)]

@@ -1,17 +1,17 @@
 -- The definition of a situation's members, worked out on small inputs.
 use Rattle.std.proofs.Common.{◌≡◌, ℕ, List, [], ◌∷◌, length, codes, refl}
 use Rattle.std.specs.Prelude.{true, false, Option, Some, None, Result, Ok}
-use Rattle.fisca_typing.specs.declared.asking.RolePlace.{RolePlace}
-use Rattle.fisca_typing.specs.Tables.{Entity, Role, subrole_of, whole_role}
+use Rattle.fisca_model.specs.declared.role_place.RolePlace.{RolePlace}
+use Rattle.fisca_model.specs.Tables.{Entity, Role, subrole_of, whole_role}
 use Rattle.fisca_yaml.specs.Flow.{flow_value, series}
 use Rattle.fisca_yaml.specs.Grouping.{document, block}
 use Rattle.fisca_yaml.specs.Node.{Node}
-use Rattle.fisca_members.specs.declared.fault.Kind.{Kind as FaultKind}
-use Rattle.fisca_members.specs.declared.fault.Kind.TheVariants as kind
+use Rattle.fisca_members.specs.declared.fault.MembersKind.{MembersKind as FaultKind}
+use Rattle.fisca_members.specs.declared.fault.MembersKind.TheVariants as kind
 use Rattle.fisca_members.specs.declared.fault.MembersFault.{MembersFault}
 use Rattle.fisca_members.specs.Faults.{fault_at}
-use Rattle.fisca_rosters.specs.declared.entity_members.EntityMembers.{EntityMembers}
-use Rattle.fisca_rosters.specs.declared.home.Home.{Home}
+use Rattle.fisca_groups.specs.declared.entity_members.EntityMembers.{EntityMembers}
+use Rattle.fisca_groups.specs.declared.home.Home.{Home}
 use Rattle.fisca_members.specs.declared.person.Person.{Person}
 use Rattle.fisca_members.specs.Groups.{with_group, with_own}
 use Rattle.fisca_members.specs.Members.{members_in, members_of}

@@ -3,11 +3,11 @@ use Rattle.std.specs.Prelude.{ℕ, Result, Ok, Err}
 use Rattle.std.specs.Option.{unwrap_or}
 use Rattle.fisca_yaml.specs.Find.{begins_on}
 use Rattle.fisca_yaml.specs.Node.{Node, null, scalar, list, map, Entries, no_entries}
-use Rattle.fisca_members.specs.declared.fault.Kind.{Kind}
-use Rattle.fisca_members.specs.declared.fault.Kind.TheVariants as kind
+use Rattle.fisca_members.specs.declared.fault.MembersKind.{MembersKind}
+use Rattle.fisca_members.specs.declared.fault.MembersKind.TheVariants as kind
 use Rattle.fisca_members.specs.declared.fault.MembersFault.{MembersFault}
 
-abbrev pub fault_at : {X : Type 0} → ℕ → Kind → Result X MembersFault
+abbrev pub fault_at : {X : Type 0} → ℕ → MembersKind → Result X MembersFault
 fault_at line k = Err (record { line = line; kind = k })
 
 -- what has a wrong shape is told of the line on which it begins; nothing, and a list or a map without any, of the line of its key

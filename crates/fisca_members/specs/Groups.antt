@@ -3,14 +3,14 @@ use Rattle.std.specs.Prelude.{ℕ, suc, List, [], ◌∷◌, ◌++◌, map as li
 use Rattle.std.specs.Option.{unwrap_or}
 use Rattle.std.specs.Str.{bytes_eq}
 use Rattle.fisca_params.specs.Results.{and_then}
-use Rattle.fisca_typing.specs.declared.asking.RolePlace.{RolePlace}
-use Rattle.fisca_typing.specs.Tables.{Role, most, place_in, subrole_of, whole_role}
+use Rattle.fisca_model.specs.declared.role_place.RolePlace.{RolePlace}
+use Rattle.fisca_model.specs.Tables.{Role, most, place_in, subrole_of, whole_role}
 use Rattle.fisca_yaml.specs.Node.{Node, null, scalar, list, map, Items, no_items, item, Entries, no_entries, entry}
-use Rattle.fisca_rosters.specs.Homes.{held_by, is_held}
-use Rattle.fisca_members.specs.declared.fault.Kind.TheVariants as kind
-use Rattle.fisca_rosters.specs.declared.entity_members.EntityMembers.{EntityMembers}
+use Rattle.fisca_groups.specs.Homes.{held_by, is_held}
+use Rattle.fisca_members.specs.declared.fault.MembersKind.TheVariants as kind
+use Rattle.fisca_groups.specs.declared.entity_members.EntityMembers.{EntityMembers}
 use Rattle.fisca_members.specs.declared.fault.MembersFault.{MembersFault}
-use Rattle.fisca_rosters.specs.declared.home.Home.{Home}
+use Rattle.fisca_groups.specs.declared.home.Home.{Home}
 use Rattle.fisca_members.specs.declared.person.Person.{Person}
 use Rattle.fisca_members.specs.Faults.{bad_value, entries_at, fault_at}
 use Rattle.fisca_members.specs.Persons.{person_named, room}

@@ -2,9 +2,9 @@
 -- are written, then groups of their own.
 use Rattle.std.specs.Prelude.{ℕ, suc, List, [], ◌∷◌, map, length, replicate, set, slice_get, if◌then◌else◌, Option, Some, None, Result, Ok}
 use Rattle.fisca_params.specs.Results.{and_then}
-use Rattle.fisca_typing.specs.Tables.{Entity}
+use Rattle.fisca_model.specs.Tables.{Entity}
 use Rattle.fisca_yaml.specs.Node.{Node}
-use Rattle.fisca_rosters.specs.declared.entity_members.EntityMembers.{EntityMembers}
+use Rattle.fisca_groups.specs.declared.entity_members.EntityMembers.{EntityMembers}
 use Rattle.fisca_members.specs.declared.fault.MembersFault.{MembersFault}
 use Rattle.fisca_members.specs.declared.person.Person.{Person}
 use Rattle.fisca_members.specs.Groups.{first_role, groups_of, own_from}

@@ -1,6 +1,6 @@
 -- What functions tell of members, where memory lasts.
 use Rattle.std.specs.Prelude.{◌≡◌, ◌≢◌, Result, Ok, Err}
-use Rattle.fisca_members.specs.declared.fault.Kind.TheVariants.{Memory}
+use Rattle.fisca_members.specs.declared.fault.MembersKind.TheVariants.{Memory}
 use Rattle.fisca_members.specs.declared.fault.MembersFault.{MembersFault}
 
 -- what this outcome says, seen in this way, or its fault; or else memory ran out, which is told of no line

@@ -3,9 +3,9 @@ use Rattle.std.specs.Prelude.{ℕ, List, [], ◌∷◌, ◌++◌, map as list_ma
 use Rattle.std.specs.List.{find}
 use Rattle.std.specs.Str.{bytes_eq}
 use Rattle.fisca_params.specs.Results.{and_then}
-use Rattle.fisca_typing.specs.Tables.{Entity, is_person, person_by, place_in}
+use Rattle.fisca_model.specs.Tables.{Entity, is_person, person_by, place_in}
 use Rattle.fisca_yaml.specs.Node.{Node, Entries, no_entries, entry}
-use Rattle.fisca_members.specs.declared.fault.Kind.TheVariants as kind
+use Rattle.fisca_members.specs.declared.fault.MembersKind.TheVariants as kind
 use Rattle.fisca_members.specs.declared.fault.MembersFault.{MembersFault}
 use Rattle.fisca_members.specs.declared.person.Person.{Person}
 use Rattle.fisca_members.specs.Faults.{entries_at, fault_at}

@@ -3,13 +3,15 @@ use Rattle.std.specs.Prelude.{ℕ, List, [], ◌∷◌, ◌++◌, map as list_ma
 use Rattle.std.specs.List.{list_any}
 use Rattle.std.specs.Str.{bytes_eq}
 use Rattle.fisca_params.specs.Results.{and_then}
-use Rattle.fisca_typing.specs.Tables.{Entity, otherwise, place_in}
+use Rattle.fisca_model.specs.Tables.{Entity, otherwise, place_in}
 use Rattle.fisca_yaml.specs.Node.{Node, null, scalar, list, map, Entries, no_entries, entry}
-use Rattle.fisca_members.specs.declared.fault.Kind.TheVariants as kind
+use Rattle.fisca_members.specs.declared.fault.MembersKind.TheVariants as kind
 use Rattle.fisca_members.specs.declared.fault.MembersFault.{MembersFault}
 use Rattle.fisca_members.specs.declared.section.Named.{Named}
+use Rattle.fisca_members.specs.declared.titles.Naming.TheVariants.{Plural, Key}
 use Rattle.fisca_members.specs.declared.titles.Titles.{Titles}
 use Rattle.fisca_members.specs.Faults.{bad_value, fault_at}
+use Rattle.fisca_members.specs.Naming.{name_by}
 
 -- what stands at a key that names an entity
 pub record Section : Type 0 where
@@ -31,7 +33,7 @@ only_of e = record { entity = e; is_plural = false }
 
 -- the names under which inputs speak of entities
 abbrev pub titles_of : List Entity → Titles
-titles_of es = record { plurals = list_map (λ e. e.plural) es; keys = list_map (λ e. e.key) es }
+titles_of es = record { plurals = list_map (name_by Plural) es; keys = list_map (name_by Key) es }
 
 -- the entity that a key names: by its plural, which stands for all its members, or by its key, which stands for the only one
 abbrev pub named : Titles → List ℕ → Option Named

@@ -1,6 +1,6 @@
 -- How definitions see what the code keeps of an input.
 use Rattle.std.specs.Prelude.{map}
-use Rattle.fisca_tables.specs.KnownRoles.{role}
+use Rattle.fisca_symbols.specs.KnownRoles.{role}
 use Rattle.fisca_yaml.specs.Views.{node}
 use Rattle.fisca_members.specs.declared.holders.Post.{Post}
 use Rattle.fisca_members.specs.declared.section.Input.{Input}

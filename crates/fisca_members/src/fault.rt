@@ -5,7 +5,7 @@ use thiserror::Error;
 
 /// What is wrong with the persons or groups of an input.
 #[derive(Clone, Copy, Debug, PartialEq, Eq, Hash, Error)]
-pub enum Kind {
+pub enum MembersKind {
     /// A key names no entity, or one that an earlier key names.
     #[error("UnknownEntity")]
     UnknownEntity,
@@ -37,33 +37,33 @@ pub struct MembersFault {
     /// The line.
     pub line: usize,
     /// What is wrong there.
-    pub kind: Kind,
+    pub kind: MembersKind,
 }
 
 impl From<AllocError> for MembersFault {
     ghost use Rattle.std.specs.Prelude.{◌≡◌};
-    ghost use Rattle.fisca_members.specs.declared.fault.Kind.TheVariants.{Memory};
+    ghost use Rattle.fisca_members.specs.declared.fault.MembersKind.TheVariants.{Memory};
 
     ghost from_gives = { λ _ f. (f.kind ≡ Memory) × (f.line ≡ 0) };
 
     fn from(_error: AllocError) -> MembersFault {
         MembersFault {
             line: 0,
-            kind: Kind::Memory,
+            kind: MembersKind::Memory,
         }
     }
 }
 
 impl<T: Drop> From<AllocFailed<T>> for MembersFault {
     ghost use Rattle.std.specs.Prelude.{◌≡◌};
-    ghost use Rattle.fisca_members.specs.declared.fault.Kind.TheVariants.{Memory};
+    ghost use Rattle.fisca_members.specs.declared.fault.MembersKind.TheVariants.{Memory};
 
     ghost from_gives = { λ _ f. (f.kind ≡ Memory) × (f.line ≡ 0) };
 
     fn from(_error: AllocFailed<T>) -> MembersFault {
         MembersFault {
             line: 0,
-            kind: Kind::Memory,
+            kind: MembersKind::Memory,
         }
     }
 }

@@ -1,7 +1,7 @@
 //! The groups of a section.
 
 ghost use Rattle.std.specs.Prelude.{◌≡◌, length};
-ghost use Rattle.fisca_tables.specs.KnownRoles.{roles as known_roles};
+ghost use Rattle.fisca_symbols.specs.KnownRoles.{roles as known_roles};
 ghost use Rattle.fisca_yaml.specs.Views.{node, entries_view};
 ghost use Rattle.fisca_members.specs.Groups as spec;
 ghost use Rattle.fisca_members.specs.Outcomes.{Leaves};
@@ -14,8 +14,8 @@ use crate::persons::room;
 use crate::role_table::RoleTable;
 use crate::section::Section;
 use crate::shapes::entries_at;
-use fisca_rosters::{EntityMembers, Homes};
-use fisca_tables::Role;
+use fisca_groups::{EntityMembers, Homes};
+use fisca_symbols::Role;
 use fisca_yaml::{Entry, Tree};
 use std::alloc::Global;
 

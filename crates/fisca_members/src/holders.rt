@@ -6,12 +6,12 @@ ghost use Rattle.fisca_members.specs.Groups as spec;
 ghost use Rattle.fisca_members.specs.Outcomes.{Leaves};
 ghost use Rattle.fisca_members.specs.Views.{post as post_view};
 
-use crate::fault::{Kind, MembersFault};
+use crate::fault::{MembersFault, MembersKind};
 use crate::person::Persons;
 use crate::role_table::taken;
 use crate::shapes::bad_value;
-use fisca_rosters::{Home, Homes};
-use fisca_tables::Role;
+use fisca_groups::{Home, Homes};
+use fisca_symbols::Role;
 use fisca_yaml::{Item, Tree};
 
 /// A role of a group that persons are given.
@@ -51,19 +51,19 @@ fn given_to(
     let Some(person) = person else {
         return Err(MembersFault {
             line,
-            kind: Kind::UnknownPerson,
+            kind: MembersKind::UnknownPerson,
         });
     };
     if homes.is_held(person) {
         return Err(MembersFault {
             line,
-            kind: Kind::PersonTwice,
+            kind: MembersKind::PersonTwice,
         });
     }
     if is_full(post.role.most(), count) {
         return Err(MembersFault {
             line,
-            kind: Kind::RoleFull,
+            kind: MembersKind::RoleFull,
         });
     }
     let role = taken(post.place, post.role, count);

@@ -15,11 +15,11 @@ mod sections;
 mod shapes;
 mod titles;
 
-pub use fault::{Kind, MembersFault};
-pub use fisca_rosters::{EntityMembers, Home, Homes, MemberNames};
+pub use fault::{MembersFault, MembersKind};
+pub use fisca_groups::{EntityMembers, Home, Homes, MemberNames};
 pub use members::{Members, members_in, members_of};
 pub use person::{Person, Persons};
 pub use role_table::RoleTable;
 pub use section::{Input, Named, Section};
 pub use sections::input_of;
-pub use titles::{Plurals, Singulars, Titles, titles_of};
+pub use titles::{EntityNames, Naming, Titles, titles_of};

@@ -1,10 +1,10 @@
 //! The members of all entities.
 
 ghost use Rattle.std.specs.Prelude.{◌≡◌, map, option_map, IfOk};
-ghost use Rattle.fisca_tables.specs.KnownEntities.{entity as known_one, entities as known};
+ghost use Rattle.fisca_symbols.specs.KnownEntities.{entity as known_one, entities as known};
 ghost use Rattle.fisca_yaml.specs.Views.{node};
-ghost use Rattle.fisca_rosters.specs.Grouped.{grouped};
-ghost use Rattle.fisca_rosters.specs.Lookup as lookup;
+ghost use Rattle.fisca_groups.specs.Grouped.{grouped};
+ghost use Rattle.fisca_groups.specs.Lookup as lookup;
 ghost use Rattle.fisca_members.specs.Members as spec;
 ghost use Rattle.fisca_members.specs.Outcomes.{Leaves, Tells};
 ghost use Rattle.fisca_members.specs.Persons.{names_of as all_names};
@@ -19,8 +19,8 @@ use crate::role_table::first_role;
 use crate::section::{Input, Section};
 use crate::sections::input_of;
 use crate::titles::titles_of;
-use fisca_rosters::{EntityMembers, Home, Homes, MemberNames, Rosters};
-use fisca_tables::Entity;
+use fisca_groups::{EntityMembers, Home, Homes, MemberNames, Rosters};
+use fisca_symbols::Entity;
 use fisca_yaml::Tree;
 use std::alloc::{AllocError, Global};
 use std::marker::Model;
@@ -33,7 +33,7 @@ struct Draft {
 
 impl Model for Draft {
     ghost use Rattle.std.specs.Prelude.{List};
-    ghost use Rattle.fisca_rosters.specs.declared.entity_members.EntityMembers.{EntityMembers};
+    ghost use Rattle.fisca_groups.specs.declared.entity_members.EntityMembers.{EntityMembers};
 
     ghost Value = { List EntityMembers };
 
@@ -49,8 +49,8 @@ pub struct Members {
 
 impl Model for Members {
     ghost use Rattle.std.specs.Prelude.{List};
-    ghost use Rattle.fisca_rosters.specs.Rosters.{AreRosters};
-    ghost use Rattle.fisca_rosters.specs.declared.entity_members.EntityMembers.{EntityMembers};
+    ghost use Rattle.fisca_groups.specs.Rosters.{AreRosters};
+    ghost use Rattle.fisca_groups.specs.declared.entity_members.EntityMembers.{EntityMembers};
 
     ghost Value = { List EntityMembers };
 
@@ -109,7 +109,7 @@ impl Members {
     }
 
     /// The persons of a group of an entity, in order; none where there is no such group.
-    #[tactic(auto, using(fisca_rosters::proofs::RosterLemmas::persons_at))]
+    #[tactic(auto, using(fisca_groups::proofs::RosterLemmas::persons_at))]
     pub fn persons(&self, entity: usize, group: u32) -> &[u32]
         ensures { result.now ≡ (grouped self.now).persons entity group }
     {

@@ -7,8 +7,8 @@ ghost use Rattle.fisca_members.specs.Outcomes.{Leaves};
 use crate::fault::MembersFault;
 use crate::person::Person;
 use crate::persons::room;
-use fisca_rosters::{EntityMembers, Home};
-use fisca_typing::RolePlace;
+use fisca_groups::{EntityMembers, Home};
+use fisca_model::RolePlace;
 use std::alloc::Global;
 
 /// The groups so far, and a person's own, in the first role and named as the person.

@@ -4,7 +4,7 @@ ghost use Rattle.std.specs.Prelude.{◌≡◌, ◌<◌, ◌≤◌, [], ◌∷◌
 ghost use Rattle.fisca_members.specs.Persons as spec;
 
 use crate::few::FEW;
-use fisca_tables::{Names, Text};
+use fisca_symbols::{Names, SourceText};
 use std::alloc::{AllocError, Global};
 use std::marker::Model;
 
@@ -12,7 +12,7 @@ use std::marker::Model;
 #[derive(Drop)]
 pub struct Person<'t> {
     /// The name.
-    pub name: Text<'t>,
+    pub name: SourceText<'t>,
     /// The line of the name.
     pub line: usize,
 }
@@ -58,7 +58,7 @@ fn table_of<'t>(
     ensures { IfOk result (λ o. IfSome o (λ n. n ≡ spec.names_of persons.now)) }
 {
     match names {
-        Some(names) => Ok(Some(names.with(alloc, Text::borrowed(name))?)),
+        Some(names) => Ok(Some(names.with(alloc, SourceText::borrowed(name))?)),
         None if persons.len() > FEW => Ok(Some(names_of(alloc, persons)?)),
         None => Ok(None),
     }
@@ -99,7 +99,7 @@ impl<'t> Persons<'t> {
     {
         let mut items = self.items;
         let person = Person {
-            name: Text::borrowed(name),
+            name: SourceText::borrowed(name),
             line,
         };
         items.push(person).map_err(AllocError::from)?;

@@ -2,18 +2,18 @@
 
 ghost use Rattle.std.specs.Prelude.{◌≡◌, ◌<◌, map, option_map, IfOk};
 ghost use Rattle.std.specs.List.{find};
-ghost use Rattle.fisca_tables.specs.KnownEntities.{entity as known_one, entities as known};
-ghost use Rattle.fisca_typing.specs.Tables.{is_person as is_person_in};
+ghost use Rattle.fisca_symbols.specs.KnownEntities.{entity as known_one, entities as known};
+ghost use Rattle.fisca_model.specs.Tables.{is_person as is_person_in};
 ghost use Rattle.fisca_yaml.specs.Views.{node, entries_view};
 ghost use Rattle.fisca_members.specs.Outcomes.{Tells};
 ghost use Rattle.fisca_members.specs.Persons as spec;
 ghost use Rattle.fisca_members.specs.Views.{section as section_view, input_view};
 
-use crate::fault::{Kind, MembersFault};
+use crate::fault::{MembersFault, MembersKind};
 use crate::person::Persons;
 use crate::section::{Input, Section};
 use crate::shapes::entries_at;
-use fisca_tables::Entity;
+use fisca_symbols::Entity;
 use fisca_yaml::{Entry, Tree};
 use std::alloc::Global;
 
@@ -30,7 +30,7 @@ pub(crate) fn room(line: usize, count: usize) -> Result<(), MembersFault>
     } else {
         Err(MembersFault {
             line,
-            kind: Kind::TooMany,
+            kind: MembersKind::TooMany,
         })
     }
 }
@@ -79,7 +79,7 @@ fn persons_of<'t>(alloc: Global, section: &Section<'t, '_>) -> Result<Persons<'t
     if persons.as_slice().is_empty() {
         return Err(MembersFault {
             line: section.line,
-            kind: Kind::UnknownPerson,
+            kind: MembersKind::UnknownPerson,
         });
     }
     Ok(persons)
@@ -124,11 +124,11 @@ fn entity_of_persons<'e, 'r>(entities: &'e [Entity<'r>]) -> Option<&'e Entity<'r
 
 /// No person at all.
 fn nobody(line: usize) -> MembersFault
-    ensures { result ≡ record { line = line; kind = Kind.UnknownPerson } }
+    ensures { result ≡ record { line = line; kind = MembersKind.UnknownPerson } }
 {
     MembersFault {
         line,
-        kind: Kind::UnknownPerson,
+        kind: MembersKind::UnknownPerson,
     }
 }
 

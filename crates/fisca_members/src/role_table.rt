@@ -1,12 +1,12 @@
 //! The roles of a group, by the names that inputs give them.
 
 ghost use Rattle.std.specs.Prelude.{◌≡◌, ◌<◌, map, length, option_map, slice_get, IfOk};
-ghost use Rattle.fisca_tables.specs.KnownRoles.{role as known_role, roles as known_roles};
+ghost use Rattle.fisca_symbols.specs.KnownRoles.{role as known_role, roles as known_roles};
 ghost use Rattle.fisca_members.specs.Groups as spec;
 
 use crate::few::FEW;
-use fisca_tables::{Names, Role, Text};
-use fisca_typing::RolePlace;
+use fisca_model::RolePlace;
+use fisca_symbols::{Names, Role, SourceText};
 use std::alloc::{AllocError, Global};
 use std::marker::Model;
 
@@ -20,8 +20,8 @@ pub struct RoleTable<'e, 'r> {
 
 impl<'e, 'r> Model for RoleTable<'e, 'r> {
     ghost use Rattle.std.specs.Prelude.{◌≡◌, List, IfSome};
-    ghost use Rattle.fisca_typing.specs.Tables.{Role};
-    ghost use Rattle.fisca_tables.specs.KnownRoles.{roles};
+    ghost use Rattle.fisca_model.specs.Tables.{Role};
+    ghost use Rattle.fisca_symbols.specs.KnownRoles.{roles};
     ghost use Rattle.fisca_members.specs.Groups.{role_titles};
 
     ghost Value = { List Role };
@@ -32,12 +32,12 @@ impl<'e, 'r> Model for RoleTable<'e, 'r> {
 }
 
 /// The name that inputs give a role: its plural, or its key if it has none.
-fn title<'e>(role: &'e Role<'_>) -> Text<'e>
+fn title<'e>(role: &'e Role<'_>) -> SourceText<'e>
     ensures { result ≡ spec.title (known_role role.now) }
 {
     match &role.plural {
-        Some(plural) => Text::borrowed(plural.as_bytes()),
-        None => Text::borrowed(role.key.as_bytes()),
+        Some(plural) => SourceText::borrowed(plural.as_bytes()),
+        None => SourceText::borrowed(role.key.as_bytes()),
     }
 }
 

@@ -6,7 +6,7 @@ ghost use Rattle.fisca_members.specs.Outcomes.{Tells};
 ghost use Rattle.fisca_members.specs.Sections as spec;
 ghost use Rattle.fisca_members.specs.Views.{section, input_view};
 
-use crate::fault::{Kind, MembersFault};
+use crate::fault::{MembersFault, MembersKind};
 use crate::section::{Input, Section};
 use crate::shapes::bad_value;
 use crate::titles::Titles;
@@ -55,7 +55,7 @@ fn section_of<'t, 'a>(
         }),
         _ => Err(MembersFault {
             line: entry.line,
-            kind: Kind::UnknownEntity,
+            kind: MembersKind::UnknownEntity,
         }),
     }
 }

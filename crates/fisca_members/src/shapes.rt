@@ -7,17 +7,17 @@ ghost use Rattle.fisca_yaml.specs.Views.{node, entries_view};
 ghost use Rattle.fisca_members.specs.Faults as spec;
 ghost use Rattle.fisca_members.specs.Outcomes.{Tells};
 
-use crate::fault::{Kind, MembersFault};
+use crate::fault::{MembersFault, MembersKind};
 use fisca_yaml::{Entry, Tree};
 
 /// What is wrong with a tree of another shape, whose key stands on `line`: the fault has the line on which it begins, and of
 /// nothing and of a list or a map without any that of its key.
 pub(crate) fn bad_value(line: usize, tree: &Tree<'_>) -> MembersFault
-    ensures { result ≡ record { line = unwrap_or (begins_on (node tree.now)) line; kind = Kind.BadValue } }
+    ensures { result ≡ record { line = unwrap_or (begins_on (node tree.now)) line; kind = MembersKind.BadValue } }
 {
     MembersFault {
         line: tree.line().unwrap_or(line),
-        kind: Kind::BadValue,
+        kind: MembersKind::BadValue,
     }
 }
 

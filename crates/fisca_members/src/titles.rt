@@ -2,119 +2,109 @@
 
 ghost use Rattle.std.specs.Prelude.{◌≡◌, map, IfOk};
 ghost use Rattle.std.specs.Str.{bytes_eq};
-ghost use Rattle.fisca_tables.specs.KnownEntities.{entities as known};
-ghost use Rattle.fisca_typing.specs.Tables.{place_in};
+ghost use Rattle.fisca_symbols.specs.KnownEntities.{entities as known, entity as known_entity};
+ghost use Rattle.fisca_model.specs.Tables.{place_in};
+ghost use Rattle.fisca_members.specs.Naming.{name_by};
 ghost use Rattle.fisca_members.specs.Sections as spec;
 
 use crate::few::FEW;
 use crate::section::Named;
-use fisca_tables::{Entity, Names, Text};
+use fisca_symbols::{Entity, Names, SourceText};
 use std::alloc::{AllocError, Global};
 use std::marker::Model;
 
-/// The names of all members of entities, in order, seen as a list. A few are looked through, more are found by a table.
+/// Which name of an entity is meant.
+#[derive(Clone, Copy)]
+pub enum Naming {
+    /// That of all its members.
+    Plural,
+    /// That of one of them.
+    Key,
+}
+
+/// The plurals of entities or their keys, in order, seen as a list. A few are looked through, more are found by a table.
 #[derive(Drop)]
-pub struct Plurals<'e, 'r> {
+pub struct EntityNames<'e, 'r> {
     items: &'e [Entity<'r>],
+    naming: Naming,
     names: Option<Names<'e>>,
 }
 
-impl<'e, 'r> Model for Plurals<'e, 'r> {
+impl<'e, 'r> Model for EntityNames<'e, 'r> {
     ghost use Rattle.std.specs.Prelude.{◌≡◌, ℕ, List, map, IfSome};
-    ghost use Rattle.fisca_tables.specs.KnownEntities.{entities};
+    ghost use Rattle.fisca_members.specs.Naming.{name_by};
+    ghost use Rattle.fisca_symbols.specs.KnownEntities.{entities};
 
     ghost Value = { List (List ℕ) };
 
-    ghost view = { λ p. map (λ e. e.plural) (entities p.items.now) };
+    ghost view = { λ n. map (name_by n.naming) (entities n.items.now) };
 
-    ghost invariant = { λ p. IfSome p.names (λ n. n ≡ map (λ e. e.plural) (entities p.items.now)) };
-}
-
-/// The names of one member of entities, in order, seen as a list. A few are looked through, more are found by a table.
-#[derive(Drop)]
-pub struct Singulars<'e, 'r> {
-    items: &'e [Entity<'r>],
-    names: Option<Names<'e>>,
-}
-
-impl<'e, 'r> Model for Singulars<'e, 'r> {
-    ghost use Rattle.std.specs.Prelude.{◌≡◌, ℕ, List, map, IfSome};
-    ghost use Rattle.fisca_tables.specs.KnownEntities.{entities};
-
-    ghost Value = { List (List ℕ) };
-
-    ghost view = { λ s. map (λ e. e.key) (entities s.items.now) };
-
-    ghost invariant = { λ s. IfSome s.names (λ n. n ≡ map (λ e. e.key) (entities s.items.now)) };
+    ghost invariant = { λ n. IfSome n.names (λ ns. ns ≡ map (name_by n.naming) (entities n.items.now)) };
 }
 
 /// The plurals and the keys of all entities, in order.
 #[derive(Drop)]
 pub struct Titles<'e, 'r> {
     /// The names of all members of an entity.
-    pub plurals: Plurals<'e, 'r>,
+    pub plurals: EntityNames<'e, 'r>,
     /// The names of one of them.
-    pub keys: Singulars<'e, 'r>,
+    pub keys: EntityNames<'e, 'r>,
 }
 
-/// The plurals of entities.
-fn plurals_of<'e>(alloc: Global, entities: &'e [Entity<'_>]) -> Result<Names<'e>, AllocError>
-    ensures { IfOk result (λ n. n ≡ map (λ e. e.plural) (known entities.now)) }
+/// A name of an entity.
+fn name_of<'e>(entity: &'e Entity<'_>, naming: Naming) -> &'e [u8]
+    ensures { result.now ≡ name_by naming (known_entity entity.now) }
+{
+    match naming {
+        Naming::Plural => entity.plural.as_bytes(),
+        Naming::Key => entity.key.as_bytes(),
+    }
+}
+
+/// The names of entities.
+fn names_of<'e>(
+    alloc: Global,
+    entities: &'e [Entity<'_>],
+    naming: Naming,
+) -> Result<Names<'e>, AllocError>
+    ensures { IfOk result (λ n. n ≡ map (name_by naming) (known entities.now)) }
 {
     let mut names = Names::new(alloc);
     for entity in entities {
-        names = names.with(alloc, Text::borrowed(entity.plural.as_bytes()))?;
+        names = names.with(alloc, SourceText::borrowed(name_of(entity, naming)))?;
     }
     Ok(names)
 }
 
-/// The keys of entities.
-fn keys_of<'e>(alloc: Global, entities: &'e [Entity<'_>]) -> Result<Names<'e>, AllocError>
-    ensures { IfOk result (λ n. n ≡ map (λ e. e.key) (known entities.now)) }
-{
-    let mut names = Names::new(alloc);
-    for entity in entities {
-        names = names.with(alloc, Text::borrowed(entity.key.as_bytes()))?;
-    }
-    Ok(names)
-}
-
-/// The place of the first entity of this plural.
-fn plural_among(entities: &[Entity<'_>], key: &[u8]) -> Option<usize>
-    ensures { result ≡ place_in (λ k. bytes_eq k key.now) (map (λ e. e.plural) (known entities.now)) }
+/// The place of the first entity of this name.
+fn place_among(entities: &[Entity<'_>], naming: Naming, name: &[u8]) -> Option<usize>
+    ensures { result ≡ place_in (λ k. bytes_eq k name.now) (map (name_by naming) (known entities.now)) }
 {
     for (place, entity) in entities.iter().enumerate() {
-        if entity.plural.as_bytes() == key {
+        if name_of(entity, naming) == name {
             return Some(place);
         }
     }
     None
 }
 
-/// The place of the first entity of this key.
-fn key_among(entities: &[Entity<'_>], key: &[u8]) -> Option<usize>
-    ensures { result ≡ place_in (λ k. bytes_eq k key.now) (map (λ e. e.key) (known entities.now)) }
-{
-    for (place, entity) in entities.iter().enumerate() {
-        if entity.key.as_bytes() == key {
-            return Some(place);
-        }
-    }
-    None
-}
-
-impl<'e, 'r> Plurals<'e, 'r> {
+impl<'e, 'r> EntityNames<'e, 'r> {
     /// Those of these entities.
-    fn of(alloc: Global, entities: &'e [Entity<'r>]) -> Result<Plurals<'e, 'r>, AllocError>
-        ensures { IfOk result (λ p. p ≡ map (λ e. e.plural) (known entities.now)) }
+    fn of(
+        alloc: Global,
+        entities: &'e [Entity<'r>],
+        naming: Naming,
+    ) -> Result<EntityNames<'e, 'r>, AllocError>
+        ensures { IfOk result (λ n. n ≡ map (name_by naming) (known entities.now)) }
     {
         let names = if entities.len() > FEW {
-            Some(plurals_of(alloc, entities)?)
+            Some(names_of(alloc, entities, naming)?)
         } else {
             None
         };
-        Ok(Plurals {
+        Ok(EntityNames {
             items: entities,
+            naming,
             names,
         })
     }
@@ -125,34 +115,7 @@ impl<'e, 'r> Plurals<'e, 'r> {
     {
         match &self.names {
             Some(names) => names.place_of(name),
-            None => plural_among(self.items, name),
-        }
-    }
-}
-
-impl<'e, 'r> Singulars<'e, 'r> {
-    /// Those of these entities.
-    fn of(alloc: Global, entities: &'e [Entity<'r>]) -> Result<Singulars<'e, 'r>, AllocError>
-        ensures { IfOk result (λ s. s ≡ map (λ e. e.key) (known entities.now)) }
-    {
-        let names = if entities.len() > FEW {
-            Some(keys_of(alloc, entities)?)
-        } else {
-            None
-        };
-        Ok(Singulars {
-            items: entities,
-            names,
-        })
-    }
-
-    /// The first place of a name.
-    fn place_of(&self, name: &[u8]) -> Option<usize>
-        ensures { result ≡ place_in (λ k. bytes_eq k name.now) self.now }
-    {
-        match &self.names {
-            Some(names) => names.place_of(name),
-            None => key_among(self.items, name),
+            None => place_among(self.items, self.naming, name),
         }
     }
 }
@@ -165,8 +128,8 @@ pub fn titles_of<'e, 'r>(
     ensures { IfOk result (λ t. t ≡ spec.titles_of (known entities.now)) }
 {
     Ok(Titles {
-        plurals: Plurals::of(alloc, entities)?,
-        keys: Singulars::of(alloc, entities)?,
+        plurals: EntityNames::of(alloc, entities, Naming::Plural)?,
+        keys: EntityNames::of(alloc, entities, Naming::Key)?,
     })
 }
 

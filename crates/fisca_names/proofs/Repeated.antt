@@ -4,7 +4,7 @@ use Rattle.std.specs.Str.{bytes_eq}
 use Rattle.fisca_names.proofs.Some.{one_more, or_none}
 use Rattle.fisca_names.specs.Clashes.{among, is_order, repeated_member}
 use Rattle.fisca_names.specs.Titles.{Adds}
-use Rattle.fisca_syntax.specs.declared.module.Member.{Member}
+use Rattle.fisca_ast.specs.declared.module.Member.{Member}
 
 -- these names came before, and the rest decides
 pub record Reached (has : List ℕ → Bool) (whole : Option ℕ) (rest : List Member) : Type 0 where

@@ -3,12 +3,12 @@ use Rattle.std.specs.Prelude.{ℕ, List, [], ◌∷◌, ◌++◌, map, Bool, fal
 use Rattle.std.specs.List.{list_any}
 use Rattle.std.specs.Result.{result_ok}
 use Rattle.std.specs.Str.{bytes_eq}
-use Rattle.fisca_syntax.specs.declared.module.Member.{Member}
-use Rattle.fisca_syntax.specs.Modules.{Assigned, Item, Statement, entity, entities, choices, variable}
-use Rattle.fisca_tokens.specs.declared.fault.Kind.{Kind}
-use Rattle.fisca_typing.specs.Tables.{capitals}
-use Rattle.fisca_tables.specs.declared.entity.Entity.{Entity}
-use Rattle.fisca_tables.specs.declared.role.Role.{Role}
+use Rattle.fisca_ast.specs.declared.module.Member.{Member}
+use Rattle.fisca_ast.specs.Modules.{Assigned, Item, Statement, entity, entities, choices, variable}
+use Rattle.fisca_ast.specs.declared.fault.FormulaKind.{FormulaKind}
+use Rattle.fisca_model.specs.Tables.{capitals}
+use Rattle.fisca_symbols.specs.declared.entity.Entity.{Entity}
+use Rattle.fisca_symbols.specs.declared.role.Role.{Role}
 use Rattle.fisca_attributes.specs.EntityForms.{entity_of}
 use Rattle.fisca_attributes.specs.Values.{name_value, needed}
 use Rattle.fisca_attributes.specs.AttributeForms.{value_at}
@@ -32,7 +32,7 @@ repeat (t ∷ ts) = among ts t || repeat ts
 -- Names of the whole rule set: those of variables and Enums, and constants, keys and plurals of entities. What declares an entity and
 -- cannot be read gives its constant alone.
 
-abbrev pub names_in : Result Entity Kind → List (List ℕ)
+abbrev pub names_in : Result Entity FormulaKind → List (List ℕ)
 names_in (Ok e) = e.key ∷ e.plural ∷ []
 names_in (Err k) = []
 
@@ -66,7 +66,7 @@ abbrev pub titles_clash : List Titled → Bool
 titles_clash [] = false
 titles_clash (t ∷ ts) = list_any (are_confused t) ts || titles_clash ts
 
-abbrev pub roles_in : Result Entity Kind → List Role
+abbrev pub roles_in : Result Entity FormulaKind → List Role
 roles_in (Ok e) = e.roles
 roles_in (Err k) = []
 

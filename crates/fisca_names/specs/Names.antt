@@ -1,9 +1,9 @@
 -- The statements of a rule set, and the first pass over them: no name comes a second time.
 use Rattle.std.specs.Prelude.{ℕ, suc, List, [], ◌∷◌, ◌++◌, map, Option, Some, None, Result, Ok, Err}
 use Rattle.fisca_params.specs.Results.{and_then}
-use Rattle.fisca_syntax.specs.Modules.{Statement}
-use Rattle.fisca_tokens.specs.declared.fault.Kind.{Kind}
-use Rattle.fisca_tokens.specs.declared.fault.Kind.TheVariants as kind
+use Rattle.fisca_ast.specs.Modules.{Statement}
+use Rattle.fisca_ast.specs.declared.fault.FormulaKind.{FormulaKind}
+use Rattle.fisca_ast.specs.declared.fault.FormulaKind.TheVariants as kind
 use Rattle.fisca_names.specs.Clashes.{second_name}
 use Rattle.fisca_names.specs.declared.fault.BuildFault.{BuildFault}
 
@@ -19,11 +19,11 @@ abbrev pub placed_from : ℕ → List (List Statement) → List Placed
 placed_from place [] = []
 placed_from place (ss ∷ more) = placed_in place ss ++ placed_from (suc place) more
 
-abbrev pub fault_at : {X : Type 0} → ℕ → ℕ → Kind → Result X BuildFault
+abbrev pub fault_at : {X : Type 0} → ℕ → ℕ → FormulaKind → Result X BuildFault
 fault_at place line k = Err (record { «module» = place; line = line; kind = k })
 
 -- a fault told of this line of a module
-abbrev pub told_at : {X : Type 0} → ℕ → ℕ → Result X Kind → Result X BuildFault
+abbrev pub told_at : {X : Type 0} → ℕ → ℕ → Result X FormulaKind → Result X BuildFault
 told_at place line (Ok x) = Ok x
 told_at place line (Err k) = fault_at place line k
 

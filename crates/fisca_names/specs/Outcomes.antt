@@ -1,6 +1,6 @@
 -- What functions tell of a rule set, where memory lasts.
 use Rattle.std.specs.Prelude.{◌≡◌, ◌≢◌, Result, Ok, Err}
-use Rattle.fisca_tokens.specs.declared.fault.Kind.TheVariants.{Memory}
+use Rattle.fisca_ast.specs.declared.fault.FormulaKind.TheVariants.{Memory}
 use Rattle.fisca_names.specs.declared.fault.BuildFault.{BuildFault}
 
 -- what this outcome says, seen in this way, or its fault; or else memory ran out

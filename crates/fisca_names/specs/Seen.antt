@@ -7,8 +7,8 @@ use Rattle.indexmap.specs.IndexSet.{contains}
 use Rattle.fisca_attributes.specs.AttributeForms.{value_at}
 use Rattle.fisca_attributes.specs.EntityForms.{entity_of}
 use Rattle.fisca_attributes.specs.Values.{name_value, needed}
-use Rattle.fisca_syntax.specs.Modules.{Item, Statement, entity, entities, choices, variable}
-use Rattle.fisca_tables.specs.declared.role.Role.{Role}
+use Rattle.fisca_ast.specs.Modules.{Item, Statement, entity, entities, choices, variable}
+use Rattle.fisca_symbols.specs.declared.role.Role.{Role}
 use Rattle.fisca_names.specs.Clashes.{among, bears, clashes, is_of, listed, names_of, repeat, roles_in, second_name}
 use Rattle.fisca_names.specs.Titles.{Adds}
 use Rattle.fisca_names.specs.declared.seen.Seen.{Seen}

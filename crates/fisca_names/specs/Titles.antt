@@ -3,8 +3,8 @@ use Rattle.std.specs.Prelude.{◌≡◌, ℕ, List, [], ◌∷◌, ◌++◌, map
 use Rattle.std.specs.List.{list_any}
 use Rattle.std.specs.Str.{bytes_eq}
 use Rattle.indexmap.specs.IndexSet.{contains}
-use Rattle.fisca_tables.specs.declared.role.Role.{Role}
-use Rattle.fisca_typing.specs.Tables.{capitals}
+use Rattle.fisca_symbols.specs.declared.role.Role.{Role}
+use Rattle.fisca_model.specs.Tables.{capitals}
 use Rattle.fisca_names.specs.Clashes.{Titled, among, are_confused, texts_of}
 use Rattle.fisca_names.specs.declared.titles.Titles.{Titles}
 

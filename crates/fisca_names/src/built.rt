@@ -4,19 +4,18 @@ ghost use Rattle.std.specs.Prelude.{◌≡◌, IfOk};
 ghost use Rattle.fisca_attributes.specs.EntityForms.{entity_of as entity_in};
 ghost use Rattle.fisca_names.specs.Clashes.{names_in, roles_in};
 ghost use Rattle.fisca_names.specs.Seen.{both};
-ghost use Rattle.fisca_syntax.specs.Views.{assigned};
+ghost use Rattle.fisca_ast.specs.ModuleViews.{assigned};
 
+use fisca_ast::{Assignment, FormulaKind};
 use fisca_attributes::entity_of;
-use fisca_syntax::Assignment;
-use fisca_tables::{Entity, Roles, Text};
-use fisca_tokens::Kind;
+use fisca_symbols::{Entity, Roles, SourceText};
 use std::alloc::{AllocError, Global};
 
 /// The names and the roles of an entity: none where it can't be read.
 #[derive(Drop)]
 pub(crate) struct Built<'a> {
     /// The key and the plural.
-    pub(crate) names: Option<(Text<'a>, Text<'a>)>,
+    pub(crate) names: Option<(SourceText<'a>, SourceText<'a>)>,
     /// The roles.
     pub(crate) roles: Roles<'a>,
 }
@@ -41,7 +40,7 @@ pub(crate) fn built_by<'a>(alloc: Global, written: &Assignment<'a>) -> Result<Bu
             names: Some((key, plural)),
             roles,
         }),
-        Err(Kind::Memory) => Err(AllocError),
+        Err(FormulaKind::Memory) => Err(AllocError),
         Err(_) => Ok(Built {
             names: None,
             roles: Roles::new(alloc, Vec::new(alloc))?,

@@ -1,6 +1,6 @@
 //! Why a rule set is refused.
 
-use fisca_tokens::Kind;
+use fisca_ast::FormulaKind;
 use std::alloc::{AllocError, AllocFailed};
 use thiserror::Error;
 
@@ -14,12 +14,12 @@ pub struct BuildFault {
     /// The line of the statement that has the fault.
     pub line: usize,
     /// What the fault is, by the number of its kind.
-    pub kind: Kind,
+    pub kind: FormulaKind,
 }
 
 impl From<AllocError> for BuildFault {
     ghost use Rattle.std.specs.Prelude.{◌≡◌};
-    ghost use Rattle.fisca_tokens.specs.declared.fault.Kind.TheVariants.{Memory};
+    ghost use Rattle.fisca_ast.specs.declared.fault.FormulaKind.TheVariants.{Memory};
 
     ghost from_gives = { λ _ f. f.kind ≡ Memory };
 
@@ -27,14 +27,14 @@ impl From<AllocError> for BuildFault {
         BuildFault {
             module: 0,
             line: 0,
-            kind: Kind::Memory,
+            kind: FormulaKind::Memory,
         }
     }
 }
 
 impl<T: Drop> From<AllocFailed<T>> for BuildFault {
     ghost use Rattle.std.specs.Prelude.{◌≡◌};
-    ghost use Rattle.fisca_tokens.specs.declared.fault.Kind.TheVariants.{Memory};
+    ghost use Rattle.fisca_ast.specs.declared.fault.FormulaKind.TheVariants.{Memory};
 
     ghost from_gives = { λ _ f. f.kind ≡ Memory };
 
@@ -42,7 +42,7 @@ impl<T: Drop> From<AllocFailed<T>> for BuildFault {
         BuildFault {
             module: 0,
             line: 0,
-            kind: Kind::Memory,
+            kind: FormulaKind::Memory,
         }
     }
 }

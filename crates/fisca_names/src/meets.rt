@@ -6,7 +6,7 @@ ghost use Rattle.indexmap.specs.IndexSet.{contains};
 
 use crate::noted::note_within;
 use crate::within::Within;
-use fisca_tables::{Role, Text};
+use fisca_symbols::{Role, SourceText};
 use indexmap::IndexSet;
 use std::alloc::{AllocError, Global};
 
@@ -16,13 +16,13 @@ fn title_is_variable<'a>(
     titles: &mut IndexSet<Within<'a>>,
     variables: &IndexSet<Within<'a>>,
     constant: &'a [u8],
-    title: &Text<'a>,
+    title: &SourceText<'a>,
 ) -> Result<bool, AllocError>
     ensures { IfOk result (NotesTitles (contains same_within variables.now)
         (contains same_within titles.old) (contains same_within titles.new) (within_all constant.now (title.now ∷ []))) }
 {
     let within = Within {
-        constant: Text::borrowed(constant),
+        constant: SourceText::borrowed(constant),
         name: title.copied(alloc)?,
     };
     if variables.contains(&within) {

@@ -4,8 +4,8 @@ ghost use Rattle.std.specs.Prelude.{◌≡◌, [], IfOk};
 ghost use Rattle.fisca_names.specs.Clashes.{repeated_member as first_repeated};
 
 use crate::noted::comes_again;
-use fisca_syntax::Member;
-use fisca_tables::Text;
+use fisca_ast::Member;
+use fisca_symbols::SourceText;
 use indexmap::IndexSet;
 use std::alloc::{AllocError, Global};
 
@@ -22,7 +22,7 @@ pub(crate) fn repeated_member(
         if name == b"__order__".as_slice() {
             continue;
         }
-        if comes_again(&mut names, Text::borrowed(name))? {
+        if comes_again(&mut names, SourceText::borrowed(name))? {
             return Ok(Some(member.line));
         }
     }

@@ -7,14 +7,14 @@ ghost use Rattle.fisca_names.specs.Titles.{Adds};
 ghost use Rattle.indexmap.specs.IndexSet.{contains};
 
 use crate::within::Within;
-use fisca_tables::Text;
+use fisca_symbols::SourceText;
 use indexmap::IndexSet;
 use std::alloc::AllocError;
 
 /// Notes a name, and says whether it came before.
 pub(crate) fn comes_again<'a>(
-    names: &mut IndexSet<Text<'a>>,
-    name: Text<'a>,
+    names: &mut IndexSet<SourceText<'a>>,
+    name: SourceText<'a>,
 ) -> Result<bool, AllocError>
     ensures told { IfOk result (λ again. again ≡ contains bytes_eq names.old name.entry) }
     ensures noted { OnOk result (Adds bytes_eq (contains bytes_eq names.old) (contains bytes_eq names.new) (name.entry ∷ [])) }
@@ -25,9 +25,9 @@ pub(crate) fn comes_again<'a>(
 
 /// Notes the constant, the key and the plural of an entity, and says whether one of them came before or stands twice.
 pub(crate) fn entity_comes_again<'a>(
-    names: &mut IndexSet<Text<'a>>,
-    constant: Text<'a>,
-    others: Option<(Text<'a>, Text<'a>)>,
+    names: &mut IndexSet<SourceText<'a>>,
+    constant: SourceText<'a>,
+    others: Option<(SourceText<'a>, SourceText<'a>)>,
 ) -> Result<bool, AllocError>
     ensures { IfOk result (NotesNames (contains bytes_eq names.old) (contains bytes_eq names.new) (constant.entry ∷ both others.entry)) }
 {

@@ -2,8 +2,8 @@
 
 ghost use Rattle.std.specs.Prelude.{◌≡◌, [], ◌∷◌, map, Some, None, IfOk, if◌then◌else◌};
 ghost use Rattle.fisca_names.specs.Seen.{Holds, Notes, TellsOne, entity_named as entity_named_in};
-ghost use Rattle.fisca_syntax.specs.Modules.{choices, entity, variable};
-ghost use Rattle.fisca_syntax.specs.Views.{assigned, item, statement as statement_view};
+ghost use Rattle.fisca_ast.specs.Modules.{choices, entity, variable};
+ghost use Rattle.fisca_ast.specs.ModuleViews.{assigned, item, statement as statement_view};
 
 use crate::built::{Built, built_by};
 use crate::meets::some_is_variable;
@@ -11,9 +11,9 @@ use crate::members::repeated_member;
 use crate::noted::{comes_again, entity_comes_again, note_within};
 use crate::titles::are_confused;
 use crate::within::Within;
+use fisca_ast::{Assignment, ClassLine, EnumClass, Statement, VariableClass};
 use fisca_attributes::{name_value, value_at};
-use fisca_syntax::{Assignment, EnumClass, Item, Statement, VariableClass};
-use fisca_tables::Text;
+use fisca_symbols::SourceText;
 use indexmap::IndexSet;
 use std::alloc::{AllocError, Global};
 
@@ -26,7 +26,7 @@ use std::alloc::{AllocError, Global};
 #[derive(Drop)]
 pub struct Seen<'a> {
     /// Names of variables and Enums, and constants, keys and plurals of entities.
-    names: IndexSet<Text<'a>>,
+    names: IndexSet<SourceText<'a>>,
     /// Keys and plurals of roles.
     titles: IndexSet<Within<'a>>,
     /// Variables that name their entity.
@@ -34,7 +34,7 @@ pub struct Seen<'a> {
 }
 
 /// The constant of its entity that a variable names.
-fn entity_named<'a>(items: &[Item<'a>]) -> Option<Text<'a>>
+fn entity_named<'a>(items: &[ClassLine<'a>]) -> Option<SourceText<'a>>
     ensures { result ≡ entity_named_in (map item items.now) }
 {
     match value_at(b"entity".as_slice(), items) {
@@ -72,7 +72,7 @@ impl<'a> Seen<'a> {
     {
         let Built { names, roles } = built_by(alloc, written)?;
         let constant = written.name.as_bytes();
-        if entity_comes_again(&mut self.names, Text::borrowed(constant), names)? {
+        if entity_comes_again(&mut self.names, SourceText::borrowed(constant), names)? {
             return Ok(true);
         }
         if are_confused(alloc, roles.as_slice())? {
@@ -92,7 +92,7 @@ impl<'a> Seen<'a> {
         ensures { IfOk result (Notes self.old self.new (variable class.now.line class.now.name (map item class.now.items.items))) }
     {
         let name = class.name.as_bytes();
-        if comes_again(&mut self.names, Text::borrowed(name))? {
+        if comes_again(&mut self.names, SourceText::borrowed(name))? {
             return Ok(true);
         }
         let Some(constant) = entity_named(class.items.as_slice()) else {
@@ -100,7 +100,7 @@ impl<'a> Seen<'a> {
         };
         let within = Within {
             constant,
-            name: Text::borrowed(name),
+            name: SourceText::borrowed(name),
         };
         if self.titles.contains(&within) {
             return Ok(true);
@@ -117,7 +117,7 @@ impl<'a> Seen<'a> {
     ) -> Result<Option<usize>, AllocError>
         ensures { IfOk result (TellsOne self.old self.new (choices class.now.line class.now.name class.now.members.items)) }
     {
-        if comes_again(&mut self.names, Text::borrowed(class.name.as_bytes()))? {
+        if comes_again(&mut self.names, SourceText::borrowed(class.name.as_bytes()))? {
             return Ok(Some(class.line));
         }
         repeated_member(alloc, class.members.as_slice())

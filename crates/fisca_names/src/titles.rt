@@ -5,15 +5,15 @@ ghost use Rattle.fisca_names.specs.Clashes.{titles, titles_clash};
 ghost use Rattle.fisca_names.specs.Titles.{Holds, Notes, NotesOne, subrole, titles_of, whole};
 
 use crate::noted::comes_again;
-use fisca_tables::{Role, Text};
+use fisca_symbols::{Role, SourceText};
 use indexmap::IndexSet;
 use std::alloc::{AllocError, Global};
 
 /// The keys, small letters written as capitals, and the keys and plurals as they are written.
 #[derive(Drop)]
 struct Titles<'r> {
-    capitals: IndexSet<Text<'r>>,
-    texts: IndexSet<Text<'r>>,
+    capitals: IndexSet<SourceText<'r>>,
+    texts: IndexSet<SourceText<'r>>,
 }
 
 impl<'r> Titles<'r> {
@@ -31,18 +31,18 @@ impl<'r> Titles<'r> {
     fn key_comes_again(&mut self, alloc: Global, key: &'r [u8]) -> Result<bool, AllocError>
         ensures { IfOk result (NotesOne self.old self.new (subrole key.now)) }
     {
-        let capitals = Text::owned(key.to_ascii_uppercase(alloc)?);
+        let capitals = SourceText::owned(key.to_ascii_uppercase(alloc)?);
         if comes_again(&mut self.capitals, capitals)? {
             return Ok(true);
         }
-        comes_again(&mut self.texts, Text::borrowed(key))
+        comes_again(&mut self.texts, SourceText::borrowed(key))
     }
 
     /// Notes the keys of subroles, and says whether one came before.
     fn subrole_comes_again(
         &mut self,
         alloc: Global,
-        keys: &'r [Text<'_>],
+        keys: &'r [SourceText<'_>],
     ) -> Result<bool, AllocError>
         ensures { IfOk result (Notes self.old self.new (map subrole keys.now)) }
     {
@@ -68,7 +68,7 @@ impl<'r> Titles<'r> {
         if plural.as_bytes() == key {
             return Ok(false);
         }
-        comes_again(&mut self.texts, Text::borrowed(plural.as_bytes()))
+        comes_again(&mut self.texts, SourceText::borrowed(plural.as_bytes()))
     }
 
     /// Notes a role, and says whether a key or a plural came before.

@@ -1,6 +1,6 @@
 -- What a reader answers.
 use Rattle.std.specs.Prelude.{◌≡◌, ◌≢◌, ℕ, Option, Some, None, Result, Ok, Err, ⊤}
-use Rattle.fisca_yaml.specs.declared.fault.Kind.TheVariants as kind
+use Rattle.fisca_yaml.specs.declared.fault.YamlKind.TheVariants as kind
 use Rattle.fisca_params.specs.declared.fault.NodeFault.{NodeFault}
 use Rattle.fisca_params.specs.declared.fault.NodeFault.TheVariants as fault
 use Rattle.fisca_params.specs.declared.fault.ParamFault.{ParamFault}

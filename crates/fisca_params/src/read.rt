@@ -8,7 +8,7 @@ use crate::nodes::Nodes;
 use crate::source::parameter_path;
 use crate::tree::ParamTree;
 use crate::{ParamFault, SourceFile};
-use fisca_yaml::{Kind, YamlFault, read};
+use fisca_yaml::{YamlFault, YamlKind, read};
 use std::alloc::{AllocError, Global};
 use std::collections::BTreeMap;
 
@@ -88,10 +88,10 @@ fn put_source(
 
 /// The fault of the text of the file at this place.
 fn text_fault(file: usize, fault: YamlFault) -> ParamFault
-    ensures memory { fault.kind ≡ Kind.Memory → result ≡ ParamFault.Memory }
-    ensures text { fault.kind ≢ Kind.Memory → result ≡ ParamFault.Yaml file fault }
+    ensures memory { fault.kind ≡ YamlKind.Memory → result ≡ ParamFault.Memory }
+    ensures text { fault.kind ≢ YamlKind.Memory → result ≡ ParamFault.Yaml file fault }
 {
-    if fault.kind == Kind::Memory {
+    if fault.kind == YamlKind::Memory {
         ParamFault::Memory
     } else {
         ParamFault::Yaml { file, fault }

@@ -6,7 +6,7 @@ use Rattle.fisca_params.specs.Results.{and_then}
 use Rattle.fisca_params.specs.Source.{Source}
 use Rattle.fisca_params.specs.Tree.{TreeNode}
 use Rattle.fisca_rules.specs.Rules.{Rules, rules_of}
-use Rattle.fisca_syntax.specs.Modules.{Statement}
+use Rattle.fisca_ast.specs.Modules.{Statement}
 use Rattle.fisca_rule_files.specs.Modules.{FileFault, declared_by, modules_in, told_by}
 use Rattle.fisca_rule_files.specs.RuleFiles.{IsAccepted}
 

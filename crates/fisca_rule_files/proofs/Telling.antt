@@ -6,9 +6,9 @@ use Rattle.fisca_params.specs.Source.{Source}
 use Rattle.fisca_params.specs.Tree.{TreeNode}
 use Rattle.fisca_params.specs.declared.fault.ParamFault.{ParamFault}
 use Rattle.fisca_rules.specs.Rules.{rules_of}
-use Rattle.fisca_syntax.specs.Modules.{Statement}
-use Rattle.fisca_syntax.specs.Reading.{module_of}
-use Rattle.fisca_tokens.specs.declared.fault.FormulaFault.{FormulaFault}
+use Rattle.fisca_ast.specs.Modules.{Statement}
+use Rattle.fisca_parser.specs.Reading.{module_of}
+use Rattle.fisca_ast.specs.declared.fault.FormulaFault.{FormulaFault}
 use Rattle.fisca_rule_files.specs.Modules.{IsFaultOf, IsRefusalOf, declared_by, declared_in, path_or, rules_in, told_by, told_with}
 use Rattle.fisca_rule_files.specs.RuleFiles.{IsToldAt, IsToldOf, StandsAt, path_of, place_of}
 use Rattle.fisca_rule_files.specs.declared.refusal.Refusal.{Refusal}

@@ -2,7 +2,7 @@
 use Rattle.std.specs.Prelude.{◌≡◌, ◌⊎◌, ℕ, ◌++◌, List, count_by, length, codes, Option, Result, Ok, Err}
 use Rattle.std.specs.Fmt.{decimal}
 use Rattle.std.specs.Io.KnownBytes.{Appends, Keeps}
-use Rattle.fisca_lines.specs.Run.{AppendsPart}
+use Rattle.fisca_writer.specs.Run.{AppendsPart}
 use Rattle.fisca_params.specs.Lookup.{is_counted}
 use Rattle.fisca_params.specs.Source.{Source}
 use Rattle.fisca_rules.specs.Rules.{Rules}

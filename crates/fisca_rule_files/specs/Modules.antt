@@ -8,9 +8,9 @@ use Rattle.fisca_params.specs.Results.{and_then}
 use Rattle.fisca_params.specs.Source.{Source}
 use Rattle.fisca_params.specs.Tree.{TreeNode}
 use Rattle.fisca_rules.specs.Rules.{Rules, all_of, rules_of}
-use Rattle.fisca_syntax.specs.Modules.{Statement}
-use Rattle.fisca_syntax.specs.Reading.{module_of}
-use Rattle.fisca_tokens.specs.declared.fault.FormulaFault.{FormulaFault}
+use Rattle.fisca_ast.specs.Modules.{Statement}
+use Rattle.fisca_parser.specs.Reading.{module_of}
+use Rattle.fisca_ast.specs.declared.fault.FormulaFault.{FormulaFault}
 use Rattle.fisca_rule_files.specs.declared.refusal.Refusal.{Refusal}
 use Rattle.fisca_rule_files.specs.declared.refusal.Refusal.TheVariants.{Formula, Memory}
 

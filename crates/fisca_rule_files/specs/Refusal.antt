@@ -2,19 +2,19 @@
 use Rattle.std.specs.Prelude.{ℕ, List, [], ◌++◌, codes, string_bytes, Bool, true, false, Result, Ok, Err}
 use Rattle.std.specs.Fmt.{decimal}
 use Rattle.std.specs.declared.convert.Infallible.{Infallible}
-use Rattle.fisca_calc.specs.Faults.{name_of as name_of_file}
-use Rattle.fisca_eval.specs.Faults.{name_of as name_of_eval}
+use Rattle.fisca_columns.specs.Faults.{name_of as name_of_file}
+use Rattle.fisca_model.specs.EvalFaults.{name_of as name_of_eval}
 use Rattle.fisca_grid.specs.AxesFault.{name_of}
 use Rattle.fisca_params.specs.Names.{name_of as name_of_params}
-use Rattle.fisca_tokens.specs.Faults.{name_of as name_of_kind}
+use Rattle.fisca_ast.specs.Faults.{name_of as name_of_kind}
 use Rattle.fisca_yaml.specs.Faults.{name_of as name_of_yaml}
 use Rattle.fisca_grid.specs.declared.axes.AxesFault.TheVariants as axes
-use Rattle.fisca_lines.specs.Run.{is_write as run_is_write}
-use Rattle.fisca_lines.specs.declared.fault.RunEnd.{RunEnd}
-use Rattle.fisca_lines.specs.declared.fault.RunFault.{RunFault}
-use Rattle.fisca_lines.specs.declared.fault.RunFault.TheVariants as run
+use Rattle.fisca_writer.specs.Run.{is_write as run_is_write}
+use Rattle.fisca_writer.specs.declared.fault.RunEnd.{RunEnd}
+use Rattle.fisca_writer.specs.declared.fault.RunFault.{RunFault}
+use Rattle.fisca_writer.specs.declared.fault.RunFault.TheVariants as run
 use Rattle.fisca_folder.specs.Shown.{shown}
-use Rattle.fisca_verdicts.specs.Faults.{name_of as name_of_tests}
+use Rattle.fisca_test_file.specs.Faults.{name_of as name_of_tests}
 use Rattle.fisca_rule_files.specs.declared.refusal.Refusal.{Refusal}
 use Rattle.fisca_rule_files.specs.declared.refusal.Unanswered.{Unanswered}
 use Rattle.fisca_rule_files.specs.declared.refusal.Refusal.TheVariants.{Params, Formula, Yaml, RunFile, Tests, Axes, BadWord, BadCondition, Run, Eval, Write, Memory, TooManyFiles}

@@ -1,16 +1,16 @@
 //! `fisca check`: whether the files of a rule set are accepted, and what they hold.
 
 ghost use Rattle.std.specs.Prelude.{◌≡◌, IfOk, string_bytes};
-ghost use Rattle.fisca_lines.specs.Sink.{CountsFailure};
+ghost use Rattle.fisca_writer.specs.Sink.{CountsFailure};
 ghost use Rattle.fisca_rules.specs.Views.{rule_set};
 ghost use Rattle.fisca_rule_files.specs.Check.{text_of, text_of_counts, IsCheck, IsWritten};
 ghost use Rattle.fisca_rule_files.specs.Refusal.{is_write};
 
 use super::rule_files::rules_of;
 use crate::Refusal;
-use fisca_lines::{RowSink, hand_over};
 use fisca_params::SourceFile;
 use fisca_rules::RuleSet;
+use fisca_writer::{RowSink, hand_over};
 use std::alloc::{AllocError, Global};
 
 /// The line that `fisca check` prints of so many entities, variables, and parameters with scales.

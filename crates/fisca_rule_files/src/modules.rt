@@ -5,15 +5,15 @@ ghost use Rattle.fisca_rule_files.specs.Modules as spec;
 ghost use Rattle.fisca_rule_files.specs.Modules.{IsFaultOf, TellsFile};
 ghost use Rattle.fisca_params.specs.Files.{in_path_order};
 ghost use Rattle.fisca_rules.specs.Views.{rule_set};
-ghost use Rattle.fisca_syntax.specs.Views.{statements};
+ghost use Rattle.fisca_ast.specs.ModuleViews.{statements};
 
 use crate::Refusal;
+use fisca_ast::{FormulaFault, FormulaKind, Module};
 use fisca_folder::is_module;
 use fisca_names::BuildFault;
 use fisca_params::{ParamTree, SourceFile, in_path_order};
+use fisca_parser::read_module;
 use fisca_rules::RuleSet;
-use fisca_syntax::{Module, read_module};
-use fisca_tokens::{FormulaFault, Kind};
 use std::alloc::{AllocError, Global};
 
 /// The modules among these files, in order of their paths.
@@ -36,7 +36,7 @@ fn read_file<'a>(alloc: Global, file: &'a SourceFile) -> Result<Module<'a>, Refu
 {
     match read_module(alloc, file.text()) {
         Ok(module) => Ok(module),
-        Err(fault) if fault.kind == Kind::Memory => Err(Refusal::Memory),
+        Err(fault) if fault.kind == FormulaKind::Memory => Err(Refusal::Memory),
         Err(fault) => Err(refuse(alloc, file.path(), fault)),
     }
 }
@@ -73,7 +73,7 @@ fn build<'a>(
     let modules = read_modules(alloc, files)?;
     match RuleSet::build(alloc, parameters, modules) {
         Ok(rules) => Ok(rules),
-        Err(fault) if fault.kind == Kind::Memory => Err(Refusal::Memory),
+        Err(fault) if fault.kind == FormulaKind::Memory => Err(Refusal::Memory),
         Err(BuildFault { module, line, kind }) => {
             let fault = FormulaFault { line, kind };
             Err(refuse(alloc, path_at(files, module), fault))

@@ -3,14 +3,14 @@
 ghost use Rattle.std.specs.Prelude.{◌≡◌, ◌++◌, IfOk, OnOk, string_bytes};
 ghost use Rattle.fisca_rule_files.specs.Refusal.{number_of, status_of, reason_of, place_in, place_of, position_in, key_in, key_of, line_of};
 
-use fisca_calc::RunFileFault;
-use fisca_eval::EvalFault;
+use fisca_ast::FormulaKind;
+use fisca_columns::RunFileFault;
 use fisca_folder::write_shown;
 use fisca_grid::AxesFault;
-use fisca_lines::RunFault;
+use fisca_model::EvalFault;
 use fisca_params::ParamFault;
-use fisca_tokens::Kind;
-use fisca_verdicts::TestFault;
+use fisca_test_file::TestFault;
+use fisca_writer::RunFault;
 use fisca_yaml::YamlFault;
 use std::alloc::{AllocError, AllocFailed, Global};
 use std::convert::Infallible;
@@ -40,7 +40,7 @@ pub enum Refusal {
     Formula {
         path: String,
         line: usize,
-        kind: Kind,
+        kind: FormulaKind,
     },
     /// 3: the command's own file is not of the YAML that is read: the fault, with its line.
     Yaml(YamlFault),

@@ -9,41 +9,43 @@ use Rattle.fisca_attributes.specs.Values.{needed, or_bad, number_value, truth_va
 use Rattle.fisca_attributes.specs.declared.attributes.TypeName.{TypeName}
 use Rattle.fisca_attributes.specs.declared.attributes.TypeName.TheVariants as named
 use Rattle.fisca_attributes.specs.declared.dotted.Dotted.{Dotted}
-use Rattle.fisca_rules.specs.Build.{Found, Whole, enums_in, declared_in, found_from, statement_found, second_pass, variable_in, items_fit, with_person, none_yet, tables_of}
-use Rattle.fisca_expressions.specs.Tree.{Tree}
-use Rattle.fisca_expressions.specs.Words.{is}
+use Rattle.fisca_rules.specs.Build.{Found, Whole, enums_in, declared_in, found_from, statement_found, second_pass, variable_in, items_fit, with_person, with_variable, none_yet, tables_of}
+use Rattle.fisca_ast.specs.Tree.{Tree}
+use Rattle.fisca_ast.specs.Words.{is}
 use Rattle.fisca_names.specs.Names.{Placed, placed_from, names_from, told_at}
 use Rattle.fisca_num.specs.Number.{Number}
 use Rattle.fisca_params.specs.Results.{and_then}
 use Rattle.fisca_params.specs.Tree.{TreeNode}
-use Rattle.fisca_syntax.specs.Modules.{Item, Statement, entity, entities, choices, variable}
-use Rattle.fisca_tables.specs.KnownEnums.{choices as known_choices}
-use Rattle.fisca_tables.specs.KnownVariables.{value_type}
-use Rattle.fisca_tables.specs.declared.choices.Choices.{Choices}
-use Rattle.fisca_tables.specs.declared.variable.DeclaredType.{DeclaredType}
-use Rattle.fisca_tables.specs.declared.variable.DeclaredType.TheVariants as type
-use Rattle.fisca_tables.specs.declared.variable.DefaultValue.{DefaultValue}
-use Rattle.fisca_tables.specs.declared.variable.DefaultValue.TheVariants as default
+use Rattle.fisca_ast.specs.Modules.{Item, Statement, entity, entities, choices, variable}
+use Rattle.fisca_symbols.specs.KnownEnums.{choices as known_choices}
+use Rattle.fisca_symbols.specs.KnownVariables.{value_type}
+use Rattle.fisca_symbols.specs.declared.choices.Choices.{Choices}
+use Rattle.fisca_symbols.specs.declared.variable.DeclaredType.{DeclaredType}
+use Rattle.fisca_symbols.specs.declared.variable.DeclaredType.TheVariants as type
+use Rattle.fisca_symbols.specs.declared.variable.DefaultValue.{DefaultValue}
+use Rattle.fisca_symbols.specs.declared.variable.DefaultValue.TheVariants as default
+use Rattle.fisca_symbols.specs.declared.variable.Variable.{Variable}
 use Rattle.fisca_time.specs.Instant.{CivilDate}
 use Rattle.fisca_time.specs.declared.unit.Unit.{Unit as TimeUnit}
-use Rattle.fisca_tokens.specs.declared.fault.Kind.{Kind}
-use Rattle.fisca_typing.specs.Tables.{Tables, members_of, place_in}
-use Rattle.fisca_typing.specs.declared.kinds.ValueType.{ValueType}
-use Rattle.fisca_variables.specs.VariableForms.{Written, enum_value, declared_type, default_or_none, entity_value, basics_of, told_of, variable_of, if_allowed, is_int, member_place, member_of}
-use Rattle.fisca_variables.specs.declared.basics.Basics.{Basics}
-use Rattle.fisca_variables.specs.declared.declared.Declared.{Declared}
-use Rattle.fisca_variables.specs.declared.told.Told.{Told}
-use Rattle.fisca_rules.specs.Rules.{Dated, Rules, all_of, formulas_by, formulas_of, known, rules_of, with_formulas}
+use Rattle.fisca_ast.specs.declared.fault.FormulaKind.{FormulaKind}
+use Rattle.fisca_model.specs.Tables.{Tables, members_of, place_in}
+use Rattle.fisca_model.specs.declared.value_type.ValueType.{ValueType}
+use Rattle.fisca_declarations.specs.VariableForms.{Written, enum_value, declared_type, default_or_none, entity_value, basics_of, told_of, variable_of, if_allowed, is_int, member_place, member_of}
+use Rattle.fisca_declarations.specs.declared.basics.Basics.{Basics}
+use Rattle.fisca_declarations.specs.declared.declared.Declared.{Declared}
+use Rattle.fisca_declarations.specs.declared.told.Told.{Told}
+use Rattle.fisca_rules.specs.Rules.{Dated, Rules, all_formulas, formulas_by, formulas_of, known, rules_of, with_formulas}
 use Rattle.fisca_rules.specs.Safety.{is_number, is_whole, is_bool, is_date, is_text, is_member, is_default, AllDefaultsFit, DefaultsFit, AreUncomputed, DaysAndTextsHaveNoFormulas}
+use Rattle.fisca_rules.proofs.Beside.{declared_beside}
 use Rattle.fisca_rules.proofs.Members.{then_ok, told_ok, position_inside, entity_keeps, same_found, person_keeps, made}
 
 -- Each type
 
-number_fits : (r : Result Number Kind) (v : DefaultValue) → and_then r (λ n. Ok (default.Number n)) ≡ Ok v → is_number v ≡ true
+number_fits : (r : Result Number FormulaKind) (v : DefaultValue) → and_then r (λ n. Ok (default.Number n)) ≡ Ok v → is_number v ≡ true
 number_fits (Ok n) v h = let same : default.Number n ≡ v = cc in subst (λ x. is_number x ≡ true) same refl
 number_fits (Err k) v h = cc
 
-whole_fits : (r : Result Number Kind) (v : DefaultValue) → and_then r (λ n. if_allowed (is_int n) (default.Number n)) ≡ Ok v → is_whole v ≡ true
+whole_fits : (r : Result Number FormulaKind) (v : DefaultValue) → and_then r (λ n. if_allowed (is_int n) (default.Number n)) ≡ Ok v → is_whole v ≡ true
 whole_fits (Ok n) v h = by (is_int n) refl h
   where
     by : (b : Bool) → is_int n ≡ b → if_allowed b (default.Number n) ≡ Ok v → is_whole v ≡ true
@@ -51,15 +53,15 @@ whole_fits (Ok n) v h = by (is_int n) refl h
     by false e q = cc
 whole_fits (Err k) v h = cc
 
-bool_fits : (r : Result Bool Kind) (v : DefaultValue) → and_then r (λ b. Ok (default.Bool b)) ≡ Ok v → is_bool v ≡ true
+bool_fits : (r : Result Bool FormulaKind) (v : DefaultValue) → and_then r (λ b. Ok (default.Bool b)) ≡ Ok v → is_bool v ≡ true
 bool_fits (Ok b) v h = let same : default.Bool b ≡ v = cc in subst (λ x. is_bool x ≡ true) same refl
 bool_fits (Err k) v h = cc
 
-date_fits : (r : Result CivilDate Kind) (v : DefaultValue) → and_then r (λ d. Ok (default.Date (Some d))) ≡ Ok v → is_date v ≡ true
+date_fits : (r : Result CivilDate FormulaKind) (v : DefaultValue) → and_then r (λ d. Ok (default.Date (Some d))) ≡ Ok v → is_date v ≡ true
 date_fits (Ok d) v h = let same : default.Date (Some d) ≡ v = cc in subst (λ x. is_date x ≡ true) same refl
 date_fits (Err k) v h = cc
 
-text_fits : (r : Result (List ℕ) Kind) (v : DefaultValue) → and_then r (λ t. Ok (default.Text (Some t))) ≡ Ok v → is_text v ≡ true
+text_fits : (r : Result (List ℕ) FormulaKind) (v : DefaultValue) → and_then r (λ t. Ok (default.Text (Some t))) ≡ Ok v → is_text v ≡ true
 text_fits (Ok t) v h = let same : default.Text (Some t) ≡ v = cc in subst (λ x. is_text x ≡ true) same refl
 text_fits (Err k) v h = cc
 
@@ -97,7 +99,7 @@ abbrev fits_in : Declared → DeclaredType → DefaultValue → Type 0
 fits_in c d v = is_default (map known_choices c.enums) d v ≡ true
 
 -- what is made of the declared type
-declared_as : (c : Declared) (d made_type : DeclaredType) (v : DefaultValue) → ◌≡◌ {A = Result DeclaredType Kind} (Ok made_type) (Ok d) → fits_in c made_type v → fits_in c d v
+declared_as : (c : Declared) (d made_type : DeclaredType) (v : DefaultValue) → ◌≡◌ {A = Result DeclaredType FormulaKind} (Ok made_type) (Ok d) → fits_in c made_type v → fits_in c d v
 declared_as c d made_type v h t = let same : made_type ≡ d = cc in subst (λ x. fits_in c x v) same t
 
 enum_typed : (c : Declared) (values : Option Tree) (d : DeclaredType) → and_then (needed (enum_value c) values) (λ n. Ok (type.Enum n)) ≡ Ok d → (e : ℕ) × (type.Enum e ≡ d)
@@ -106,7 +108,7 @@ enum_typed c values d h =
     let same : type.Enum one.0 ≡ d = cc in
     (one.0, same)
 
-made_default : (v w : DefaultValue) (is_fit : DefaultValue → Bool) → ◌≡◌ {A = Result DefaultValue Kind} (Ok w) (Ok v) → is_fit w ≡ true → is_fit v ≡ true
+made_default : (v w : DefaultValue) (is_fit : DefaultValue → Bool) → ◌≡◌ {A = Result DefaultValue FormulaKind} (Ok w) (Ok v) → is_fit w ≡ true → is_fit v ≡ true
 made_default v w is_fit h t = let same : w ≡ v = cc in subst (λ x. is_fit x ≡ true) same t
 
 enum_fits : (c : Declared) (e : ℕ) (o : Option Tree) (v : DefaultValue) → default_or_none c named.Enum (type.Enum e) o ≡ Ok v → fits_in c (type.Enum e) v
@@ -135,7 +137,7 @@ default_fits c named.Enum values d o v h k =
 abbrev BasicsFit : Declared → Basics → Type 0
 BasicsFit c b = fits_in c b.value_type b.default_value
 
-basics_by : (c : Declared) (b : Basics) (types : Result TypeName Kind) (places : Result ℕ Kind) (periods : Result TimeUnit Kind) (values default : Option Tree) →
+basics_by : (c : Declared) (b : Basics) (types : Result TypeName FormulaKind) (places : Result ℕ FormulaKind) (periods : Result TimeUnit FormulaKind) (values default : Option Tree) →
     and_then types (λ t. and_then places (λ place. and_then periods (λ period. and_then (declared_type c t values) (λ d. and_then (default_or_none c t d default) (λ v.
     Ok (record { entity = place; value_type = d; definition_period = period; default_value = v })))))) ≡ Ok b → BasicsFit c b
 basics_by c b (Ok t) (Ok place) (Ok period) values default h =
@@ -152,36 +154,36 @@ basics_fit c xs b h =
     basics_by c b (needed type_value (value_at (codes "value_type") xs)) (needed (entity_value c) (value_at (codes "entity") xs)) (needed period_value (value_at (codes "definition_period") xs))
     (value_at (codes "possible_values") xs) (value_at (codes "default_value") xs) h
 
-abbrev VariableFits : Declared → Written → Type 0
-VariableFits c v = fits_in c v.value_type v.default_value
+abbrev VariableFits : Declared → Variable × Written → Type 0
+VariableFits c v = fits_in c v.0.value_type v.0.default_value
 
-made_fits : (c : Declared) (v : Written) (basics : Result Basics Kind) (told : Result Told Kind) (make : Basics → Told → Written) → ((b : Basics) (s : Told) → BasicsFit c b → VariableFits c (make b s)) →
+made_fits : (c : Declared) (v : Variable × Written) (basics : Result Basics FormulaKind) (told : Result Told FormulaKind) (make : Basics → Told → Variable × Written) → ((b : Basics) (s : Told) → BasicsFit c b → VariableFits c (make b s)) →
     ((b : Basics) → basics ≡ Ok b → BasicsFit c b) → and_then basics (λ b. and_then told (λ s. Ok (make b s))) ≡ Ok v → VariableFits c v
 made_fits c v (Ok b) (Ok s) make keeps fit h = let same : make b s ≡ v = cc in subst (VariableFits c) same (keeps b s (fit b refl))
 made_fits c v (Ok b) (Err k) make keeps fit h = cc
 made_fits c v (Err k) told make keeps fit h = cc
 
-variable_fits : (c : Declared) (place line : ℕ) (n : List ℕ) (xs : List Item) (v : Written) → variable_of c place line n xs ≡ Ok v → VariableFits c v
+variable_fits : (c : Declared) (place line : ℕ) (n : List ℕ) (xs : List Item) (v : Variable × Written) → variable_of c place line n xs ≡ Ok v → VariableFits c v
 variable_fits c place line n xs v h = made_fits c v (basics_of c xs) (told_of xs) (made place line n xs) (λ b s t. t) (λ b e. basics_fit c xs b e) h
 
 abbrev AllFit : Declared → Found → Type 0
 AllFit c f = AllDefaultsFit (map known_choices c.enums) f.variables
 
-fits_and : (es : List Rattle.fisca_typing.specs.Tables.Choices) (vs : List Written) (v : Written) → AllDefaultsFit es vs → is_default es v.value_type v.default_value ≡ true → AllDefaultsFit es (vs ++ v ∷ [])
+fits_and : (es : List Rattle.fisca_model.specs.Tables.Choices) (vs : List Variable) (v : Variable) → AllDefaultsFit es vs → is_default es v.value_type v.default_value ≡ true → AllDefaultsFit es (vs ++ v ∷ [])
 fits_and es [] v h k = (k, tt)
 fits_and es (w ∷ vs) v h k = (h.0, fits_and es vs v h.1 k)
 
 variable_step : (c : Declared) (ps : List Placed) (f g : Found) (place : ℕ) (s : Statement) → ((x : Found) → found_from c x ps ≡ Ok g → AllFit c x → AllFit c g) →
     AllFit c f → (x : Found) × (statement_found c f place s ≡ Ok x) × (found_from c x ps ≡ Ok g) → AllFit c g
-variable_step c ps f g place (entity a) rest k t = rest t.0 t.2 (subst (AllDefaultsFit (map known_choices c.enums)) (entity_keeps f t.0 _ (told_ok place a.line _ t.0 t.1)) k)
-variable_step c ps f g place (entities a) rest k t = rest t.0 t.2 (subst (AllDefaultsFit (map known_choices c.enums)) (same_found _ f t.0 t.1) k)
-variable_step c ps f g place (choices line n ms) rest k t = rest t.0 t.2 (subst (AllDefaultsFit (map known_choices c.enums)) (same_found _ f t.0 t.1) k)
+variable_step c ps f g place (entity a) rest k t = rest t.0 t.2 (subst (λ (p : List Variable × List Written). AllDefaultsFit (map known_choices c.enums) p.0) (entity_keeps f t.0 _ (told_ok place a.line _ t.0 t.1)) k)
+variable_step c ps f g place (entities a) rest k t = rest t.0 t.2 (subst (λ (p : List Variable × List Written). AllDefaultsFit (map known_choices c.enums) p.0) (same_found _ f t.0 t.1) k)
+variable_step c ps f g place (choices line n ms) rest k t = rest t.0 t.2 (subst (λ (p : List Variable × List Written). AllDefaultsFit (map known_choices c.enums) p.0) (same_found _ f t.0 t.1) k)
 variable_step c ps f g place (variable line n xs) rest k t =
-    let one = then_ok (variable_in c place line n xs) (λ v. Ok (record f { variables = f.variables ++ v ∷ [] })) t.0 t.1 in
+    let one = then_ok (variable_in c place line n xs) (λ v. Ok (with_variable f v)) t.0 t.1 in
     let fits = then_ok (items_fit c place xs [] xs) (λ _. told_at place line (variable_of c place line n xs)) one.0 one.1 in
     let fit = variable_fits c place line n xs one.0 (told_ok place line _ one.0 fits.2) in
-    let same : record f { variables = f.variables ++ one.0 ∷ [] } ≡ t.0 = cc in
-    rest t.0 t.2 (subst (AllFit c) same (fits_and (map known_choices c.enums) f.variables one.0 k fit))
+    let same : with_variable f one.0 ≡ t.0 = cc in
+    rest t.0 t.2 (subst (AllFit c) same (fits_and (map known_choices c.enums) f.variables one.0.0 k fit))
 
 variables_fit : (c : Declared) (ps : List Placed) (f g : Found) → found_from c f ps ≡ Ok g → AllFit c f → AllFit c g
 variables_fit c [] f g h k = let same : f ≡ g = cc in subst (AllFit c) same k
@@ -197,39 +199,42 @@ unfolding tables_of
 whole_fits_in ms w h =
     let ps = placed_from 0 ms in
     let names = then_ok (names_from [] ps) (λ _. second_pass ps) w h in
-    let person = then_ok (and_then (found_from (declared_in ps) none_yet ps) with_person) (λ f. Ok (record { entities = f.entities; enums = enums_in ps; variables = f.variables })) w names.2 in
+    let person = then_ok (and_then (found_from (declared_in ps) none_yet ps) with_person) (λ f. Ok (record { entities = f.entities; enums = enums_in ps; variables = f.variables; declarations = f.declarations })) w names.2 in
     let found = then_ok (found_from (declared_in ps) none_yet ps) with_person person.0 person.1 in
     let kept : found.0 ≡ person.0 = person_keeps _ found.0 person.0 found.2 in
-    let same : record { entities = person.0.entities; enums = enums_in ps; variables = person.0.variables } ≡ w = cc in
+    let same : record { entities = person.0.entities; enums = enums_in ps; variables = person.0.variables; declarations = person.0.declarations } ≡ w = cc in
     subst WholeFits same (subst (AllFit (declared_in ps)) kept (variables_fit (declared_in ps) ps none_yet found.0 found.1 tt))
 
 pub defaults_fit : (nodes : List TreeNode) (ms : List (List Statement)) (r : Rules) → rules_of nodes ms ≡ Ok r → DefaultsFit r
 unfolding rules_of
 defaults_fit nodes ms r h =
     let whole = then_ok (tables_of ms) (with_formulas nodes) r h in
-    let formulas = then_ok (all_of (formulas_of (known whole.0 nodes)) whole.0.variables) (λ fs. Ok (record { entities = whole.0.entities; enums = whole.0.enums; variables = whole.0.variables; parameters = nodes; formulas = fs })) r whole.2 in
-    let same : record { entities = whole.0.entities; enums = whole.0.enums; variables = whole.0.variables; parameters = nodes; formulas = formulas.0 } ≡ r = cc in
+    let formulas = then_ok (all_formulas (known whole.0 nodes) whole.0.variables whole.0.declarations) (λ fs. Ok (record { entities = whole.0.entities; enums = whole.0.enums; variables = whole.0.variables; declarations = whole.0.declarations; parameters = nodes; formulas = fs })) r whole.2 in
+    let same : record { entities = whole.0.entities; enums = whole.0.enums; variables = whole.0.variables; declarations = whole.0.declarations; parameters = nodes; formulas = formulas.0 } ≡ r = cc in
     subst DefaultsFit same (whole_fits_in ms whole.0 whole.1)
 
 -- Days and texts
 
-none_computed : (c : Tables) (v : Written) (o : Option ValueType) (ds : List Dated) → formulas_by c v o ≡ Ok ds → o ≡ None → ds ≡ []
-none_computed c v None ds h is = cc
-none_computed c v (Some t) ds h is = cc
+none_computed : (c : Tables) (place : ℕ) (d : Written) (o : Option ValueType) (ds : List Dated) → formulas_by c place d o ≡ Ok ds → o ≡ None → ds ≡ []
+none_computed c place d None ds h none = cc
+none_computed c place d (Some t) ds h none = cc
 
-all_uncomputed : (c : Tables) (vs : List Written) (fs : List (List Dated)) → all_of (formulas_of c) vs ≡ Ok fs → AreUncomputed vs fs
+all_uncomputed : (c : Tables) (vs : List Variable) (ws : List Written) → length vs ≡ length ws → (fs : List (List Dated)) → all_formulas c vs ws ≡ Ok fs → AreUncomputed vs fs
 unfolding formulas_of
-all_uncomputed c [] fs h = let same : [] ≡ fs = cc in subst (AreUncomputed []) same tt
-all_uncomputed c (v ∷ vs) fs h =
+all_uncomputed c [] [] long fs h = let same : [] ≡ fs = cc in subst (AreUncomputed []) same tt
+all_uncomputed c [] (w ∷ ws) long fs h = absurd (omega (arith, long))
+all_uncomputed c (v ∷ vs) [] long fs h = absurd (omega (arith, long))
+all_uncomputed c (v ∷ vs) (w ∷ ws) long fs h =
     let one = then_ok _ _ _ h in
     let rest = then_ok _ _ _ one.2 in
     let same : one.0 ∷ rest.0 ≡ fs = cc in
-    subst (AreUncomputed (v ∷ vs)) same (none_computed c v (value_type v.value_type) one.0 one.1, all_uncomputed c vs rest.0 rest.1)
+    let shorter : length vs ≡ length ws = omega (arith, long) in
+    subst (AreUncomputed (v ∷ vs)) same (none_computed c v.entity w (value_type v.value_type) one.0 one.1, all_uncomputed c vs ws shorter rest.0 rest.1)
 
 pub uncomputed : (nodes : List TreeNode) (ms : List (List Statement)) (r : Rules) → rules_of nodes ms ≡ Ok r → DaysAndTextsHaveNoFormulas r
 unfolding rules_of
 uncomputed nodes ms r h =
     let whole = then_ok (tables_of ms) (with_formulas nodes) r h in
-    let formulas = then_ok (all_of (formulas_of (known whole.0 nodes)) whole.0.variables) (λ fs. Ok (record { entities = whole.0.entities; enums = whole.0.enums; variables = whole.0.variables; parameters = nodes; formulas = fs })) r whole.2 in
-    let same : record { entities = whole.0.entities; enums = whole.0.enums; variables = whole.0.variables; parameters = nodes; formulas = formulas.0 } ≡ r = cc in
-    subst DaysAndTextsHaveNoFormulas same (all_uncomputed (known whole.0 nodes) whole.0.variables formulas.0 formulas.1)
+    let formulas = then_ok (all_formulas (known whole.0 nodes) whole.0.variables whole.0.declarations) (λ fs. Ok (record { entities = whole.0.entities; enums = whole.0.enums; variables = whole.0.variables; declarations = whole.0.declarations; parameters = nodes; formulas = fs })) r whole.2 in
+    let same : record { entities = whole.0.entities; enums = whole.0.enums; variables = whole.0.variables; declarations = whole.0.declarations; parameters = nodes; formulas = formulas.0 } ≡ r = cc in
+    subst DaysAndTextsHaveNoFormulas same (all_uncomputed (known whole.0 nodes) whole.0.variables whole.0.declarations (declared_beside ms whole.0 whole.1) formulas.0 formulas.1)

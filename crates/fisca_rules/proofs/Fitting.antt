@@ -7,12 +7,12 @@ use Rattle.fisca_attributes.specs.Values.{bad_attribute}
 use Rattle.fisca_names.specs.declared.fault.BuildFault.{BuildFault}
 use Rattle.fisca_names.specs.Names.{told_at}
 use Rattle.fisca_params.specs.Results.{and_then}
-use Rattle.fisca_syntax.specs.Modules.{Item, attribute, formula}
+use Rattle.fisca_ast.specs.Modules.{Item, attribute, formula}
 use Rattle.fisca_time.specs.Instant.{CivilDate}
-use Rattle.fisca_tokens.specs.declared.fault.Kind.{Kind}
-use Rattle.fisca_variables.specs.declared.declared.Declared.{Declared}
-use Rattle.fisca_variables.specs.Lines.{Before, nothing_before}
-use Rattle.fisca_variables.specs.VariableForms.{attribute_fits, has_attribute, if_allowed, may_have_formulas, same_day, starts_on}
+use Rattle.fisca_ast.specs.declared.fault.FormulaKind.{FormulaKind}
+use Rattle.fisca_declarations.specs.declared.declared.Declared.{Declared}
+use Rattle.fisca_declarations.specs.Lines.{Before, nothing_before}
+use Rattle.fisca_declarations.specs.VariableForms.{attribute_fits, has_attribute, if_allowed, may_have_formulas, same_day, starts_on}
 use Rattle.fisca_rules.specs.Build.{items_fit}
 use Rattle.fisca_rules.specs.Passes.{lines_fit}
 use Rattle.fisca_names.specs.Outcomes.{Tells}
@@ -75,7 +75,7 @@ before-formula earlier f = λ i. record { names = (names-more earlier (formula f
 
 -- what is right, and goes on
 
-goes-on : (place line : ℕ) (r : Result (Unit {0}) Kind) (b : Before) (next : Before → Result (Unit {0}) BuildFault) (rest : Result (Unit {0}) BuildFault) → rest ≡ next b
+goes-on : (place line : ℕ) (r : Result (Unit {0}) FormulaKind) (b : Before) (next : Before → Result (Unit {0}) BuildFault) (rest : Result (Unit {0}) BuildFault) → rest ≡ next b
     → and_then (told_at place line r) (λ _. rest) ≡ and_then (told_at place line (and_then r (λ _. Ok b))) next
 goes-on place line (Ok tt) b next rest e = e
 goes-on place line (Err k) b next rest e = refl

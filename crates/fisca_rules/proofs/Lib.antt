@@ -1,4 +1,5 @@
 pub mod Among
+mod Beside
 mod Built
 mod Defaults
 pub mod Each

@@ -6,33 +6,34 @@ use Rattle.fisca_attributes.specs.AttributeForms.{value_at, type_value, period_v
 use Rattle.fisca_attributes.specs.Values.{bad_attribute, name_value, needed}
 use Rattle.fisca_attributes.specs.declared.attributes.TypeName.{TypeName}
 use Rattle.fisca_attributes.specs.declared.attributes.TypeName.TheVariants as named
-use Rattle.fisca_rules.specs.Build.{Found, Whole, members_of, members_fit, enums_in, declared_in, found_from, statement_found, second_pass, variable_in, items_fit, with_entity, with_person, none_yet, tables_of}
-use Rattle.fisca_variables.specs.VariableForms.{Written, place_of_enum, or_unknown, enum_value, declared_type, default_or_none, entity_value, basics_of, told_of, formulas_of, variable_of}
-use Rattle.fisca_variables.specs.declared.basics.Basics.{Basics}
-use Rattle.fisca_variables.specs.declared.told.Told.{Told}
-use Rattle.fisca_variables.specs.declared.declared.Declared.{Declared}
-use Rattle.fisca_expressions.specs.Tree.{Tree}
-use Rattle.fisca_meaning.specs.Questions.{type_in}
-use Rattle.fisca_meaning.specs.Wellformed.{HasMembers}
+use Rattle.fisca_rules.specs.Build.{Found, Whole, members_of, members_fit, enums_in, declared_in, found_from, statement_found, second_pass, variable_in, items_fit, with_entity, with_variable, with_person, none_yet, tables_of}
+use Rattle.fisca_declarations.specs.VariableForms.{Written, place_of_enum, or_unknown, enum_value, declared_type, default_or_none, entity_value, basics_of, told_of, variable_by, declaration_by, variable_of}
+use Rattle.fisca_declarations.specs.declared.basics.Basics.{Basics}
+use Rattle.fisca_declarations.specs.declared.told.Told.{Told}
+use Rattle.fisca_declarations.specs.declared.declared.Declared.{Declared}
+use Rattle.fisca_ast.specs.Tree.{Tree}
+use Rattle.fisca_model.specs.Tables.{type_in}
+use Rattle.fisca_formula_semantics.specs.Wellformed.{HasMembers}
 use Rattle.fisca_names.specs.declared.fault.BuildFault.{BuildFault}
 use Rattle.fisca_names.specs.Names.{Placed, placed_from, names_from, fault_at, told_at}
 use Rattle.fisca_params.specs.Results.{and_then}
 use Rattle.fisca_params.specs.Tree.{TreeNode}
-use Rattle.fisca_rules.specs.Rules.{known, known_variable}
-use Rattle.fisca_syntax.proofs.Complete.{below_test}
-use Rattle.fisca_syntax.specs.Modules.{Item, Statement, entity, entities, choices, variable}
-use Rattle.fisca_tables.specs.KnownEnums.{choices as known_choices}
-use Rattle.fisca_tables.specs.KnownVariables.{value_type}
-use Rattle.fisca_tables.specs.declared.choices.Choices.{Choices}
-use Rattle.fisca_tables.specs.declared.entity.Entity.{Entity}
-use Rattle.fisca_tables.specs.declared.variable.DeclaredType.{DeclaredType}
-use Rattle.fisca_tables.specs.declared.variable.DeclaredType.TheVariants as type
-use Rattle.fisca_tables.specs.declared.variable.DefaultValue.{DefaultValue}
+use Rattle.fisca_rules.specs.Rules.{known}
+use Rattle.std.proofs.lemmas.Bool.{lt-ltb}
+use Rattle.fisca_ast.specs.Modules.{Item, Statement, entity, entities, choices, variable}
+use Rattle.fisca_symbols.specs.KnownEnums.{choices as known_choices}
+use Rattle.fisca_symbols.specs.KnownVariables.{value_type, variable as known_variable}
+use Rattle.fisca_symbols.specs.declared.choices.Choices.{Choices}
+use Rattle.fisca_symbols.specs.declared.entity.Entity.{Entity}
+use Rattle.fisca_symbols.specs.declared.variable.Variable.{Variable}
+use Rattle.fisca_symbols.specs.declared.variable.DeclaredType.{DeclaredType}
+use Rattle.fisca_symbols.specs.declared.variable.DeclaredType.TheVariants as type
+use Rattle.fisca_symbols.specs.declared.variable.DefaultValue.{DefaultValue}
 use Rattle.fisca_time.specs.declared.unit.Unit.{Unit as TimeUnit}
-use Rattle.fisca_tokens.specs.declared.fault.Kind.{Kind}
-use Rattle.fisca_tokens.specs.declared.fault.Kind.TheVariants as kind
-use Rattle.fisca_typing.specs.Tables.{members_of as members_of_known}
-use Rattle.fisca_typing.specs.declared.kinds.ValueType.TheVariants as vt
+use Rattle.fisca_ast.specs.declared.fault.FormulaKind.{FormulaKind}
+use Rattle.fisca_ast.specs.declared.fault.FormulaKind.TheVariants as kind
+use Rattle.fisca_model.specs.Tables.{members_of as members_of_known}
+use Rattle.fisca_model.specs.declared.value_type.ValueType.TheVariants as vt
 
 -- One step after another
 
@@ -43,7 +44,7 @@ then_ok (Err e) f y h = cc
 same_ok : {X E F : Type 0} {x y : X} → ◌≡◌ {A = Result X E} (Ok x) (Ok y) → ◌≡◌ {A = Result X F} (Ok x) (Ok y)
 same_ok {x = x} {y = y} h = let same : x ≡ y = cc in ap (λ z. Ok z) same
 
-pub told_ok : {X : Type 0} (place line : ℕ) (r : Result X Kind) (x : X) → told_at place line r ≡ Ok x → r ≡ Ok x
+pub told_ok : {X : Type 0} (place line : ℕ) (r : Result X FormulaKind) (x : X) → told_at place line r ≡ Ok x → r ≡ Ok x
 told_ok place line (Ok x) y h = same_ok h
 told_ok place line (Err k) y h = cc
 
@@ -53,7 +54,7 @@ abbrev AllHave : List Choices → Type 0
 AllHave [] = ⊤
 AllHave (e ∷ es) = (0 < length e.members) × AllHave es
 
-members_there : (xs : List (List ℕ × List ℕ)) → ◌≡◌ {A = Result (Unit {0}) Kind} (if (length xs == 0) || nat_lt 1000 (length xs) then bad_attribute else Ok tt) (Ok tt) → 0 < length xs
+members_there : (xs : List (List ℕ × List ℕ)) → ◌≡◌ {A = Result (Unit {0}) FormulaKind} (if (length xs == 0) || nat_lt 1000 (length xs) then bad_attribute else Ok tt) (Ok tt) → 0 < length xs
 members_there [] h = cc
 members_there (x ∷ xs) h = omega arith
 
@@ -112,17 +113,17 @@ declared_inside c named.Enum e d h =
     let same : type.Enum one.0 ≡ d = cc in
     subst (IsInside (length c.enums)) same (enum_inside c e one.0 one.1)
 
-value_ok : (place : ℕ) (d : DeclaredType) (period : TimeUnit) (b : Basics) (r : Result DefaultValue Kind) →
+value_ok : (place : ℕ) (d : DeclaredType) (period : TimeUnit) (b : Basics) (r : Result DefaultValue FormulaKind) →
     and_then r (λ v. Ok (record { entity = place; value_type = d; definition_period = period; default_value = v })) ≡ Ok b → d ≡ b.value_type
 value_ok place d period b (Ok v) h = let same : record { entity = place; value_type = d; definition_period = period; default_value = v } ≡ b = cc in ap (λ (x : Basics). x.value_type) same
 value_ok place d period b (Err k) h = cc
 
-declared_ok : (n place : ℕ) (period : TimeUnit) (b : Basics) (r : Result DeclaredType Kind) (value : DeclaredType → Result DefaultValue Kind) → ((d : DeclaredType) → r ≡ Ok d → IsInside n d) →
+declared_ok : (n place : ℕ) (period : TimeUnit) (b : Basics) (r : Result DeclaredType FormulaKind) (value : DeclaredType → Result DefaultValue FormulaKind) → ((d : DeclaredType) → r ≡ Ok d → IsInside n d) →
     and_then r (λ d. and_then (value d) (λ v. Ok (record { entity = place; value_type = d; definition_period = period; default_value = v }))) ≡ Ok b → IsInside n b.value_type
 declared_ok n place period b (Ok d) value inside h = subst (IsInside n) (value_ok place d period b (value d) h) (inside d refl)
 declared_ok n place period b (Err k) value inside h = cc
 
-basics_by : (c : Declared) (b : Basics) (types : Result TypeName Kind) (places : Result ℕ Kind) (periods : Result TimeUnit Kind) (values default : Option Tree) →
+basics_by : (c : Declared) (b : Basics) (types : Result TypeName FormulaKind) (places : Result ℕ FormulaKind) (periods : Result TimeUnit FormulaKind) (values default : Option Tree) →
     and_then types (λ t. and_then places (λ place. and_then periods (λ period. and_then (declared_type c t values) (λ d. and_then (default_or_none c t d default) (λ v.
     Ok (record { entity = place; value_type = d; definition_period = period; default_value = v })))))) ≡ Ok b → IsInside (length c.enums) b.value_type
 basics_by c b (Ok t) (Ok place) (Ok period) values default h =
@@ -136,63 +137,52 @@ basics_inside c xs b h =
     basics_by c b (needed type_value (value_at (codes "value_type") xs)) (needed (entity_value c) (value_at (codes "entity") xs)) (needed period_value (value_at (codes "definition_period") xs))
     (value_at (codes "possible_values") xs) (value_at (codes "default_value") xs) h
 
-made_ok : (n : ℕ) (v : Written) (basics : Result Basics Kind) (told : Result Told Kind) (make : Basics → Told → Written) → ((b : Basics) (s : Told) → b.value_type ≡ (make b s).value_type) →
-    ((b : Basics) → basics ≡ Ok b → IsInside n b.value_type) → and_then basics (λ b. and_then told (λ s. Ok (make b s))) ≡ Ok v → IsInside n v.value_type
-made_ok n v (Ok b) (Ok s) make keeps inside h = let same : make b s ≡ v = cc in subst (IsInside n) (keeps b s ∙ ap (λ (x : Written). x.value_type) same) (inside b refl)
+made_ok : (n : ℕ) (v : Variable × Written) (basics : Result Basics FormulaKind) (told : Result Told FormulaKind) (make : Basics → Told → Variable × Written) → ((b : Basics) (s : Told) → b.value_type ≡ (make b s).0.value_type) →
+    ((b : Basics) → basics ≡ Ok b → IsInside n b.value_type) → and_then basics (λ b. and_then told (λ s. Ok (make b s))) ≡ Ok v → IsInside n v.0.value_type
+made_ok n v (Ok b) (Ok s) make keeps inside h = let same : make b s ≡ v = cc in subst (IsInside n) (keeps b s ∙ ap (λ (x : Variable × Written). x.0.value_type) same) (inside b refl)
 made_ok n v (Ok b) (Err k) make keeps inside h = cc
 made_ok n v (Err k) told make keeps inside h = cc
 
-abbrev pub made : ℕ → ℕ → List ℕ → List Item → Basics → Told → Written
-made place line n xs basics told = record {
-  «module» = place;
-  line = line;
-  name = n;
-  entity = basics.entity;
-  value_type = basics.value_type;
-  definition_period = basics.definition_period;
-  default_value = basics.default_value;
-  end = told.end;
-  set_input = told.set_input;
-  label = told.label;
-  documentation = told.documentation;
-  unit = told.unit;
-  reference = told.reference;
-  formulas = formulas_of xs;
-}
+abbrev pub made : ℕ → ℕ → List ℕ → List Item → Basics → Told → Variable × Written
+made place line n xs basics told = (variable_by n basics told, declaration_by place line told xs)
 
-variable_inside : (c : Declared) (place line : ℕ) (n : List ℕ) (xs : List Item) (v : Written) → variable_of c place line n xs ≡ Ok v → IsInside (length c.enums) v.value_type
+variable_inside : (c : Declared) (place line : ℕ) (n : List ℕ) (xs : List Item) (v : Variable × Written) → variable_of c place line n xs ≡ Ok v → IsInside (length c.enums) v.0.value_type
 variable_inside c place line n xs v h = made_ok (length c.enums) v (basics_of c xs) (told_of xs) (made place line n xs) (λ b s. refl) (λ b e. basics_inside c xs b e) h
 
-abbrev AllInside : ℕ → List Written → Type 0
+abbrev AllInside : ℕ → List Variable → Type 0
 AllInside n [] = ⊤
 AllInside n (v ∷ vs) = IsInside n v.value_type × AllInside n vs
 
-inside_and : (n : ℕ) (vs : List Written) (v : Written) → AllInside n vs → IsInside n v.value_type → AllInside n (vs ++ v ∷ [])
+inside_and : (n : ℕ) (vs : List Variable) (v : Variable) → AllInside n vs → IsInside n v.value_type → AllInside n (vs ++ v ∷ [])
 inside_and n [] v h k = (k, tt)
 inside_and n (w ∷ vs) v h k = (h.0, inside_and n vs v h.1 k)
 
-pub unless_keeps : (b : Bool) (f x : Found) (es : List Entity) → ◌≡◌ {A = Result Found Kind} (if b then bad_attribute else Ok (record f { entities = es })) (Ok x) → f.variables ≡ x.variables
-unless_keeps true f x es q = cc
-unless_keeps false f x es q = let same : record f { entities = es } ≡ x = cc in ap (λ (g : Found). g.variables) same
+-- the variables and their declarations
+abbrev pub kept : Found → List Variable × List Written
+kept f = (f.variables, f.declarations)
 
-pub entity_keeps : (f x : Found) (o : Result Entity Kind) → and_then o (with_entity f) ≡ Ok x → f.variables ≡ x.variables
+pub unless_keeps : (b : Bool) (f x : Found) (es : List Entity) → ◌≡◌ {A = Result Found FormulaKind} (if b then bad_attribute else Ok (record f { entities = es })) (Ok x) → kept f ≡ kept x
+unless_keeps true f x es q = cc
+unless_keeps false f x es q = let same : record f { entities = es } ≡ x = cc in ap kept same
+
+pub entity_keeps : (f x : Found) (o : Result Entity FormulaKind) → and_then o (with_entity f) ≡ Ok x → kept f ≡ kept x
 entity_keeps f x o q = let one = then_ok o (with_entity f) x q in unless_keeps _ f x (f.entities ++ one.0 ∷ []) one.2
 
-pub same_found : {X : Type 0} (o : Result X BuildFault) (f x : Found) → and_then o (λ _. Ok f) ≡ Ok x → f.variables ≡ x.variables
-same_found o f x q = let one = then_ok o (λ _. Ok f) x q in let same : f ≡ x = cc in ap (λ (g : Found). g.variables) same
+pub same_found : {X : Type 0} (o : Result X BuildFault) (f x : Found) → and_then o (λ _. Ok f) ≡ Ok x → kept f ≡ kept x
+same_found o f x q = let one = then_ok o (λ _. Ok f) x q in let same : f ≡ x = cc in ap kept same
 
 variable_step : (c : Declared) (ps : List Placed) (f g : Found) (place : ℕ) (s : Statement) →
     ((x : Found) → found_from c x ps ≡ Ok g → AllInside (length c.enums) x.variables → AllInside (length c.enums) g.variables) →
     AllInside (length c.enums) f.variables → (x : Found) × (statement_found c f place s ≡ Ok x) × (found_from c x ps ≡ Ok g) → AllInside (length c.enums) g.variables
-variable_step c ps f g place (entity a) rest k t = rest t.0 t.2 (subst (AllInside (length c.enums)) (entity_keeps f t.0 _ (told_ok place a.line _ t.0 t.1)) k)
-variable_step c ps f g place (entities a) rest k t = rest t.0 t.2 (subst (AllInside (length c.enums)) (same_found _ f t.0 t.1) k)
-variable_step c ps f g place (choices line n ms) rest k t = rest t.0 t.2 (subst (AllInside (length c.enums)) (same_found _ f t.0 t.1) k)
+variable_step c ps f g place (entity a) rest k t = rest t.0 t.2 (subst (λ (p : List Variable × List Written). AllInside (length c.enums) p.0) (entity_keeps f t.0 _ (told_ok place a.line _ t.0 t.1)) k)
+variable_step c ps f g place (entities a) rest k t = rest t.0 t.2 (subst (λ (p : List Variable × List Written). AllInside (length c.enums) p.0) (same_found _ f t.0 t.1) k)
+variable_step c ps f g place (choices line n ms) rest k t = rest t.0 t.2 (subst (λ (p : List Variable × List Written). AllInside (length c.enums) p.0) (same_found _ f t.0 t.1) k)
 variable_step c ps f g place (variable line n xs) rest k t =
-    let one = then_ok (variable_in c place line n xs) (λ v. Ok (record f { variables = f.variables ++ v ∷ [] })) t.0 t.1 in
+    let one = then_ok (variable_in c place line n xs) (λ v. Ok (with_variable f v)) t.0 t.1 in
     let fits = then_ok (items_fit c place xs [] xs) (λ _. told_at place line (variable_of c place line n xs)) one.0 one.1 in
     let inside = variable_inside c place line n xs one.0 (told_ok place line _ one.0 fits.2) in
-    let same : record f { variables = f.variables ++ one.0 ∷ [] } ≡ t.0 = cc in
-    rest t.0 t.2 (subst (λ (x : Found). AllInside (length c.enums) x.variables) same (inside_and (length c.enums) f.variables one.0 k inside))
+    let same : with_variable f one.0 ≡ t.0 = cc in
+    rest t.0 t.2 (subst (λ (x : Found). AllInside (length c.enums) x.variables) same (inside_and (length c.enums) f.variables one.0.0 k inside))
 
 variables_inside : (c : Declared) (ps : List Placed) (f g : Found) → found_from c f ps ≡ Ok g → AllInside (length c.enums) f.variables → AllInside (length c.enums) g.variables
 variables_inside c [] f g h k = let same : f ≡ g = cc in subst (λ (x : Found). AllInside (length c.enums) x.variables) same k
@@ -202,7 +192,7 @@ variables_inside c (p ∷ ps) f g h k = variable_step c ps f g p.module p.statem
 
 members_known : (ms : List (List ℕ × List ℕ)) → 0 < length ms → nat_lt 0 (length (map (λ m. m.0) ms)) ≡ true
 members_known [] h = absurd (omega (arith, h))
-members_known (m ∷ ms) h = below_test 0 (length (map (λ m. m.0) (m ∷ ms))) (omega arith)
+members_known (m ∷ ms) h = lt-ltb 0 (length (map (λ m. m.0) (m ∷ ms))) (omega arith)
 
 enum_at : (es : List Choices) (e : ℕ) → e < length es → AllHave es → nat_lt 0 (length (members_of_known (slice_get (map known_choices es) e))) ≡ true
 enum_at [] e h k = absurd (omega (arith, h))
@@ -217,7 +207,7 @@ typed_inside n type.Date e k h = cc
 typed_inside n type.Text e k h = cc
 typed_inside n (type.Enum i) e k h = let same : i ≡ e = cc in subst (λ x. x < n) same k
 
-variable_at : (n : ℕ) (vs : List Written) (v e : ℕ) → AllInside n vs → type_in (slice_get (map known_variable vs) v) ≡ Some (vt.Enum e) → e < n
+variable_at : (n : ℕ) (vs : List Variable) (v e : ℕ) → AllInside n vs → type_in (slice_get (map known_variable vs) v) ≡ Some (vt.Enum e) → e < n
 variable_at n [] v e k h = cc
 variable_at n (w ∷ vs) zero e k h = typed_inside n w.value_type e k.0 h
 variable_at n (w ∷ vs) (suc v) e k h = variable_at n vs v e k.1 h
@@ -232,11 +222,11 @@ unfolding tables_of
 members_there_in ms w nodes h = λ v e t.
     let ps = placed_from 0 ms in
     let names = then_ok (names_from [] ps) (λ _. second_pass ps) w h in
-    let person = then_ok (and_then (found_from (declared_in ps) none_yet ps) with_person) (λ f. Ok (record { entities = f.entities; enums = enums_in ps; variables = f.variables })) w names.2 in
+    let person = then_ok (and_then (found_from (declared_in ps) none_yet ps) with_person) (λ f. Ok (record { entities = f.entities; enums = enums_in ps; variables = f.variables; declarations = f.declarations })) w names.2 in
     let found = then_ok (found_from (declared_in ps) none_yet ps) with_person person.0 person.1 in
-    let kept : found.0 ≡ person.0 = person_keeps _ found.0 person.0 found.2 in
-    let same : record { entities = person.0.entities; enums = enums_in ps; variables = person.0.variables } ≡ w = cc in
-    let inside : AllInside (length (enums_in ps)) person.0.variables = subst (λ (x : Found). AllInside (length (enums_in ps)) x.variables) kept (variables_inside (declared_in ps) ps none_yet found.0 found.1 tt) in
+    let same_person : found.0 ≡ person.0 = person_keeps _ found.0 person.0 found.2 in
+    let same : record { entities = person.0.entities; enums = enums_in ps; variables = person.0.variables; declarations = person.0.declarations } ≡ w = cc in
+    let inside : AllInside (length (enums_in ps)) person.0.variables = subst (λ (x : Found). AllInside (length (enums_in ps)) x.variables) same_person (variables_inside (declared_in ps) ps none_yet found.0 found.1 tt) in
     let have : AllHave (enums_in ps) = enums_there (declared_in ps) ps none_yet found.0 found.1 in
     enum_at w.enums e
     (variable_at (length w.enums) w.variables v e (subst (λ (x : Whole). AllInside (length x.enums) x.variables) same inside) t)

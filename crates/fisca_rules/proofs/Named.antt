@@ -2,10 +2,9 @@
 use Rattle.std.proofs.Common.{◌≡◌, ℕ, ◌+◌, suc, List, [], ◌∷◌, map, Bool, true, false, cond, Some, option_map, refl, ap, add-one}
 use Rattle.std.specs.List.{position_from}
 use Rattle.std.specs.Str.{bytes_eq}
-use Rattle.fisca_typing.specs.Tables.{first_where}
-use Rattle.fisca_tables.specs.KnownVariables.{variable}
-use Rattle.fisca_tables.specs.declared.variable.Variable.{Variable}
-use Rattle.fisca_variables.specs.VariableForms.{written}
+use Rattle.fisca_model.specs.Tables.{first_where}
+use Rattle.fisca_symbols.specs.KnownVariables.{variable}
+use Rattle.fisca_symbols.specs.declared.variable.Variable.{Variable}
 
 -- the place of the first
 pub place_of_first : {X : Type 0} (is : X → Bool) (i : ℕ) (xs : List X) → option_map (λ p. p.0) (first_where is i xs) ≡ position_from is i xs
@@ -19,6 +18,6 @@ place_of_first {X} is i (x ∷ xs) = by (is x) (place_of_first is (suc i) xs)
 
 -- a variable is found by its name, however it is seen
 pub place_of_name : (t : List ℕ) (i : ℕ) (vs : List Variable) →
-    position_from (λ v. bytes_eq v.name t) i (map variable vs) ≡ position_from (λ v. bytes_eq v.name t) i (map written vs)
+    position_from (λ v. bytes_eq v.name t) i (map variable vs) ≡ position_from (λ v. bytes_eq v.name t) i vs
 place_of_name t i [] = refl
 place_of_name t i (v ∷ vs) = ap (λ later. cond (bytes_eq v.name t) (Some i) later) (place_of_name t (i + 1) vs)

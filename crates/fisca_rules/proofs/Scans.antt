@@ -1,7 +1,7 @@
 -- What modules declare, statement by statement and module by module.
 use Rattle.std.proofs.Common.{◌≡◌, ◌∙◌, sym, ap, refl, ℕ, suc, List, [], ◌∷◌, ◌++◌, append_assoc}
 use Rattle.fisca_names.specs.Names.{Placed, placed_from, placed_in}
-use Rattle.fisca_syntax.specs.Modules.{Statement}
+use Rattle.fisca_ast.specs.Modules.{Statement}
 use Rattle.fisca_rules.specs.Build.{constant_of, constants_in, enum_of, enums_in}
 use Rattle.fisca_rules.specs.Scans.{all_constants, all_enums, constants_of, enums_of}
 

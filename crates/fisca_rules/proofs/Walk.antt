@@ -7,8 +7,10 @@ use Rattle.fisca_names.specs.Seen.{TellsOne}
 use Rattle.fisca_names.specs.declared.fault.BuildFault.{BuildFault}
 use Rattle.fisca_names.specs.declared.seen.Seen.{Seen}
 use Rattle.fisca_params.specs.Results.{and_then}
-use Rattle.fisca_syntax.specs.Modules.{Statement}
-use Rattle.fisca_variables.specs.declared.declared.Declared.{Declared}
+use Rattle.fisca_ast.specs.Modules.{Statement}
+use Rattle.fisca_symbols.specs.declared.entity.Entity.{Entity}
+use Rattle.fisca_symbols.specs.declared.variable.Variable.{Variable}
+use Rattle.fisca_declarations.specs.declared.declared.Declared.{Declared}
 use Rattle.fisca_rules.specs.declared.found.Found.{Found as Held}
 use Rattle.fisca_rules.specs.Build.{Found, Whole as Tables, declared_by, declared_in, enums_in, found_from, none_yet, statement_found, with_person}
 use Rattle.fisca_rules.specs.FoundViews.{found}
@@ -61,9 +63,13 @@ abbrev pub both : Declared → List Placed → Whole
 both c ps = and_then (names_from [] ps) (λ _. and_then (found_from c none_yet ps) with_person)
 
 abbrev tables : List Placed → Found → Result Tables BuildFault
-tables ps f = Ok (record { entities = f.entities; enums = enums_in ps; variables = f.variables })
+tables ps f = Ok (record { entities = f.entities; enums = enums_in ps; variables = f.variables; declarations = f.declarations })
 
 pub declared_same : (c : Declared) (ps : List Placed) (outcome : Whole) → c ≡ declared_in ps → both c ps ≡ outcome → declared_by ps ≡ and_then outcome (tables ps)
 declared_same c ps outcome d e =
     with_tables (names_from [] ps) (and_then (found_from (declared_in ps) none_yet ps) with_person) (tables ps)
     ∙ ap (λ k. and_then (both k ps) (tables ps)) (sym d) ∙ ap (λ o. and_then o (tables ps)) e
+
+-- what both passes find, kept under other names
+pub declared_whole : (c : Declared) (ps : List Placed) (f : Found) (es : List Entity) (vs : List Variable) → c ≡ declared_in ps → both c ps ≡ Ok f → es ≡ f.entities → vs ≡ f.variables → declared_by ps ≡ Ok (record { entities = es; enums = c.enums; variables = vs; declarations = f.declarations })
+declared_whole c ps f es vs d e p q = declared_same c ps (Ok f) d e ∙ (λ i. Ok (record { entities = sym p i; enums = (sym d i).enums; variables = sym q i; declarations = f.declarations }))

@@ -1,20 +1,20 @@
 -- What modules declare, beside the sentences of the language.
 use Rattle.std.proofs.Common.{◌≡◌, ℕ, List, [], ◌∷◌, ◌++◌, map, refl}
 use Rattle.std.specs.Prelude.{Option, Some, None, Result, Ok, Err, codes}
-use Rattle.fisca_expressions.specs.declared.tree.Bracket.TheVariants as bracket
-use Rattle.fisca_expressions.specs.declared.tree.Suffix.TheVariants as suffix
-use Rattle.fisca_expressions.specs.Tree.{Tree, Series, Argument, name, number, text, bracketed, attribute as dotted, applied, nothing, last, next, positional, keyword, entry}
-use Rattle.fisca_expressions.specs.Words.{is_keyword}
+use Rattle.fisca_ast.specs.declared.tree.Bracket.TheVariants as bracket
+use Rattle.fisca_ast.specs.declared.tree.Suffix.TheVariants as suffix
+use Rattle.fisca_ast.specs.Tree.{Tree, Series, Argument, name, number, text, bracketed, attribute as dotted, applied, nothing, last, next, positional, keyword, entry}
+use Rattle.fisca_ast.specs.Words.{is_keyword}
 use Rattle.fisca_num.specs.Literal.{number_of_literal}
-use Rattle.fisca_syntax.specs.Modules.{Item, attribute, formula, Statement, entity, entities, choices, variable}
-use Rattle.fisca_tokens.specs.declared.fault.Kind.{Kind}
-use Rattle.fisca_tokens.specs.declared.fault.Kind.TheVariants as kind
-use Rattle.fisca_typing.specs.Texts.{said_within}
+use Rattle.fisca_ast.specs.Modules.{Item, attribute, formula, Statement, entity, entities, choices, variable}
+use Rattle.fisca_ast.specs.declared.fault.FormulaKind.{FormulaKind}
+use Rattle.fisca_ast.specs.declared.fault.FormulaKind.TheVariants as kind
+use Rattle.fisca_ast.specs.Contents.{said_within}
 use Rattle.fisca_names.specs.declared.fault.BuildFault.{BuildFault}
 use Rattle.fisca_rules.specs.Build.{Whole, tables_of}
 use Rattle.fisca_attributes.specs.Values.{truth_of}
 use Rattle.fisca_attributes.specs.AttributeForms.{type_named, period_named, sharing_named}
-use Rattle.fisca_variables.specs.VariableForms.{attribute_fits, told_fits}
+use Rattle.fisca_declarations.specs.VariableForms.{attribute_fits, told_fits}
 
 abbrev fault_in : Result Whole BuildFault → Option BuildFault
 fault_in (Ok w) = None
@@ -24,7 +24,7 @@ fault_in (Err f) = Some f
 abbrev told : List (List Statement) → Option BuildFault
 told ms = fault_in (tables_of ms)
 
-abbrev at : ℕ → ℕ → Kind → Option BuildFault
+abbrev at : ℕ → ℕ → FormulaKind → Option BuildFault
 at place line k = Some (record { «module» = place; line = line; kind = k })
 
 abbrev row : List Argument → Series

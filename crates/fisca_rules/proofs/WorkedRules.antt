@@ -3,18 +3,18 @@ use Rattle.std.proofs.Common.{◌≡◌, ℕ, List, [], ◌∷◌, ◌++◌, ref
 use Rattle.std.specs.Prelude.{Option, Some, None, Result, Ok, Err, codes}
 use Rattle.fisca_attributes.specs.AttributeForms.{type_named, period_named}
 use Rattle.fisca_attributes.specs.Values.{truth_of}
-use Rattle.fisca_expressions.specs.Tree.{Tree, name, text, applied, last, next, keyword}
-use Rattle.fisca_expressions.specs.Words.{is_keyword}
-use Rattle.fisca_expressions.specs.declared.tree.Suffix.TheVariants as suffix
+use Rattle.fisca_ast.specs.Tree.{Tree, name, text, applied, last, next, keyword}
+use Rattle.fisca_ast.specs.Words.{is_keyword}
+use Rattle.fisca_ast.specs.declared.tree.Suffix.TheVariants as suffix
 use Rattle.fisca_names.specs.declared.fault.BuildFault.{BuildFault}
 use Rattle.fisca_rules.specs.Rules.{Rules, dated_of, formulas_of, rules_of}
 use Rattle.fisca_rules.specs.Build.{tables_of}
-use Rattle.fisca_syntax.specs.Modules.{Assigned, Item, attribute, formula, Statement, entity, variable}
-use Rattle.fisca_tokens.specs.declared.fault.Kind.{Kind}
-use Rattle.fisca_tokens.specs.declared.fault.Kind.TheVariants as kind
+use Rattle.fisca_ast.specs.Modules.{Assigned, Item, attribute, formula, Statement, entity, variable}
+use Rattle.fisca_ast.specs.declared.fault.FormulaKind.{FormulaKind}
+use Rattle.fisca_ast.specs.declared.fault.FormulaKind.TheVariants as kind
 use Rattle.fisca_typing.specs.Names.{known_word}
-use Rattle.fisca_typing.specs.Texts.{said_within}
-use Rattle.fisca_variables.specs.VariableForms.{attribute_fits, told_fits}
+use Rattle.fisca_ast.specs.Contents.{said_within}
+use Rattle.fisca_declarations.specs.VariableForms.{attribute_fits, told_fits}
 
 abbrev fault_in : Result Rules BuildFault → Option BuildFault
 fault_in (Ok r) = None
@@ -23,7 +23,7 @@ fault_in (Err f) = Some f
 abbrev told : List (List Statement) → Option BuildFault
 told ms = fault_in (rules_of [] ms)
 
-abbrev at : ℕ → ℕ → Kind → Option BuildFault
+abbrev at : ℕ → ℕ → FormulaKind → Option BuildFault
 at place line k = Some (record { «module» = place; line = line; kind = k })
 
 abbrev quoted : List ℕ → Tree

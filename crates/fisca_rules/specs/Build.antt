@@ -1,23 +1,24 @@
 -- What the modules of a rule set declare, or their first fault: names first, then attributes.
 use Rattle.std.specs.Prelude.{ℕ, List, [], ◌∷◌, ◌++◌, length, Bool, true, false, ◌==◌, ◌||◌, nat_lt, if◌then◌else◌, Result, Ok}
 use Rattle.std.specs.List.{list_any}
-use Rattle.fisca_expressions.specs.Groups.{bare}
-use Rattle.fisca_expressions.specs.Tree.{Tree, Argument, bracketed, positional, keyword, entry, name}
+use Rattle.fisca_ast.specs.Groups.{bare}
+use Rattle.fisca_ast.specs.Tree.{Tree, Argument, bracketed, positional, keyword, entry, name}
 use Rattle.fisca_params.specs.Results.{and_then}
-use Rattle.fisca_syntax.specs.declared.module.Member.{Member}
-use Rattle.fisca_syntax.specs.Modules.{Assigned, Item, attribute, formula, Statement, entity, entities, choices, variable}
-use Rattle.fisca_tokens.specs.declared.fault.Kind.{Kind}
-use Rattle.fisca_tokens.specs.declared.fault.Kind.TheVariants as kind
-use Rattle.fisca_typing.specs.Texts.{content}
-use Rattle.fisca_tables.specs.declared.choices.Choices.{Choices}
-use Rattle.fisca_tables.specs.declared.entity.Entity.{Entity}
+use Rattle.fisca_ast.specs.declared.module.Member.{Member}
+use Rattle.fisca_ast.specs.Modules.{Assigned, Item, attribute, formula, Statement, entity, entities, choices, variable}
+use Rattle.fisca_ast.specs.declared.fault.FormulaKind.{FormulaKind}
+use Rattle.fisca_ast.specs.declared.fault.FormulaKind.TheVariants as kind
+use Rattle.fisca_ast.specs.Contents.{content}
+use Rattle.fisca_symbols.specs.declared.choices.Choices.{Choices}
+use Rattle.fisca_symbols.specs.declared.entity.Entity.{Entity}
+use Rattle.fisca_symbols.specs.declared.variable.Variable.{Variable}
 use Rattle.fisca_names.specs.declared.fault.BuildFault.{BuildFault}
 use Rattle.fisca_names.specs.Clashes.{is_order}
 use Rattle.fisca_names.specs.Names.{Placed, placed_from, fault_at, told_at, names_from}
 use Rattle.fisca_attributes.specs.EntityForms.{entity_of}
 use Rattle.fisca_attributes.specs.Values.{bad_attribute, items, is_among}
-use Rattle.fisca_variables.specs.declared.declared.Declared.{Declared}
-use Rattle.fisca_variables.specs.VariableForms.{Written, unknown_name, item_fits, variable_of}
+use Rattle.fisca_declarations.specs.declared.declared.Declared.{Declared}
+use Rattle.fisca_declarations.specs.VariableForms.{Written, unknown_name, item_fits, variable_of}
 
 -- What is declared anywhere
 
@@ -53,13 +54,14 @@ declared_in ps = record { constants = constants_in ps; enums = enums_in ps }
 -- what was declared so far
 pub record Found : Type 0 where
   pub entities : List Entity
-  pub variables : List Written
+  pub variables : List Variable
+  pub declarations : List Written
 
 abbrev pub has_person : List Entity → Bool
 has_person es = list_any (λ e. e.is_person) es
 
 -- just one entity is the persons
-abbrev pub with_entity : Found → Entity → Result Found Kind
+abbrev pub with_entity : Found → Entity → Result Found FormulaKind
 with_entity f e = if and_both e.is_person (has_person f.entities) then bad_attribute else Ok (record f { entities = f.entities ++ e ∷ [] }) where
   and_both : Bool → Bool → Bool
   and_both true b = b
@@ -87,11 +89,11 @@ abbrev pub listed_in : Tree → List Argument
 listed_in e = listed_within (bare e)
 
 -- `entities = [NAME, ..]`
-abbrev pub entities_fit : Declared → Assigned → Result (Unit {0}) Kind
+abbrev pub entities_fit : Declared → Assigned → Result (Unit {0}) FormulaKind
 entities_fit c a = if all_known c (listed_in a.value) then Ok tt else unknown_name
 
 -- from 1 to 1,000 members
-abbrev pub members_fit : List Member → Result (Unit {0}) Kind
+abbrev pub members_fit : List Member → Result (Unit {0}) FormulaKind
 members_fit ms = if (length (members_of ms) == 0) || nat_lt 1000 (length (members_of ms)) then bad_attribute else Ok tt
 
 abbrev pub line_of_item : Item → ℕ
@@ -103,13 +105,16 @@ items_fit c place all earlier [] = Ok tt
 items_fit c place all earlier (x ∷ xs) =
     and_then (told_at place (line_of_item x) (item_fits c all earlier x)) (λ _. items_fit c place all (earlier ++ x ∷ []) xs)
 
--- a variable: its lines from top to bottom, and then what is missing
-abbrev pub variable_in : Declared → ℕ → ℕ → List ℕ → List Item → Result Written BuildFault
+-- a variable and its declaration: its lines from top to bottom, and then what is missing
+abbrev pub variable_in : Declared → ℕ → ℕ → List ℕ → List Item → Result (Variable × Written) BuildFault
 variable_in c place line n xs =
     and_then (items_fit c place xs [] xs) (λ _. told_at place line (variable_of c place line n xs))
 
-abbrev pub behind_variable : Found → Result Written BuildFault → Result Found BuildFault
-behind_variable f r = and_then r (λ v. Ok (record f { variables = f.variables ++ v ∷ [] }))
+abbrev pub with_variable : Found → Variable × Written → Found
+with_variable f p = record f { variables = f.variables ++ p.0 ∷ []; declarations = f.declarations ++ p.1 ∷ [] }
+
+abbrev pub behind_variable : Found → Result (Variable × Written) BuildFault → Result Found BuildFault
+behind_variable f r = and_then r (λ p. Ok (with_variable f p))
 
 abbrev pub statement_found : Declared → Found → ℕ → Statement → Result Found BuildFault
 statement_found c f place (entity a) = told_at place a.line (and_then (entity_of a) (with_entity f))
@@ -130,16 +135,17 @@ with_person f = if has_person f.entities then Ok f else fault_at 0 1 kind.BadAtt
 pub record Whole : Type 0 where
   pub entities : List Entity
   pub enums : List Choices
-  pub variables : List Written
+  pub variables : List Variable
+  pub declarations : List Written
 
 abbrev pub none_yet : Found
-none_yet = record { entities = []; variables = [] }
+none_yet = record { entities = []; variables = []; declarations = [] }
 
 -- the second pass, which ends with the persons
 abbrev pub second_pass : List Placed → Result Whole BuildFault
 second_pass ps =
     and_then (and_then (found_from (declared_in ps) none_yet ps) with_person) (λ f.
-    Ok (record { entities = f.entities; enums = enums_in ps; variables = f.variables }))
+    Ok (record { entities = f.entities; enums = enums_in ps; variables = f.variables; declarations = f.declarations }))
 
 abbrev pub declared_by : List Placed → Result Whole BuildFault
 declared_by ps = and_then (names_from [] ps) (λ _. second_pass ps)

@@ -1,8 +1,8 @@
 -- Where the names of a rule set lead.
 use Rattle.std.specs.Prelude.{ℕ, List, Bool, ◌||◌, Option}
 use Rattle.std.specs.Str.{bytes_eq}
-use Rattle.fisca_tables.specs.declared.entity.Entity.{Entity}
-use Rattle.fisca_typing.specs.Tables.{place_in}
+use Rattle.fisca_symbols.specs.declared.entity.Entity.{Entity}
+use Rattle.fisca_model.specs.Tables.{place_in}
 use Rattle.fisca_rules.specs.Rules.{Rules}
 
 -- the place of the variable of this name

@@ -1,11 +1,11 @@
 -- The second pass, line by line.
 use Rattle.std.specs.Prelude.{ℕ, List, [], ◌∷◌, Bool, Result, Ok}
 use Rattle.fisca_params.specs.Results.{and_then}
-use Rattle.fisca_syntax.specs.Modules.{Item}
+use Rattle.fisca_ast.specs.Modules.{Item}
 use Rattle.fisca_names.specs.declared.fault.BuildFault.{BuildFault}
 use Rattle.fisca_names.specs.Names.{told_at}
-use Rattle.fisca_variables.specs.declared.declared.Declared.{Declared}
-use Rattle.fisca_variables.specs.Lines.{Before, behind_line}
+use Rattle.fisca_declarations.specs.declared.declared.Declared.{Declared}
+use Rattle.fisca_declarations.specs.Lines.{Before, behind_line}
 use Rattle.fisca_rules.specs.Build.{line_of_item}
 
 -- the lines of a variable, each behind those before it

@@ -1,30 +1,28 @@
 -- Rule sets: what modules declare beside parameters, with typed formulas, or the first fault: names, then attributes and entities, then formulas.
-use Rattle.std.specs.Prelude.{ℕ, List, [], ◌∷◌, map, slice_get, Option, Some, None, Result, Ok, Err}
+use Rattle.std.specs.Prelude.{ℕ, List, [], ◌∷◌, map, zip, slice_get, Option, Some, None, Result, Ok, Err}
 use Rattle.fisca_params.specs.Results.{and_then}
 use Rattle.fisca_params.specs.Tree.{TreeNode}
-use Rattle.fisca_syntax.specs.Modules.{Assigned, Formula, Statement}
+use Rattle.fisca_ast.specs.Modules.{Assigned, Formula, Statement}
 use Rattle.fisca_time.specs.Instant.{CivilDate}
-use Rattle.fisca_tables.specs.KnownEntities.{entity}
-use Rattle.fisca_tables.specs.KnownEnums.{choices}
-use Rattle.fisca_tables.specs.KnownVariables.{value_type}
-use Rattle.fisca_tables.specs.declared.choices.Choices.{Choices}
-use Rattle.fisca_tables.specs.declared.entity.Entity.{Entity}
-use Rattle.fisca_typing.specs.declared.kinds.ValueType.{ValueType}
+use Rattle.fisca_symbols.specs.KnownEntities.{entity}
+use Rattle.fisca_symbols.specs.KnownEnums.{choices}
+use Rattle.fisca_symbols.specs.KnownVariables.{value_type, variable}
+use Rattle.fisca_symbols.specs.declared.choices.Choices.{Choices}
+use Rattle.fisca_symbols.specs.declared.entity.Entity.{Entity}
+use Rattle.fisca_symbols.specs.declared.variable.Variable.{Variable}
+use Rattle.fisca_model.specs.declared.value_type.ValueType.{ValueType}
 use Rattle.fisca_typing.specs.Formulas as typing
 use Rattle.fisca_typing.specs.Names.{Names}
-use Rattle.fisca_typing.specs.Tables.{Tables, Variable}
+use Rattle.fisca_model.specs.Tables.{Tables}
 use Rattle.fisca_names.specs.declared.fault.BuildFault.{BuildFault}
 use Rattle.fisca_names.specs.Names.{fault_at}
 use Rattle.fisca_rules.specs.Build.{Whole, tables_of}
-use Rattle.fisca_variables.specs.VariableForms.{Written}
+use Rattle.fisca_declarations.specs.VariableForms.{Written}
 
 -- What formulas may name
 
-abbrev pub known_variable : Written → Variable
-known_variable v = record { name = v.name; entity = v.entity; value_type = value_type v.value_type; definition_period = v.definition_period }
-
 abbrev pub known : Whole → List TreeNode → Tables
-known w nodes = record { entities = map entity w.entities; enums = map choices w.enums; variables = map known_variable w.variables; nodes = nodes }
+known w nodes = record { entities = map entity w.entities; enums = map choices w.enums; variables = map variable w.variables; nodes = nodes }
 
 -- Third pass: formulas
 
@@ -71,32 +69,37 @@ all_of make [] = Ok []
 all_of make (x ∷ xs) = and_then (make x) (λ y. and_then (all_of make xs) (λ ys. Ok (y ∷ ys)))
 
 -- days and texts have no formulas
-abbrev pub formulas_by : Tables → Written → Option ValueType → Result (List Dated) BuildFault
-formulas_by c v None = Ok []
-formulas_by c v (Some t) = all_of (dated_of c v.module v.entity t) v.formulas
+abbrev pub formulas_by : Tables → ℕ → Written → Option ValueType → Result (List Dated) BuildFault
+formulas_by c entity d None = Ok []
+formulas_by c entity d (Some t) = all_of (dated_of c d.module entity t) d.formulas
 
--- the formulas of a variable, or its first fault
-unfoldable pub formulas_of : Tables → Written → Result (List Dated) BuildFault
-formulas_of c v = formulas_by c v (value_type v.value_type)
+-- the formulas of a variable of this declaration, or its first fault
+unfoldable pub formulas_of : Tables → Variable × Written → Result (List Dated) BuildFault
+formulas_of c p = formulas_by c p.0.entity p.1 (value_type p.0.value_type)
+
+-- the formulas of each variable, with its declaration beside it
+abbrev pub all_formulas : Tables → List Variable → List Written → Result (List (List Dated)) BuildFault
+all_formulas c vs ds = all_of (formulas_of c) (zip vs ds)
 
 -- All passes
 
--- what is declared, the parameters, and the typed formulas of each variable
+-- what is declared, with the declaration of each variable, the parameters, and the typed formulas of each variable
 pub record Rules : Type 0 where
   pub entities : List Entity
   pub enums : List Choices
-  pub variables : List Written
+  pub variables : List Variable
+  pub declarations : List Written
   pub parameters : List TreeNode
   pub formulas : List (List Dated)
 
 -- what its formulas may name
 abbrev pub known_by : Rules → Tables
-known_by r = known (record { entities = r.entities; enums = r.enums; variables = r.variables }) r.parameters
+known_by r = known (record { entities = r.entities; enums = r.enums; variables = r.variables; declarations = r.declarations }) r.parameters
 
 abbrev pub with_formulas : List TreeNode → Whole → Result Rules BuildFault
 with_formulas nodes w =
-    and_then (all_of (formulas_of (known w nodes)) w.variables) (λ fs.
-    Ok (record { entities = w.entities; enums = w.enums; variables = w.variables; parameters = nodes; formulas = fs }))
+    and_then (all_formulas (known w nodes) w.variables w.declarations) (λ fs.
+    Ok (record { entities = w.entities; enums = w.enums; variables = w.variables; declarations = w.declarations; parameters = nodes; formulas = fs }))
 
 -- the rule set that modules make beside parameters, or its first fault
 unfoldable pub rules_of : List TreeNode → List (List Statement) → Result Rules BuildFault

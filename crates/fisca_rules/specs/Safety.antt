@@ -1,30 +1,31 @@
 -- Rule sets whose formulas are never stuck, and whose defaults are of their types.
 use Rattle.std.specs.Prelude.{◌≡◌, ⊤, ℕ, List, [], ◌∷◌, length, nat_lt, slice_get, Bool, true, false, Some, None}
-use Rattle.fisca_meaning.specs.Meaning.{formula_means}
-use Rattle.fisca_meaning.specs.Questions.{Groups, Point}
-use Rattle.fisca_meaning.specs.Safe.{IsSafe}
-use Rattle.fisca_meaning.specs.Wellformed.{before_cast}
-use Rattle.fisca_tables.specs.KnownVariables.{value_type}
-use Rattle.fisca_tables.specs.declared.variable.DeclaredType.{DeclaredType}
-use Rattle.fisca_tables.specs.declared.variable.DeclaredType.TheVariants as type
-use Rattle.fisca_tables.specs.declared.variable.DefaultValue.{DefaultValue}
-use Rattle.fisca_tables.specs.declared.variable.DefaultValue.TheVariants as default
-use Rattle.fisca_typing.specs.declared.kinds.ValueType.{ValueType}
-use Rattle.fisca_typing.specs.Tables.{Choices, Tables, members_of}
-use Rattle.fisca_variables.specs.VariableForms.{Written, is_int}
+use Rattle.fisca_formula_semantics.specs.Meaning.{formula_means}
+use Rattle.fisca_model.specs.Groups.{Groups, Point}
+use Rattle.fisca_formula_semantics.specs.Safe.{IsSafe}
+use Rattle.fisca_formula_semantics.specs.Wellformed.{before_cast}
+use Rattle.fisca_symbols.specs.KnownVariables.{value_type}
+use Rattle.fisca_symbols.specs.declared.variable.DeclaredType.{DeclaredType}
+use Rattle.fisca_symbols.specs.declared.variable.DeclaredType.TheVariants as type
+use Rattle.fisca_symbols.specs.declared.variable.DefaultValue.{DefaultValue}
+use Rattle.fisca_symbols.specs.declared.variable.DefaultValue.TheVariants as default
+use Rattle.fisca_symbols.specs.declared.variable.Variable.{Variable}
+use Rattle.fisca_model.specs.declared.value_type.ValueType.{ValueType}
+use Rattle.fisca_model.specs.Tables.{Choices, Tables, members_of}
+use Rattle.fisca_declarations.specs.VariableForms.{is_int}
 use Rattle.fisca_rules.specs.Rules.{Dated, Rules, known_by}
 
 -- As long as its questions are answered by values of the variables' types, a formula of this variable gives a value of its type, before
 -- that is cast, or tells a fault.
-abbrev pub IsNeverStuck : Tables → Written → Dated → Type 0
+abbrev pub IsNeverStuck : Tables → Variable → Dated → Type 0
 IsNeverStuck c v d = (groups : Groups) (t : ValueType) → value_type v.value_type ≡ Some t → (p : Point) → IsSafe c (before_cast t) (formula_means c groups d.formula p)
 
-abbrev pub AllNeverStuck : Tables → Written → List Dated → Type 0
+abbrev pub AllNeverStuck : Tables → Variable → List Dated → Type 0
 AllNeverStuck c v [] = ⊤
 AllNeverStuck c v (d ∷ ds) = IsNeverStuck c v d × AllNeverStuck c v ds
 
 -- each variable has its formulas beside it
-abbrev pub EachNeverStuck : Tables → List Written → List (List Dated) → Type 0
+abbrev pub EachNeverStuck : Tables → List Variable → List (List Dated) → Type 0
 EachNeverStuck c [] [] = ⊤
 EachNeverStuck c [] (ds ∷ more) = ⊥
 EachNeverStuck c (v ∷ vs) [] = ⊥
@@ -88,7 +89,7 @@ is_default es type.Date d = is_date d
 is_default es type.Text d = is_text d
 is_default es (type.Enum e) d = is_member (length (members_of (slice_get es e))) d
 
-abbrev pub AllDefaultsFit : List Choices → List Written → Type 0
+abbrev pub AllDefaultsFit : List Choices → List Variable → Type 0
 AllDefaultsFit es [] = ⊤
 AllDefaultsFit es (v ∷ vs) = (is_default es v.value_type v.default_value ≡ true) × AllDefaultsFit es vs
 
@@ -98,7 +99,7 @@ DefaultsFit r = AllDefaultsFit (known_by r).enums r.variables
 -- Days and texts
 
 -- what no formula works out has none
-abbrev pub AreUncomputed : List Written → List (List Dated) → Type 0
+abbrev pub AreUncomputed : List Variable → List (List Dated) → Type 0
 AreUncomputed [] [] = ⊤
 AreUncomputed [] (ds ∷ more) = ⊥
 AreUncomputed (v ∷ vs) [] = ⊥

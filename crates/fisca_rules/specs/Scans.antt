@@ -1,7 +1,7 @@
 -- What modules declare, module by module.
 use Rattle.std.specs.Prelude.{ℕ, List, [], ◌∷◌, ◌++◌}
-use Rattle.fisca_syntax.specs.Modules.{Statement}
-use Rattle.fisca_tables.specs.declared.choices.Choices.{Choices}
+use Rattle.fisca_ast.specs.Modules.{Statement}
+use Rattle.fisca_symbols.specs.declared.choices.Choices.{Choices}
 use Rattle.fisca_rules.specs.Build.{constant_of, enum_of}
 
 abbrev pub constants_of : List Statement → List (List ℕ)

@@ -1,7 +1,7 @@
 -- The rule sets of the definition that those in memory stand for.
 use Rattle.std.specs.Prelude.{map}
-use Rattle.fisca_formula.specs.Formulas.{formula_view}
-use Rattle.fisca_variables.specs.VariableForms.{written}
+use Rattle.fisca_check.specs.Formulas.{formula_view}
+use Rattle.fisca_declarations.specs.VariableForms.{written}
 use Rattle.fisca_rules.specs.declared.dated.Dated.{Dated}
 use Rattle.fisca_rules.specs.declared.rule_set.RuleSet.{RuleSet}
 use Rattle.fisca_rules.specs.Rules as rules
@@ -14,7 +14,8 @@ abbrev pub rule_set : RuleSet → rules.Rules
 rule_set r = record {
   entities = r.tables.entities;
   enums = r.tables.enums;
-  variables = map written r.tables.variables;
+  variables = r.tables.variables;
+  declarations = map written r.declarations.items;
   parameters = r.tables.parameters;
   formulas = map (λ gs. map dated gs.items) r.formulas.items;
 }

@@ -6,9 +6,9 @@ use Rattle.fisca_names.specs.Seen.{Holds}
 use Rattle.fisca_names.specs.declared.fault.BuildFault.{BuildFault}
 use Rattle.fisca_names.specs.declared.seen.Seen.{Seen}
 use Rattle.fisca_params.specs.Results.{and_then}
-use Rattle.fisca_syntax.specs.Modules.{Statement}
-use Rattle.fisca_tokens.specs.declared.fault.Kind.TheVariants.{Memory}
-use Rattle.fisca_variables.specs.declared.declared.Declared.{Declared}
+use Rattle.fisca_ast.specs.Modules.{Statement}
+use Rattle.fisca_ast.specs.declared.fault.FormulaKind.TheVariants.{Memory}
+use Rattle.fisca_declarations.specs.declared.declared.Declared.{Declared}
 use Rattle.fisca_rules.specs.declared.found.Found.{Found as Held}
 use Rattle.fisca_rules.specs.Build.{Found, found_from}
 use Rattle.fisca_rules.specs.FoundViews.{found}

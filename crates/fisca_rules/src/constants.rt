@@ -2,14 +2,14 @@
 
 ghost use Rattle.std.specs.Prelude.{◌≡◌, ◌++◌, IfOk, map};
 ghost use Rattle.fisca_names.specs.Names.{placed_from};
-ghost use Rattle.fisca_syntax.specs.Views.{statement as statement_view, statements as statements_view};
+ghost use Rattle.fisca_ast.specs.ModuleViews.{statement as statement_view, statements as statements_view};
 ghost use Rattle.fisca_rules.specs.Build as spec;
 ghost use Rattle.fisca_rules.specs.Scans as scans;
 
 use crate::enums::enums_in;
-use fisca_syntax::{Module, Statement};
-use fisca_tables::{Names, Text};
-use fisca_variables::Declared;
+use fisca_ast::{Module, Statement};
+use fisca_declarations::Declared;
+use fisca_symbols::{Names, SourceText};
 use std::alloc::{AllocError, Global};
 
 /// The constants so far, and that of this statement where it has one.
@@ -22,7 +22,7 @@ fn with_constant<'a>(
 {
     match statement {
         Statement::Entity(written) => {
-            constants.with(alloc, Text::borrowed(written.name.as_bytes()))
+            constants.with(alloc, SourceText::borrowed(written.name.as_bytes()))
         }
         Statement::Entities(_) | Statement::Enum(_) | Statement::Variable(_) => Ok(constants),
     }

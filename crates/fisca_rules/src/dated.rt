@@ -1,5 +1,5 @@
 //! Typed formulas with their first days.
-use fisca_formula::Formula;
+use fisca_check::TypedFormula;
 use fisca_time::Instant;
 
 /// A typed formula, and the day from which on it is in force.
@@ -8,5 +8,5 @@ pub struct Dated {
     /// The first day.
     pub start: Instant,
     /// What it works out.
-    pub formula: Formula,
+    pub formula: TypedFormula,
 }

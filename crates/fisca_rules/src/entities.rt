@@ -2,17 +2,15 @@
 
 ghost use Rattle.std.specs.Prelude.{◌≡◌, map};
 ghost use Rattle.fisca_attributes.specs.Values.{is_among};
-ghost use Rattle.fisca_expressions.specs.Groups.{bare as unwrapped};
-ghost use Rattle.fisca_expressions.specs.Views.{tree, argument_view};
-ghost use Rattle.fisca_nodes.specs.Outcomes.{Gives};
-ghost use Rattle.fisca_syntax.specs.Views.{assigned};
+ghost use Rattle.fisca_ast.specs.Groups.{bare as unwrapped};
+ghost use Rattle.fisca_ast.specs.Views.{tree, argument_view};
+ghost use Rattle.fisca_ast.specs.Outcomes.{Gives};
+ghost use Rattle.fisca_ast.specs.ModuleViews.{assigned};
 ghost use Rattle.fisca_rules.specs.Build as spec;
 
+use fisca_ast::{Argument, Assignment, Expr, FormulaKind, bare};
 use fisca_attributes::items_of;
-use fisca_expressions::{Argument, Expr, bare};
-use fisca_syntax::Assignment;
-use fisca_tokens::Kind;
-use fisca_variables::Declared;
+use fisca_declarations::Declared;
 
 /// Whether this is the constant of an entity.
 fn is_constant(declared: &Declared<'_>, name: &[u8]) -> bool
@@ -78,12 +76,15 @@ fn listed_in<'e, 'a>(value: &'e Expr<'a>) -> &'e [Argument<'a>]
 }
 
 /// Whether a list has nothing but constants of entities, or `UnknownName`.
-pub(crate) fn entities_fit(declared: &Declared<'_>, written: &Assignment<'_>) -> Result<(), Kind>
+pub(crate) fn entities_fit(
+    declared: &Declared<'_>,
+    written: &Assignment<'_>,
+) -> Result<(), FormulaKind>
     ensures { Gives (λ _. tt) (spec.entities_fit declared.now (assigned written.now)) result }
 {
     if all_known(declared, listed_in(&written.value)) {
         Ok(())
     } else {
-        Err(Kind::UnknownName)
+        Err(FormulaKind::UnknownName)
     }
 }

@@ -2,15 +2,13 @@
 
 ghost use Rattle.std.specs.Prelude.{◌≡◌, [], ◌∷◌, ◌++◌, IfOk, length, map};
 ghost use Rattle.fisca_names.specs.Clashes.{is_order as names_order};
-ghost use Rattle.fisca_nodes.specs.Outcomes.{Gives};
-ghost use Rattle.fisca_syntax.specs.Views.{statement as statement_view, statements as statements_view};
+ghost use Rattle.fisca_ast.specs.Outcomes.{Gives};
+ghost use Rattle.fisca_ast.specs.ModuleViews.{statement as statement_view, statements as statements_view};
 ghost use Rattle.fisca_rules.specs.Build as spec;
 ghost use Rattle.fisca_rules.specs.Scans as scans;
 
-use fisca_nodes::content;
-use fisca_syntax::{EnumClass, Member, Module, Statement};
-use fisca_tables::{Choices, Enums, Members, Text};
-use fisca_tokens::Kind;
+use fisca_ast::{EnumClass, FormulaKind, Member, Module, Statement, content};
+use fisca_symbols::{Choices, EnumMembers, Enums, SourceText};
 use std::alloc::{AllocError, Global};
 
 /// Whether what looks like a member is none.
@@ -34,12 +32,12 @@ fn member_count(members: &[Member<'_>]) -> usize
 }
 
 /// Whether an Enum has from 1 to 1,000 members.
-pub(crate) fn members_fit(members: &[Member<'_>]) -> Result<(), Kind>
+pub(crate) fn members_fit(members: &[Member<'_>]) -> Result<(), FormulaKind>
     ensures { Gives (λ _. tt) (spec.members_fit members.now) result }
 {
     let count = member_count(members);
     if count == 0 || count > 1000 {
-        Err(Kind::BadAttribute)
+        Err(FormulaKind::BadAttribute)
     } else {
         Ok(())
     }
@@ -48,17 +46,17 @@ pub(crate) fn members_fit(members: &[Member<'_>]) -> Result<(), Kind>
 /// The members so far, and this one with its text, where it is one.
 fn with_member<'a>(
     alloc: Global,
-    members: Vec<(Text<'a>, Text<'a>)>,
+    members: Vec<(SourceText<'a>, SourceText<'a>)>,
     member: &Member<'a>,
-) -> Result<Vec<(Text<'a>, Text<'a>)>, AllocError>
+) -> Result<Vec<(SourceText<'a>, SourceText<'a>)>, AllocError>
     ensures { IfOk result (λ ms. ms.items ≡ members.entry.items ++ spec.members_of (member.now ∷ [])) }
 {
     let mut found = members;
     if is_order(member) {
         return Ok(found);
     }
-    let name = Text::borrowed(member.name.as_bytes());
-    let text = Text::owned(content(alloc, member.text.as_bytes())?);
+    let name = SourceText::borrowed(member.name.as_bytes());
+    let text = SourceText::owned(content(alloc, member.text.as_bytes())?);
     found.push((name, text)).map_err(AllocError::from)?;
     Ok(found)
 }
@@ -67,7 +65,7 @@ fn with_member<'a>(
 fn members_of<'a>(
     alloc: Global,
     members: &[Member<'a>],
-) -> Result<Vec<(Text<'a>, Text<'a>)>, AllocError>
+) -> Result<Vec<(SourceText<'a>, SourceText<'a>)>, AllocError>
     ensures { IfOk result (λ ms. ms.items ≡ spec.members_of members.now) }
 {
     let mut found = Vec::new(alloc);
@@ -83,8 +81,8 @@ fn choices_of<'a>(alloc: Global, class: &EnumClass<'a>) -> Result<Choices<'a>, A
 {
     let members = members_of(alloc, class.members.as_slice())?;
     Ok(Choices {
-        name: Text::borrowed(class.name.as_bytes()),
-        members: Members::new(alloc, members)?,
+        name: SourceText::borrowed(class.name.as_bytes()),
+        members: EnumMembers::new(alloc, members)?,
     })
 }
 

@@ -2,15 +2,15 @@
 
 ghost use Rattle.std.specs.Prelude.{◌≡◌, ◌≢◌};
 
+use fisca_ast::FormulaKind;
 use fisca_names::BuildFault;
-use fisca_tokens::Kind;
 
 /// A fault of a line of a module; want of memory has no line.
-pub(crate) fn fault_at(place: usize, line: usize, kind: Kind) -> BuildFault
+pub(crate) fn fault_at(place: usize, line: usize, kind: FormulaKind) -> BuildFault
     ensures kind { result.kind ≡ kind }
-    ensures told { kind ≢ Kind.Memory → result ≡ record { «module» = place; line = line; kind = kind } }
+    ensures told { kind ≢ FormulaKind.Memory → result ≡ record { «module» = place; line = line; kind = kind } }
 {
-    if kind == Kind::Memory {
+    if kind == FormulaKind::Memory {
         return BuildFault {
             module: 0,
             line: 0,

@@ -2,27 +2,29 @@
 
 ghost use Rattle.std.specs.Prelude.{◌≡◌, [], map};
 ghost use Rattle.fisca_names.specs.Names.{told_at};
-ghost use Rattle.fisca_syntax.specs.Views.{item};
-ghost use Rattle.fisca_variables.specs.Lines as lines;
-ghost use Rattle.fisca_variables.specs.VariableForms as forms;
+ghost use Rattle.fisca_ast.specs.ModuleViews.{item};
+ghost use Rattle.fisca_declarations.specs.Lines as lines;
+ghost use Rattle.fisca_declarations.specs.VariableForms as forms;
 ghost use Rattle.fisca_rules.specs.Build as spec;
 ghost use Rattle.fisca_rules.specs.Passes as passes;
 ghost use Rattle.fisca_names.specs.Outcomes.{Tells};
 
 use crate::faults::fault_at;
+use fisca_ast::{ClassLine, VariableClass};
+use fisca_declarations::{
+    Before, Declaration, Declared, behind_line, may_have_formulas, variable_of,
+};
 use fisca_names::BuildFault;
-use fisca_syntax::{Item, VariableClass};
-use fisca_tables::{Text, Variable};
-use fisca_variables::{Before, Declared, behind_line, may_have_formulas, variable_of};
+use fisca_symbols::{SourceText, Variable};
 use std::alloc::Global;
 
 /// The line on which an attribute or a formula begins.
-fn line_of(line: &Item<'_>) -> usize
+fn line_of(line: &ClassLine<'_>) -> usize
     ensures { result ≡ spec.line_of_item (item line.now) }
 {
     match line {
-        Item::Attribute(attribute) => attribute.line,
-        Item::Formula(formula) => formula.line,
+        ClassLine::Attribute(attribute) => attribute.line,
+        ClassLine::Formula(formula) => formula.line,
     }
 }
 
@@ -31,10 +33,10 @@ fn behind_told<'a>(
     alloc: Global,
     declared: &Declared<'_>,
     place: usize,
-    items: &[Item<'a>],
+    items: &[ClassLine<'a>],
     formulas: bool,
     before: Before<'a>,
-    line: &Item<'a>,
+    line: &ClassLine<'a>,
 ) -> Result<Before<'a>, BuildFault>
     ensures { Tells lines.before (told_at place (spec.line_of_item (item line.now))
         (lines.behind_line declared.now (map item items.now) formulas (lines.before before.entry) (item line.now))) result }
@@ -50,7 +52,7 @@ fn lines_fit(
     alloc: Global,
     declared: &Declared<'_>,
     place: usize,
-    items: &[Item<'_>],
+    items: &[ClassLine<'_>],
 ) -> Result<(), BuildFault>
     ensures { Tells (λ _. tt) (passes.lines_fit declared.now place (map item items.now)
         (forms.may_have_formulas (map item items.now)) lines.nothing_before (map item items.now)) result }
@@ -69,21 +71,21 @@ fn items_fit(
     alloc: Global,
     declared: &Declared<'_>,
     place: usize,
-    items: &[Item<'_>],
+    items: &[ClassLine<'_>],
 ) -> Result<(), BuildFault>
     ensures { Tells (λ _. tt) (spec.items_fit declared.now place (map item items.now) [] (map item items.now)) result }
 {
     lines_fit(alloc, declared, place, items)
 }
 
-/// A variable of the module at a place: the first fault of its lines, or of the class where something is missing.
+/// A variable of the module at a place, and its declaration: the first fault of its lines, or of the class where something is missing.
 pub(crate) fn variable_in<'a>(
     alloc: Global,
     declared: &Declared<'_>,
     place: usize,
     class: VariableClass<'a>,
-) -> Result<Variable<'a>, BuildFault>
-    ensures { Tells forms.written (spec.variable_in declared.now place class.entry.line class.entry.name (map item class.entry.items.items)) result }
+) -> Result<(Variable<'a>, Declaration<'a>), BuildFault>
+    ensures { Tells forms.both_written (spec.variable_in declared.now place class.entry.line class.entry.name (map item class.entry.items.items)) result }
 {
     items_fit(alloc, declared, place, class.items.as_slice())?;
     let VariableClass { line, name, items } = class;
@@ -92,10 +94,10 @@ pub(crate) fn variable_in<'a>(
         declared,
         place,
         line,
-        Text::borrowed(name.as_bytes()),
+        SourceText::borrowed(name.as_bytes()),
         items,
     ) {
-        Ok(variable) => Ok(variable),
+        Ok(made) => Ok(made),
         Err(kind) => Err(fault_at(place, line, kind)),
     }
 }

@@ -6,17 +6,16 @@ ghost use Rattle.fisca_rules.specs.FoundViews.{found as found_view};
 ghost use Rattle.fisca_names.specs.Outcomes.{Tells};
 ghost use Rattle.fisca_attributes.specs.EntityForms.{entity_of as entity_written};
 ghost use Rattle.fisca_names.specs.Names.{told_at};
-ghost use Rattle.fisca_nodes.specs.Outcomes.{Gives};
+ghost use Rattle.fisca_ast.specs.Outcomes.{Gives};
 ghost use Rattle.fisca_params.specs.Results.{and_then};
-ghost use Rattle.fisca_syntax.specs.Views.{assigned};
+ghost use Rattle.fisca_ast.specs.ModuleViews.{assigned};
 
 use crate::faults::fault_at;
 use crate::found::Found;
+use fisca_ast::{Assignment, FormulaKind};
 use fisca_attributes::entity_of;
 use fisca_names::BuildFault;
-use fisca_syntax::Assignment;
-use fisca_tables::Entity;
-use fisca_tokens::Kind;
+use fisca_symbols::Entity;
 use std::alloc::Global;
 
 /// Nothing is found yet.
@@ -27,20 +26,22 @@ pub(crate) fn nothing_found<'a>(alloc: Global) -> Found<'a>
         entities: Vec::new(alloc),
         has_person: false,
         variables: Vec::new(alloc),
+        declarations: Vec::new(alloc),
     }
 }
 
 /// One entity more, unless it is the persons once more.
-fn with_entity<'a>(found: Found<'a>, entity: Entity<'a>) -> Result<Found<'a>, Kind>
+fn with_entity<'a>(found: Found<'a>, entity: Entity<'a>) -> Result<Found<'a>, FormulaKind>
     ensures { Gives found_view (spec.with_entity (found_view found.entry) entity.entry) result }
 {
     let Found {
         mut entities,
         has_person,
         variables,
+        declarations,
     } = found;
     if entity.is_person && has_person {
-        return Err(Kind::BadAttribute);
+        return Err(FormulaKind::BadAttribute);
     }
     let persons = has_person || entity.is_person;
     entities.push(entity)?;
@@ -48,6 +49,7 @@ fn with_entity<'a>(found: Found<'a>, entity: Entity<'a>) -> Result<Found<'a>, Ki
         entities,
         has_person: persons,
         variables,
+        declarations,
     })
 }
 
@@ -56,7 +58,7 @@ fn behind_entity<'a>(
     alloc: Global,
     found: Found<'a>,
     written: &Assignment<'a>,
-) -> Result<Found<'a>, Kind>
+) -> Result<Found<'a>, FormulaKind>
     ensures { Gives found_view (and_then (entity_written (assigned written.now)) (spec.with_entity (found_view found.entry))) result }
 {
     let entity = entity_of(alloc, written)?;
@@ -87,7 +89,7 @@ pub(crate) fn with_person(found: Found<'_>) -> Result<Found<'_>, BuildFault>
         return Err(BuildFault {
             module: 0,
             line: 1,
-            kind: Kind::BadAttribute,
+            kind: FormulaKind::BadAttribute,
         });
     }
     Ok(found)

@@ -4,16 +4,16 @@ ghost use Rattle.fisca_rules.specs.Names.{entity_named, variable_named};
 ghost use Rattle.fisca_rules.specs.Rules as spec;
 ghost use Rattle.fisca_names.specs.Outcomes.{Tells};
 ghost use Rattle.fisca_rules.specs.Views.{rule_set};
-ghost use Rattle.fisca_syntax.specs.Views.{statements};
-ghost use Rattle.fisca_variables.specs.VariableForms.{written};
+ghost use Rattle.fisca_ast.specs.ModuleViews.{statements};
 
 use crate::dated::Dated;
 use crate::tables_found;
-use crate::typed::formulas_of_tables;
+use crate::typed::formulas_of_all;
+use fisca_ast::Module;
+use fisca_declarations::Declaration;
 use fisca_names::BuildFault;
 use fisca_params::ParamTree;
-use fisca_syntax::Module;
-use fisca_tables::{Choices, Entity, Tables, Variable};
+use fisca_symbols::{Choices, Entity, Tables, Variable};
 use std::alloc::Global;
 
 /// What the modules of a rule set declare beside its parameters, with typed formulas.
@@ -21,6 +21,8 @@ use std::alloc::Global;
 pub struct RuleSet<'a> {
     /// The entities, Enums and variables, each found by its names, and the parameters.
     pub tables: Tables<'a>,
+    /// Where each variable is declared, what is told of it, and its formulas as they are written, in the order of the variables.
+    pub declarations: Vec<Declaration<'a>>,
     /// The formulas of each variable, in the order of the variables, from top to bottom.
     pub formulas: Vec<Vec<Dated>>,
 }
@@ -45,15 +47,19 @@ impl<'a> RuleSet<'a> {
     ) -> Result<RuleSet<'a>, BuildFault>
         ensures { Tells rule_set (spec.rules_of parameters (map statements modules.entry.items)) result }
     {
-        let (entities, enums, variables) = tables_found(alloc, modules)?;
+        let (entities, enums, variables, declarations) = tables_found(alloc, modules)?;
         let tables = Tables {
             entities,
             enums,
             variables,
             parameters,
         };
-        let formulas = formulas_of_tables(alloc, &tables)?;
-        Ok(RuleSet { tables, formulas })
+        let formulas = formulas_of_all(alloc, &tables, declarations.as_slice())?;
+        Ok(RuleSet {
+            tables,
+            declarations,
+            formulas,
+        })
     }
 
     /// The entities in the order of the modules.
@@ -77,9 +83,9 @@ impl<'a> RuleSet<'a> {
         None
     }
 
-    /// The variables in the order of the modules; `formulas` has the typed formulas of each.
+    /// The variables in the order of the modules; `declarations` has the declaration of each, and `formulas` its typed formulas.
     pub fn variables(&self) -> &[Variable<'a>]
-        ensures { map written result.now ≡ (rule_set self.now).variables }
+        ensures { result.now ≡ (rule_set self.now).variables }
     {
         self.tables.variables.as_slice()
     }

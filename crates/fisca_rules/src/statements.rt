@@ -3,7 +3,7 @@
 ghost use Rattle.std.specs.Prelude.{List, [], ◌∷◌, ◌++◌, Result, map};
 ghost use Rattle.fisca_names.specs.Names.{Placed, names_from, placed_from, placed_in, told_at};
 ghost use Rattle.fisca_names.specs.declared.fault.BuildFault.{BuildFault};
-ghost use Rattle.fisca_syntax.specs.Views.{assigned, item, statement as statement_view, statements as statements_view};
+ghost use Rattle.fisca_ast.specs.ModuleViews.{assigned, item, statement as statement_view, statements as statements_view};
 ghost use Rattle.fisca_params.specs.Results.{and_then};
 ghost use Rattle.fisca_rules.specs.Build as spec;
 ghost use Rattle.fisca_rules.specs.Walk as walk;
@@ -16,10 +16,9 @@ use crate::faults::fault_at;
 use crate::found::Found;
 use crate::lines::variable_in;
 use crate::persons::{entity_found, nothing_found, with_person};
+use fisca_ast::{Assignment, EnumClass, FormulaKind, Module, Statement, VariableClass};
+use fisca_declarations::Declared;
 use fisca_names::{BuildFault, Seen};
-use fisca_syntax::{Assignment, EnumClass, Module, Statement, VariableClass};
-use fisca_tokens::Kind;
-use fisca_variables::Declared;
 use std::alloc::Global;
 
 /// Whether a list of entities is right, or its fault.
@@ -57,17 +56,20 @@ fn variable_found<'a>(
     ensures { Tells found_view (spec.behind_variable (found_view found.entry)
         (spec.variable_in declared.now place class.entry.line class.entry.name (map item class.entry.items.items))) result }
 {
-    let variable = variable_in(alloc, declared, place, class)?;
+    let (variable, declaration) = variable_in(alloc, declared, place, class)?;
     let Found {
         entities,
         has_person,
         mut variables,
+        mut declarations,
     } = found;
     variables.push(variable)?;
+    declarations.push(declaration)?;
     Ok(Found {
         entities,
         has_person,
         variables,
+        declarations,
     })
 }
 
@@ -130,7 +132,7 @@ fn walk_statement<'a>(
         return Err(BuildFault {
             module: place,
             line,
-            kind: Kind::DuplicateName,
+            kind: FormulaKind::DuplicateName,
         });
     }
     Ok(found_behind(alloc, declared, found, place, statement))

@@ -1,23 +1,24 @@
 //! The third pass: the formulas of all variables.
 ghost use Rattle.std.specs.Prelude.{◌≡◌, [], ◌∷◌, ◌++◌, map, OnOk, Some};
-ghost use Rattle.fisca_variables.specs.VariableForms.{written};
-ghost use Rattle.fisca_formula.specs.Formulas.{formula_view as seen, Tells as TellsPlace};
+ghost use Rattle.fisca_declarations.specs.VariableForms.{written};
+ghost use Rattle.fisca_check.specs.Formulas.{formula_view as seen, Tells as TellsPlace};
 ghost use Rattle.fisca_rules.specs.Rules as spec;
-ghost use Rattle.fisca_formula.specs.Views.{names as names_of};
+ghost use Rattle.fisca_check.specs.Views.{names as names_of};
 ghost use Rattle.fisca_names.specs.Outcomes.{Tells};
 ghost use Rattle.fisca_rules.specs.Views.{dated};
-ghost use Rattle.fisca_syntax.specs.Views.{formula_view};
-ghost use Rattle.fisca_tables.specs.Known.{tables as known};
-ghost use Rattle.fisca_tables.specs.KnownVariables.{value_type as known_type};
+ghost use Rattle.fisca_ast.specs.ModuleViews.{formula_view};
+ghost use Rattle.fisca_symbols.specs.Known.{tables as known};
+ghost use Rattle.fisca_symbols.specs.KnownVariables.{value_type as known_type};
 ghost use Rattle.fisca_typing.specs.Formulas as typing;
 
 use crate::dated::Dated;
-use fisca_calls::Locals;
-use fisca_formula::{Formula as Typed, Names, Refusal, formula_of};
+use fisca_ast::{ClassLine, Formula};
+use fisca_check::{FormulaRefusal, FormulaScope, TypedFormula as Typed, formula_of};
+use fisca_check_calls::Locals;
+use fisca_declarations::Declaration;
+use fisca_model::ValueType;
 use fisca_names::BuildFault;
-use fisca_syntax::{Formula, Item};
-use fisca_tables::{DeclaredType, Tables, Variable};
-use fisca_typing::ValueType;
+use fisca_symbols::{DeclaredType, Tables, Variable};
 use std::alloc::{AllocError, Global};
 
 /// The line of the local at this place, or of the return behind them all.
@@ -31,7 +32,7 @@ fn line_at(formula: &Formula<'_>, place: usize) -> usize
 }
 
 /// A fault of a formula, told of the line of its statement.
-fn told(place: usize, formula: &Formula<'_>, refusal: Refusal) -> BuildFault
+fn told(place: usize, formula: &Formula<'_>, refusal: FormulaRefusal) -> BuildFault
     ensures { result ≡ record { «module» = place; line = spec.line_at (formula_view formula.now) refusal.place; kind = refusal.kind } }
 {
     BuildFault {
@@ -47,11 +48,11 @@ fn names_for<'n, 'a>(
     tables: &'n Tables<'a>,
     variable: &'n Variable<'a>,
     formula: &'n Formula<'a>,
-) -> Names<'n, 'a>
+) -> FormulaScope<'n, 'a>
     ensures names { names_of result ≡ spec.names_for (known tables.now) variable.now.entity (formula_view formula.now) }
     ensures none { result.locals ≡ [] }
 {
-    Names {
+    FormulaScope {
         tables,
         entity: variable.entity,
         asker_name: formula.signature.entity.as_bytes(),
@@ -72,7 +73,7 @@ fn typed<'n, 'a>(
     variable: &'n Variable<'a>,
     value_type: ValueType,
     formula: &'n Formula<'a>,
-) -> Result<Typed, Refusal>
+) -> Result<Typed, FormulaRefusal>
     ensures { TellsPlace seen (typing.formula_of (spec.names_for (known tables.now) variable.now.entity (formula_view formula.now)) value_type (map spec.assigned_of (formula_view formula.now).locals) (formula_view formula.now).returned.value) result }
 {
     let names = names_for(alloc, tables, variable, formula);
@@ -80,22 +81,23 @@ fn typed<'n, 'a>(
     formula_of(alloc, names, value_type, locals, &formula.returned.value)
 }
 
-/// The same, with the day from which on it is in force.
+/// The same, of the module at a place, with the day from which on it is in force.
 fn dated_of<'n, 'a>(
     alloc: Global,
     tables: &'n Tables<'a>,
     variable: &'n Variable<'a>,
+    place: usize,
     value_type: ValueType,
     formula: &'n Formula<'a>,
 ) -> Result<Dated, BuildFault>
-    ensures { Tells dated (spec.dated_of (known tables.now) variable.now.module variable.now.entity value_type (formula_view formula.now)) result }
+    ensures { Tells dated (spec.dated_of (known tables.now) place variable.now.entity value_type (formula_view formula.now)) result }
 {
     match typed(alloc, tables, variable, value_type, formula) {
         Ok(made) => Ok(Dated {
             start: formula.start,
             formula: made,
         }),
-        Err(refusal) => Err(told(variable.module, formula, refusal)),
+        Err(refusal) => Err(told(place, formula, refusal)),
     }
 }
 
@@ -111,26 +113,34 @@ fn push_dated(made: &mut Vec<Dated>, dated: Dated) -> Result<(), AllocError>
     Ok(())
 }
 
-/// The formulas of a variable of a type, from top to bottom, or the first fault.
+/// The formulas of a variable of a type and a declaration, from top to bottom, or the first fault.
 #[tactic(auto, using(crate::proofs::Each::all_behind_none))]
 fn formulas_by<'n, 'a>(
     alloc: Global,
     tables: &'n Tables<'a>,
     variable: &'n Variable<'a>,
+    declaration: &'n Declaration<'a>,
     value_type: ValueType,
 ) -> Result<Vec<Dated>, BuildFault>
-    ensures { Tells (λ fs. map dated fs.items) (spec.formulas_by (known tables.now) (written variable.now) (Some value_type)) result }
+    ensures { Tells (λ fs. map dated fs.items) (spec.formulas_by (known tables.now) variable.now.entity (written declaration.now) (Some value_type)) result }
 {
     let mut made = Vec::new(alloc);
-    for line in variable.formulas.lines() {
+    for line in declaration.formulas.lines() {
         match line {
-            Item::Formula(formula) => {
+            ClassLine::Formula(formula) => {
                 push_dated(
                     &mut made,
-                    dated_of(alloc, tables, variable, value_type, formula)?,
+                    dated_of(
+                        alloc,
+                        tables,
+                        variable,
+                        declaration.module,
+                        value_type,
+                        formula,
+                    )?,
                 )?;
             }
-            Item::Attribute(_) => {}
+            ClassLine::Attribute(_) => {}
         }
     }
     Ok(made)
@@ -148,31 +158,34 @@ fn type_in_formulas(value_type: DeclaredType) -> Option<ValueType>
     }
 }
 
-/// The formulas of a variable, or the first fault. Those of days and texts have none.
+/// The formulas of a variable of this declaration, or the first fault. Those of days and texts have none.
 fn formulas_of<'n, 'a>(
     alloc: Global,
     tables: &'n Tables<'a>,
     variable: &'n Variable<'a>,
+    declaration: &'n Declaration<'a>,
 ) -> Result<Vec<Dated>, BuildFault>
-    ensures { Tells (λ fs. map dated fs.items) (spec.formulas_of (known tables.now) (written variable.now)) result }
+    ensures { Tells (λ fs. map dated fs.items) (spec.formulas_of (known tables.now) (variable.now, written declaration.now)) result }
 {
     match type_in_formulas(variable.value_type) {
-        Some(value_type) => formulas_by(alloc, tables, variable, value_type),
+        Some(value_type) => formulas_by(alloc, tables, variable, declaration, value_type),
         None => Ok(Vec::new(alloc)),
     }
 }
 
-/// The formulas of each variable, or the first fault.
+/// The formulas of each variable, with its declaration beside it, or the first fault.
 #[tactic(auto, using(crate::proofs::Each::all_behind_none))]
-pub(crate) fn formulas_of_tables<'n, 'a>(
+pub(crate) fn formulas_of_all<'n, 'a>(
     alloc: Global,
     tables: &'n Tables<'a>,
+    declarations: &'n [Declaration<'a>],
 ) -> Result<Vec<Vec<Dated>>, BuildFault>
-    ensures { Tells (λ fs. map (λ gs. map dated gs.items) fs.items) (spec.all_of (spec.formulas_of (known tables.now)) (map written tables.now.variables)) result }
+    ensures { Tells (λ fs. map (λ gs. map dated gs.items) fs.items) (spec.all_formulas (known tables.now) tables.now.variables (map written declarations.now)) result }
 {
-    let mut made = Vec::with_capacity(alloc, tables.variables.as_slice().len())?;
-    for variable in tables.variables.as_slice() {
-        made.push(formulas_of(alloc, tables, variable)?)?;
+    let variables = tables.variables.as_slice();
+    let mut made = Vec::with_capacity(alloc, variables.len())?;
+    for (variable, declaration) in variables.iter().zip(declarations) {
+        made.push(formulas_of(alloc, tables, variable, declaration)?)?;
     }
     Ok(made)
 }

@@ -1,7 +1,7 @@
 -- A list of axes is seen as so many as it has.
 use Rattle.std.proofs.Common.{◌≡◌, ℕ, suc, List, [], ◌∷◌, ◌++◌, length, refl, ap, sym, ◌∙◌}
 use Rattle.std.specs.Prelude.{Result, Ok}
-use Rattle.fisca_calc.specs.declared.fault.RunFileFault.{RunFileFault}
+use Rattle.fisca_columns.specs.declared.fault.RunFileFault.{RunFileFault}
 use Rattle.fisca_params.specs.Results.{and_then}
 use Rattle.fisca_run_file.specs.SaidAxes.{SaidAxes, SaidAxis, count_items, with_axes, with_list}
 use Rattle.fisca_yaml.specs.Views.{items_view}

@@ -3,7 +3,7 @@ use Rattle.std.proofs.Common.{◌≡◌, ℕ, zero, suc, ◌<◌, ◌≤◌, Lis
 use Rattle.std.proofs.lemmas.List.{drop_all}
 use Rattle.fisca_inputs.specs.declared.given.Given.{Given}
 use Rattle.fisca_num.specs.Number.{Number}
-use Rattle.fisca_tables.specs.declared.tables.Tables.{Tables}
+use Rattle.fisca_symbols.specs.declared.tables.Tables.{Tables}
 use Rattle.fisca_run_file.specs.Positions.{given_with, with_values}
 
 module _ (c : Tables) where

@@ -3,14 +3,14 @@ use Rattle.std.proofs.Common.{◌≡◌, ℕ, ◌*◌, List, [], ◌∷◌, code
 use Rattle.std.specs.Prelude.{Bool, true, false, map, Option, Some, None, Result, Ok, Err}
 use Rattle.fisca_situations.proofs.Country.{child, households, nought, person, variable}
 use Rattle.fisca_situations.proofs.Literals.{one, two, seven}
-use Rattle.fisca_calc.specs.declared.fault.RunFileFault.{RunFileFault}
-use Rattle.fisca_calc.specs.declared.fault.RunFileKind.{RunFileKind}
-use Rattle.fisca_calc.specs.declared.fault.RunFileKind.TheVariants as kind
+use Rattle.fisca_columns.specs.declared.fault.RunFileFault.{RunFileFault}
+use Rattle.fisca_columns.specs.declared.fault.RunFileKind.{RunFileKind}
+use Rattle.fisca_columns.specs.declared.fault.RunFileKind.TheVariants as kind
 use Rattle.fisca_grid.specs.declared.axes.AxesFault.TheVariants as axes
 use Rattle.fisca_inputs.specs.Entries.{key}
 use Rattle.fisca_inputs.specs.Inputs.{key_given}
 use Rattle.fisca_inputs.specs.declared.fault.SituationKind.TheVariants as situation
-use Rattle.fisca_inputs.specs.declared.key.Key.{Key}
+use Rattle.fisca_model.specs.declared.key.Key.{Key}
 use Rattle.fisca_members.specs.Members.{members_in}
 use Rattle.fisca_members.specs.Persons.{with_person}
 use Rattle.fisca_num.specs.Literal.{number_of_literal, number_of_parts, digits_ratio}
@@ -18,9 +18,9 @@ use Rattle.fisca_num.specs.Number.{zero_number, whole_number}
 use Rattle.fisca_num.specs.Operations.{only_number_of}
 use Rattle.fisca_situations.specs.Reading.{dated_given, entry_given, inputs_given, member_below, named_given, section_by, section_given, value_given, variable_given}
 use Rattle.fisca_situations.specs.Situations.{reading_in, reading_of}
-use Rattle.fisca_tables.specs.declared.tables.Tables.{Tables}
-use Rattle.fisca_tables.specs.declared.variable.DeclaredType.TheVariants as type
-use Rattle.fisca_tables.specs.declared.variable.SetInput.TheVariants as sharing
+use Rattle.fisca_symbols.specs.declared.tables.Tables.{Tables}
+use Rattle.fisca_symbols.specs.declared.variable.DeclaredType.TheVariants as type
+use Rattle.fisca_symbols.specs.declared.variable.SetInput.TheVariants as sharing
 use Rattle.fisca_time.specs.Period.{Span, eternity, months}
 use Rattle.fisca_time.specs.declared.unit.Unit.TheVariants as unit
 use Rattle.fisca_yaml.specs.Flow.{flow_value, series}

@@ -1,14 +1,15 @@
 -- The definitions of overlaps, and of inputs with those of axes, worked out on small ones.
 use Rattle.std.proofs.Common.{◌≡◌, ℕ, ◌*◌, ◌+◌, [], ◌∷◌, refl}
 use Rattle.std.specs.Prelude.{true, false, Ok, Err}
-use Rattle.fisca_calc.specs.declared.fault.RunFileKind.TheVariants as kind
+use Rattle.fisca_columns.specs.declared.fault.RunFileKind.TheVariants as kind
 use Rattle.fisca_grid.specs.declared.axes.AxesFault.TheVariants as axes
 use Rattle.fisca_inputs.specs.declared.given.Given.{Given}
-use Rattle.fisca_inputs.specs.declared.given.Value.TheVariants as v
+use Rattle.fisca_model.specs.declared.value.Value.TheVariants as v
 use Rattle.fisca_num.specs.Number.{zero_number, one_number}
 use Rattle.fisca_time.specs.Period.{Span, eternity, months}
 use Rattle.fisca_time.specs.declared.unit.Unit.TheVariants as unit
-use Rattle.fisca_run_file.specs.Moved.{apart_from, put_all_in}
+use Rattle.fisca_run_file.specs.Moved.{apart_from}
+use Rattle.fisca_situations.specs.AllAxes.{put_all_in}
 use Rattle.fisca_inputs.specs.Overlaps.{overlaps, shares_day}
 
 abbrev january : Span

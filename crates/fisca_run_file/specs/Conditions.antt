@@ -2,27 +2,27 @@
 use Rattle.std.specs.Prelude.{ℕ, List, [], ◌∷◌, ◌++◌, Bool, true, false, reverse, if◌then◌else◌, Option, Some, None, option_map, option_and_then, Result, Ok, codes}
 use Rattle.std.specs.Option.{option_or, unwrap_or}
 use Rattle.std.specs.Str.{bytes_eq}
-use Rattle.fisca_calc.specs.Calc.{default_in}
-use Rattle.fisca_calc.specs.Faults.{fault_at}
-use Rattle.fisca_calc.specs.declared.fault.RunFileFault.{RunFileFault}
-use Rattle.fisca_calc.specs.declared.fault.RunFileKind.TheVariants.{BadCondition}
-use Rattle.fisca_calc.specs.Columns.{column_of}
+use Rattle.fisca_columns.specs.Calc.{default_in}
+use Rattle.fisca_columns.specs.Faults.{fault_at}
+use Rattle.fisca_columns.specs.declared.fault.RunFileFault.{RunFileFault}
+use Rattle.fisca_columns.specs.declared.fault.RunFileKind.TheVariants.{BadCondition}
+use Rattle.fisca_columns.specs.Columns.{column_of}
 use Rattle.fisca_grid.specs.Condition.{past_spaces, signs}
 use Rattle.fisca_grid.specs.Words.{around_first, literal_of}
-use Rattle.fisca_grid.specs.declared.condition.Comparison.{Comparison}
-use Rattle.fisca_grid.specs.declared.condition.Comparison.TheVariants.{AtLeast, AtMost, Equal, NotEqual, Above, Below}
-use Rattle.fisca_inputs.specs.declared.given.Value.{Value}
-use Rattle.fisca_inputs.specs.declared.given.Value.TheVariants as v
-use Rattle.fisca_inputs.specs.declared.key.Key.{Key}
-use Rattle.fisca_meaning.specs.Questions.{variable_type}
-use Rattle.fisca_rosters.specs.declared.entity_members.EntityMembers.{EntityMembers}
+use Rattle.fisca_grid.specs.declared.condition.AxisComparison.{AxisComparison}
+use Rattle.fisca_grid.specs.declared.condition.AxisComparison.TheVariants.{AtLeast, AtMost, Equal, NotEqual, Above, Below}
+use Rattle.fisca_model.specs.declared.value.Value.{Value}
+use Rattle.fisca_model.specs.declared.value.Value.TheVariants as v
+use Rattle.fisca_model.specs.declared.key.Key.{Key}
+use Rattle.fisca_model.specs.Tables.{variable_type}
+use Rattle.fisca_groups.specs.declared.entity_members.EntityMembers.{EntityMembers}
 use Rattle.fisca_params.specs.Results.{and_then}
-use Rattle.fisca_tables.specs.Known.{tables as known}
-use Rattle.fisca_tables.specs.declared.tables.Tables.{Tables}
+use Rattle.fisca_symbols.specs.Known.{tables as known}
+use Rattle.fisca_symbols.specs.declared.tables.Tables.{Tables}
 use Rattle.fisca_time.specs.Period.{Span}
-use Rattle.fisca_typing.specs.Tables as typing
-use Rattle.fisca_typing.specs.declared.kinds.ValueType.{ValueType}
-use Rattle.fisca_typing.specs.declared.kinds.ValueType.TheVariants as type
+use Rattle.fisca_model.specs.Tables as typing
+use Rattle.fisca_model.specs.declared.value_type.ValueType.{ValueType}
+use Rattle.fisca_model.specs.declared.value_type.ValueType.TheVariants as type
 use Rattle.fisca_yaml.specs.Find.{get}
 use Rattle.fisca_yaml.specs.Node.{Node, null, scalar, list, map, Items, no_items, item}
 use Rattle.fisca_run_file.specs.declared.condition.Condition.{Condition}
@@ -34,14 +34,14 @@ abbrev pub before_spaces : List ℕ → List ℕ
 before_spaces text = reverse (past_spaces (reverse text))
 
 -- the first of these signs that stands in a text, and what stands before and behind it
-abbrev pub around_sign : List (Comparison × List ℕ) → List ℕ → Option (Comparison × (List ℕ × List ℕ))
+abbrev pub around_sign : List (AxisComparison × List ℕ) → List ℕ → Option (AxisComparison × (List ℕ × List ℕ))
 around_sign [] text = None
 around_sign (s ∷ ss) text = option_or (option_map (λ parts. (s.0, parts)) (around_first s.1 text)) (around_sign ss text)
 
 -- Constants
 
 -- bools and members of Enums have no order
-abbrev pub is_of_order : Comparison → Bool
+abbrev pub is_of_order : AxisComparison → Bool
 is_of_order AtLeast = true
 is_of_order AtMost = true
 is_of_order Equal = false
@@ -53,7 +53,7 @@ abbrev pub bool_of : List ℕ → Option Bool
 bool_of t = if bytes_eq t (codes "true") then Some true else (if bytes_eq t (codes "false") then Some false else None)
 
 -- what a text stands for beside values of this type: a decimal literal, `true` or `false`, or the name of a member of the Enum
-abbrev pub constant_of : typing.Tables → Comparison → Option ValueType → List ℕ → Option Value
+abbrev pub constant_of : typing.Tables → AxisComparison → Option ValueType → List ℕ → Option Value
 constant_of c comparison None t = None
 constant_of c comparison (Some type.Number) t = option_map v.Number (literal_of t)
 constant_of c comparison (Some type.Bool) t = if is_of_order comparison then None else option_map v.Bool (bool_of t)
@@ -61,11 +61,11 @@ constant_of c comparison (Some (type.Enum e)) t = if is_of_order comparison then
 
 -- Conditions
 
-abbrev pub condition_on : Comparison → Key → Value → Condition
+abbrev pub condition_on : AxisComparison → Key → Value → Condition
 condition_on comparison k x = record { key = k; comparison = comparison; constant = x }
 
 -- the column and the constant, where spaces may stand around the comparison
-abbrev pub condition_by : typing.Tables → List EntityMembers → Option Span → Comparison × (List ℕ × List ℕ) → Option Condition
+abbrev pub condition_by : typing.Tables → List EntityMembers → Option Span → AxisComparison × (List ℕ × List ℕ) → Option Condition
 condition_by c ms default s =
     option_and_then
     (λ k. option_map (condition_on s.0 k) (constant_of c s.0 (variable_type c k.variable) (past_spaces s.1.1)))

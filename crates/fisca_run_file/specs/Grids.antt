@@ -1,9 +1,9 @@
 -- The grid that the axes of a run file make, or the first of its faults with its line.
 use Rattle.std.specs.Prelude.{ℕ, List, [], ◌∷◌, map, ◌==◌, is_some, if◌then◌else◌, Option, Some, None, Result, Ok}
 use Rattle.std.specs.Option.{option_or, unwrap_or}
-use Rattle.fisca_calc.specs.Faults.{fault_at}
-use Rattle.fisca_calc.specs.declared.fault.RunFileFault.{RunFileFault}
-use Rattle.fisca_calc.specs.declared.fault.RunFileKind.TheVariants.{Axes}
+use Rattle.fisca_columns.specs.Faults.{fault_at}
+use Rattle.fisca_columns.specs.declared.fault.RunFileFault.{RunFileFault}
+use Rattle.fisca_columns.specs.declared.fault.RunFileKind.TheVariants.{Axes}
 use Rattle.fisca_grid.specs.Axes.{axis_fault}
 use Rattle.fisca_grid.specs.Grid.{axes_fault, groups_of}
 use Rattle.fisca_grid.specs.declared.axes.AxesFault.{AxesFault}

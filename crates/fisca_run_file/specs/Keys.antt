@@ -1,11 +1,11 @@
 -- The keys of a run file: `axes`, and perhaps `period`, `input`, `filter`, `columns` and `neutralize`.
 use Rattle.std.specs.Prelude.{ℕ, List, [], Bool, true, ◌&&◌, ◌||◌, is_some, if◌then◌else◌, Option, Some, None, Result, Ok, codes}
 use Rattle.std.specs.Str.{bytes_eq}
-use Rattle.fisca_calc.specs.Calc.{period_in, are_columns}
-use Rattle.fisca_calc.specs.Faults.{fault_at}
-use Rattle.fisca_calc.specs.declared.fault.RunFileFault.{RunFileFault}
-use Rattle.fisca_calc.specs.declared.fault.RunFileKind.TheVariants.{BadKey}
-use Rattle.fisca_inputs.specs.declared.key.Key.{Key}
+use Rattle.fisca_columns.specs.Calc.{period_in, are_columns}
+use Rattle.fisca_columns.specs.Faults.{fault_at}
+use Rattle.fisca_columns.specs.declared.fault.RunFileFault.{RunFileFault}
+use Rattle.fisca_columns.specs.declared.fault.RunFileKind.TheVariants.{BadKey}
+use Rattle.fisca_model.specs.declared.key.Key.{Key}
 use Rattle.fisca_params.specs.Results.{and_then}
 use Rattle.fisca_yaml.specs.Find.{get}
 use Rattle.fisca_yaml.specs.Node.{Node, null, scalar, list, map, Entries, no_entries, entry}

@@ -1,30 +1,29 @@
 -- The inputs that axes move: of which variable, member and period each is.
-use Rattle.std.specs.Prelude.{ℕ, List, [], ◌∷◌, ◌++◌, map, Bool, ◌||◌, nat_lt, if◌then◌else◌, Option, Some, None, option_and_then, Result, Ok, Err, slice_get}
-use Rattle.fisca_calc.specs.Faults.{fault_at}
-use Rattle.fisca_calc.specs.declared.fault.RunFileFault.{RunFileFault}
-use Rattle.fisca_calc.specs.declared.fault.RunFileKind.TheVariants as kind
+use Rattle.std.specs.Prelude.{ℕ, List, [], ◌∷◌, ◌++◌, map, nat_lt, if◌then◌else◌, Option, Some, None, option_and_then, Result, Ok, Err, slice_get}
+use Rattle.fisca_columns.specs.Faults.{fault_at}
+use Rattle.fisca_columns.specs.declared.fault.RunFileFault.{RunFileFault}
+use Rattle.fisca_columns.specs.declared.fault.RunFileKind.TheVariants as kind
 use Rattle.fisca_grid.specs.declared.axes.AxesFault.TheVariants.{UnknownVariable, BadIndex, AxisOverlap, PeriodMismatch}
 use Rattle.fisca_inputs.specs.Entries.{Entries}
 use Rattle.fisca_inputs.specs.Inputs.{inputs_of}
 use Rattle.fisca_inputs.specs.Rules.{rule_of, is_accepted}
 use Rattle.fisca_inputs.specs.declared.fault.SituationFault.{SituationFault}
 use Rattle.fisca_inputs.specs.declared.given.Given.{Given}
-use Rattle.fisca_inputs.specs.declared.given.Value.TheVariants.{Number}
-use Rattle.fisca_inputs.specs.declared.key.Key.{Key}
-use Rattle.fisca_meaning.specs.Questions.{is_eternity, key_period}
-use Rattle.fisca_rosters.specs.Lookup.{count_at, counts_of}
-use Rattle.fisca_rosters.specs.declared.entity_members.EntityMembers.{EntityMembers}
+use Rattle.fisca_model.specs.declared.value.Value.TheVariants.{Number}
+use Rattle.fisca_model.specs.declared.key.Key.{Key}
+use Rattle.fisca_model.specs.Periods.{is_eternity, key_period}
+use Rattle.fisca_groups.specs.Lookup.{count_at, counts_of}
+use Rattle.fisca_groups.specs.declared.entity_members.EntityMembers.{EntityMembers}
 use Rattle.fisca_num.specs.Number.{zero_number}
 use Rattle.fisca_params.specs.Results.{and_then}
-use Rattle.fisca_situations.specs.Axes.{put_in}
 use Rattle.fisca_situations.specs.Reading.{variable_of}
 use Rattle.fisca_situations.specs.Slots.{has_numbers}
-use Rattle.fisca_tables.specs.declared.tables.Tables.{Tables}
-use Rattle.fisca_tables.specs.declared.variable.Variable.{Variable}
+use Rattle.fisca_symbols.specs.declared.tables.Tables.{Tables}
+use Rattle.fisca_symbols.specs.declared.variable.Variable.{Variable}
 use Rattle.fisca_time.specs.Period.{Span, eternity}
-use Rattle.fisca_typing.specs.Tables.{otherwise}
-use Rattle.fisca_inputs.specs.Overlaps.{meets, overlaps}
+use Rattle.fisca_model.specs.Tables.{otherwise}
 use Rattle.fisca_run_file.specs.SaidAxes.{SaidAxis}
+use Rattle.fisca_situations.specs.AllAxes.{is_overlap, put_all_in}
 
 -- What an axis moves
 
@@ -65,10 +64,6 @@ with_moved c ms default gs (a ∷ rest) = and_then (moved_by c ms default a) (λ
 
 -- Overlaps
 
--- It moves what an earlier axis moves, or what an input says for another period. An input of just this period is replaced.
-abbrev pub is_overlap : List Given → List Given → Given → Bool
-is_overlap given before g = meets before g.variable g.member g.period || overlaps given g.variable g.member g.period
-
 -- the later of two is told of
 abbrev pub apart_from : List Given → List Given → List Given → Result (List Key) RunFileFault
 apart_from given before [] = Ok []
@@ -76,11 +71,6 @@ apart_from given before (g ∷ gs) =
     if is_overlap given before g then fault_at g.line (kind.Axes AxisOverlap) else apart_from given (before ++ g ∷ []) gs
 
 -- The inputs with those of axes
-
--- each put in, or in the place of that of just its variable, member and period
-abbrev pub put_all_in : List Given → List Given → List Given
-put_all_in given [] = given
-put_all_in given (g ∷ gs) = put_all_in (put_in given g) gs
 
 -- what the sharing of inputs with those of axes refuses is told of the line of `axes`
 abbrev pub shared_or_fault : ℕ → Result Entries SituationFault → Result (List Key) RunFileFault

@@ -1,14 +1,14 @@
 -- The variables that a run file neutralises.
 use Rattle.std.specs.Prelude.{ℕ, List, map as list_map, Bool, true, false, Option, Some, None, option_map, option_and_then, Result, Ok, slice_set, codes}
 use Rattle.std.specs.Option.{unwrap_or}
-use Rattle.fisca_calc.specs.Faults.{fault_at}
-use Rattle.fisca_calc.specs.declared.fault.RunFileFault.{RunFileFault}
-use Rattle.fisca_calc.specs.declared.fault.RunFileKind.TheVariants.{BadNeutral}
-use Rattle.fisca_calc.specs.Columns.{if_usable}
+use Rattle.fisca_columns.specs.Faults.{fault_at}
+use Rattle.fisca_columns.specs.declared.fault.RunFileFault.{RunFileFault}
+use Rattle.fisca_columns.specs.declared.fault.RunFileKind.TheVariants.{BadNeutral}
+use Rattle.fisca_columns.specs.Columns.{if_usable}
 use Rattle.fisca_params.specs.Results.{and_then}
-use Rattle.fisca_tables.specs.Known.{tables as known}
-use Rattle.fisca_tables.specs.declared.tables.Tables.{Tables}
-use Rattle.fisca_typing.specs.Tables.{variable_named}
+use Rattle.fisca_symbols.specs.Known.{tables as known}
+use Rattle.fisca_symbols.specs.declared.tables.Tables.{Tables}
+use Rattle.fisca_model.specs.Tables.{variable_named}
 use Rattle.fisca_yaml.specs.Find.{get}
 use Rattle.fisca_yaml.specs.Node.{Node, null, scalar, list, map, Items, no_items, item}
 

@@ -7,15 +7,15 @@ use Rattle.fisca_inputs.specs.Inputs.{inputs_of, without_marked}
 use Rattle.fisca_inputs.specs.Rules.{rule_of}
 use Rattle.fisca_inputs.specs.declared.fault.SituationFault.{SituationFault}
 use Rattle.fisca_inputs.specs.declared.given.Given.{Given}
-use Rattle.fisca_inputs.specs.declared.given.Value.TheVariants as value
-use Rattle.fisca_rosters.specs.Lookup.{counts_of}
+use Rattle.fisca_model.specs.declared.value.Value.TheVariants as value
+use Rattle.fisca_groups.specs.Lookup.{counts_of}
 use Rattle.fisca_num.specs.Number.{Number}
 use Rattle.fisca_params.specs.Results.{and_then}
 use Rattle.fisca_situations.specs.Cuts.{cut_for}
 use Rattle.fisca_situations.specs.Situations.{Situation}
-use Rattle.fisca_tables.specs.declared.tables.Tables.{Tables}
-use Rattle.fisca_tables.specs.declared.variable.Variable.{Variable}
-use Rattle.fisca_run_file.specs.Moved.{put_all_in}
+use Rattle.fisca_symbols.specs.declared.tables.Tables.{Tables}
+use Rattle.fisca_symbols.specs.declared.variable.Variable.{Variable}
+use Rattle.fisca_situations.specs.AllAxes.{put_all_in}
 use Rattle.fisca_run_file.specs.RunFiles.{RunFile}
 
 -- Values

@@ -2,17 +2,17 @@
 -- the situation of its input, then its axes, its columns and its conditions; the first fault is told.
 use Rattle.std.specs.Prelude.{ℕ, List, [], Bool, Option, Result, Ok, codes}
 use Rattle.std.specs.Option.{unwrap_or}
-use Rattle.fisca_calc.specs.Calc.{default_in, columns_in}
-use Rattle.fisca_calc.specs.Faults.{told}
-use Rattle.fisca_calc.specs.declared.fault.RunFileFault.{RunFileFault}
+use Rattle.fisca_columns.specs.Calc.{default_in, columns_in}
+use Rattle.fisca_columns.specs.Faults.{told}
+use Rattle.fisca_columns.specs.declared.fault.RunFileFault.{RunFileFault}
 use Rattle.fisca_grid.specs.declared.axes.AxisSpec.{AxisSpec}
 use Rattle.fisca_inputs.specs.Inputs.{without_marked}
 use Rattle.fisca_inputs.specs.declared.given.Given.{Given}
-use Rattle.fisca_inputs.specs.declared.key.Key.{Key}
+use Rattle.fisca_model.specs.declared.key.Key.{Key}
 use Rattle.fisca_params.specs.Results.{and_then}
 use Rattle.fisca_situations.specs.Situations.{Situation, reading_of, situation_by}
 use Rattle.fisca_situations.specs.declared.reading.Reading.{Reading}
-use Rattle.fisca_tables.specs.declared.tables.Tables.{Tables}
+use Rattle.fisca_symbols.specs.declared.tables.Tables.{Tables}
 use Rattle.fisca_time.specs.Period.{Span}
 use Rattle.fisca_yaml.specs.Find.{get, line_at}
 use Rattle.fisca_yaml.specs.Node.{Node, null}

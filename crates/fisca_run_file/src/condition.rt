@@ -3,18 +3,18 @@
 ghost use Rattle.std.specs.Prelude.{◌≡◌, option_map};
 ghost use Rattle.fisca_grid.specs.Condition.{signs};
 ghost use Rattle.fisca_grid.specs.Words.{literal_of};
-ghost use Rattle.fisca_meaning.specs.Questions.{variable_type};
+ghost use Rattle.fisca_model.specs.Tables.{variable_type};
 ghost use Rattle.fisca_run_file.specs.Conditions as spec;
 ghost use Rattle.fisca_situations.specs.Views.{situation as situation_view};
-ghost use Rattle.fisca_tables.specs.Known.{tables as known};
-ghost use Rattle.fisca_tables.specs.KnownVariables.{value_type as known_type};
+ghost use Rattle.fisca_symbols.specs.Known.{tables as known};
+ghost use Rattle.fisca_symbols.specs.KnownVariables.{value_type as known_type};
 
-use fisca_calc::read_column;
-use fisca_grid::{Comparison, around_first, past_spaces};
-use fisca_inputs::{Key, Value};
+use fisca_columns::read_column;
+use fisca_grid::{AxisComparison, around_first, past_spaces};
+use fisca_model::{Key, Value};
 use fisca_num::Fraction;
 use fisca_situations::Situation;
-use fisca_tables::{DeclaredType, Tables};
+use fisca_symbols::{DeclaredType, Tables};
 use fisca_time::Period;
 
 /// A condition: how the value of a key is compared with a constant of its type.
@@ -23,7 +23,7 @@ pub struct Condition {
     /// The key.
     pub key: Key,
     /// How it is compared.
-    pub comparison: Comparison,
+    pub comparison: AxisComparison,
     /// The constant.
     pub constant: Value,
 }
@@ -40,33 +40,36 @@ fn before_spaces(text: &str) -> &str
 }
 
 /// The comparison of a text, and what stands before and behind its sign. A longer sign comes before the one that begins it.
-fn around_sign(text: &str) -> Option<(Comparison, (&str, &str))>
+fn around_sign(text: &str) -> Option<(AxisComparison, (&str, &str))>
     ensures { option_map (λ s. (s.0, (s.1.0.now, s.1.1.now))) result ≡ spec.around_sign signs text.now }
 {
     if let Some(parts) = around_first(text, ">=") {
-        Some((Comparison::AtLeast, parts))
+        Some((AxisComparison::AtLeast, parts))
     } else if let Some(parts) = around_first(text, "<=") {
-        Some((Comparison::AtMost, parts))
+        Some((AxisComparison::AtMost, parts))
     } else if let Some(parts) = around_first(text, "==") {
-        Some((Comparison::Equal, parts))
+        Some((AxisComparison::Equal, parts))
     } else if let Some(parts) = around_first(text, "!=") {
-        Some((Comparison::NotEqual, parts))
+        Some((AxisComparison::NotEqual, parts))
     } else if let Some(parts) = around_first(text, ">") {
-        Some((Comparison::Above, parts))
+        Some((AxisComparison::Above, parts))
     } else if let Some(parts) = around_first(text, "<") {
-        Some((Comparison::Below, parts))
+        Some((AxisComparison::Below, parts))
     } else {
         None
     }
 }
 
 /// Whether a comparison goes by an order, which bools and members of Enums have not.
-fn is_of_order(comparison: Comparison) -> bool
+fn is_of_order(comparison: AxisComparison) -> bool
     ensures { result ≡ spec.is_of_order comparison }
 {
     match comparison {
-        Comparison::AtLeast | Comparison::AtMost | Comparison::Above | Comparison::Below => true,
-        Comparison::Equal | Comparison::NotEqual => false,
+        AxisComparison::AtLeast
+        | AxisComparison::AtMost
+        | AxisComparison::Above
+        | AxisComparison::Below => true,
+        AxisComparison::Equal | AxisComparison::NotEqual => false,
     }
 }
 
@@ -91,7 +94,7 @@ fn number_of(text: &str) -> Option<Fraction>
 /// What a text stands for beside values of a type.
 fn constant_of(
     tables: &Tables<'_>,
-    comparison: Comparison,
+    comparison: AxisComparison,
     value_type: DeclaredType,
     text: &str,
 ) -> Option<Value>
@@ -112,7 +115,7 @@ fn constant_of(
 /// The same beside values of the variable at a place.
 fn constant_at(
     tables: &Tables<'_>,
-    comparison: Comparison,
+    comparison: AxisComparison,
     variable: usize,
     text: &str,
 ) -> Option<Value>
@@ -127,7 +130,7 @@ fn condition_by(
     tables: &Tables<'_>,
     situation: &Situation,
     default: Option<Period>,
-    comparison: Comparison,
+    comparison: AxisComparison,
     column: &str,
     constant: &str,
 ) -> Option<Condition>

@@ -1,17 +1,17 @@
 //! The conditions of a filter.
 
 ghost use Rattle.std.specs.Prelude.{◌≡◌, [], ◌∷◌, ◌++◌, Ok, OnOk};
-ghost use Rattle.fisca_calc.specs.Outcomes.{Answers, Tells};
+ghost use Rattle.fisca_columns.specs.Outcomes.{Answers, Tells};
 ghost use Rattle.fisca_params.specs.Results.{and_then};
 ghost use Rattle.fisca_run_file.specs.Conditions as spec;
 ghost use Rattle.fisca_situations.specs.Views.{situation as situation_view};
-ghost use Rattle.fisca_tables.specs.Known.{tables as known};
+ghost use Rattle.fisca_symbols.specs.Known.{tables as known};
 ghost use Rattle.fisca_yaml.specs.Views.{node, items_view};
 
 use crate::condition::{Condition, read_condition};
-use fisca_calc::{RunFileFault, RunFileKind, default_in};
+use fisca_columns::{RunFileFault, RunFileKind, default_in};
 use fisca_situations::Situation;
-use fisca_tables::Tables;
+use fisca_symbols::Tables;
 use fisca_time::Period;
 use fisca_yaml::{Item, Tree};
 use std::alloc::{AllocError, Global};

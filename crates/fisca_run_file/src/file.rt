@@ -4,7 +4,7 @@ ghost use Rattle.std.specs.Prelude.{◌≡◌, length, map};
 
 use crate::conditions::Conditions;
 use crate::moved::MovedInputs;
-use fisca_calc::Columns;
+use fisca_columns::Columns;
 use fisca_grid::Axes;
 use fisca_situations::{GivenInputs, Situation};
 

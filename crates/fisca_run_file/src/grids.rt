@@ -1,7 +1,7 @@
 //! The grid that the axes of a run file make.
 
 ghost use Rattle.std.specs.Prelude.{◌≡◌, IfOk, is_some, length, map, sum};
-ghost use Rattle.fisca_calc.specs.Outcomes.{Tells};
+ghost use Rattle.fisca_columns.specs.Outcomes.{Tells};
 ghost use Rattle.fisca_grid.specs.Axes.{axis_fault, is_bound};
 ghost use Rattle.fisca_grid.specs.Grid.{groups_of};
 ghost use Rattle.fisca_run_file.specs.Grids as spec;
@@ -9,7 +9,7 @@ ghost use Rattle.fisca_run_file.specs.Views.{said_axes as said_axes_view, said_l
 
 use crate::said::SaidAxes;
 use crate::said_axis::SaidAxis;
-use fisca_calc::{RunFileFault, RunFileKind};
+use fisca_columns::{RunFileFault, RunFileKind};
 use fisca_grid::{Axes, AxesFault, AxisSpec};
 use fisca_num::Fraction;
 use std::alloc::{AllocError, Global};

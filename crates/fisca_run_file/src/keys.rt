@@ -1,13 +1,13 @@
 //! The keys of a run file.
 
 ghost use Rattle.std.specs.Prelude.{◌≡◌, [], option_map};
-ghost use Rattle.fisca_calc.specs.Outcomes.{Answers, Tells};
+ghost use Rattle.fisca_columns.specs.Outcomes.{Answers, Tells};
 ghost use Rattle.fisca_run_file.specs.Keys as spec;
 ghost use Rattle.fisca_yaml.specs.Views.{node, entries_view};
 
 use crate::said_axes::axes_said;
 use crate::said_axis::bad_key;
-use fisca_calc::{RunFileFault, are_columns, period_in};
+use fisca_columns::{RunFileFault, are_columns, period_in};
 use fisca_yaml::{Entry, Tree};
 use std::alloc::Global;
 

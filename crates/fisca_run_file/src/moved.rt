@@ -1,19 +1,21 @@
 //! The inputs that axes move.
 
 ghost use Rattle.std.specs.Prelude.{◌≡◌, [], option_map};
-ghost use Rattle.fisca_calc.specs.Outcomes.{Answers, Tells};
+ghost use Rattle.fisca_columns.specs.Outcomes.{Answers, Tells};
 ghost use Rattle.fisca_run_file.specs.Moved as spec;
+ghost use Rattle.fisca_situations.specs.AllAxes as all_axes;
 ghost use Rattle.fisca_run_file.specs.Views.{said_axis as said_axis_view, said_list};
 ghost use Rattle.fisca_situations.specs.Reading as naming;
 ghost use Rattle.fisca_situations.specs.Views.{situation as situation_view};
 
 use crate::said_axis::SaidAxis;
-use fisca_calc::{RunFileFault, RunFileKind};
+use fisca_columns::{RunFileFault, RunFileKind};
 use fisca_grid::AxesFault;
-use fisca_inputs::{Given, Value, key_period, meets, overlaps, takes};
+use fisca_inputs::{Given, key_period, meets, overlaps, takes};
+use fisca_model::Value;
 use fisca_num::Fraction;
 use fisca_situations::{Situation, has_numbers, push_input};
-use fisca_tables::{Tables, Variable};
+use fisca_symbols::{Tables, Variable};
 use fisca_time::{Period, Unit};
 use std::alloc::Global;
 use std::marker::Model;
@@ -150,7 +152,7 @@ pub(crate) fn all_moved(
 
 /// Whether this moves what one of these moves, or what an input says for another period.
 fn is_overlap(given: &[Given], before: &[Given], input: &Given) -> bool
-    ensures { result ≡ spec.is_overlap given.now before.now input.now }
+    ensures { result ≡ all_axes.is_overlap given.now before.now input.now }
 {
     meets(before, input.variable, input.member, input.period)
         || overlaps(given, input.variable, input.member, input.period)

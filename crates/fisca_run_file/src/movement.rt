@@ -1,7 +1,7 @@
 //! The axes of a run file, and what they move.
 
 ghost use Rattle.std.specs.Prelude.{◌≡◌, []};
-ghost use Rattle.fisca_calc.specs.Outcomes.{Tells};
+ghost use Rattle.fisca_columns.specs.Outcomes.{Tells};
 ghost use Rattle.fisca_run_file.specs.RunFiles as spec;
 ghost use Rattle.fisca_run_file.specs.Views.{movement as movement_view, said_axes as said_axes_view, said_list, setting as setting_view};
 ghost use Rattle.fisca_yaml.specs.Views.{node};
@@ -14,8 +14,8 @@ use crate::said_axes::axes_said;
 use crate::said_axis::SaidAxis;
 use crate::setting::Setting;
 use crate::sharing::check_sharing;
-use fisca_calc::{RunFileFault, default_in};
-use fisca_tables::Tables;
+use fisca_columns::{RunFileFault, default_in};
+use fisca_symbols::Tables;
 use fisca_time::Period;
 use fisca_yaml::Tree;
 use std::alloc::Global;

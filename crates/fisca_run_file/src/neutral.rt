@@ -1,12 +1,12 @@
 //! The variables that a run file neutralises.
 
 ghost use Rattle.std.specs.Prelude.{◌≡◌, IfOk};
-ghost use Rattle.fisca_calc.specs.Outcomes.{Tells};
+ghost use Rattle.fisca_columns.specs.Outcomes.{Tells};
 ghost use Rattle.fisca_run_file.specs.Neutral as spec;
 ghost use Rattle.fisca_yaml.specs.Views.{node, items_view};
 
-use fisca_calc::{RunFileFault, RunFileKind};
-use fisca_tables::{DeclaredType, Tables};
+use fisca_columns::{RunFileFault, RunFileKind};
+use fisca_symbols::{DeclaredType, Tables};
 use fisca_yaml::{Item, Tree};
 use std::alloc::{AllocError, Global};
 

@@ -11,11 +11,12 @@ ghost use Rattle.fisca_situations.specs.Views.{situation as situation_view};
 use crate::file::RunFile;
 use crate::sharing::put_all_in;
 use fisca_grid::Axes;
-use fisca_inputs::{Given, Inputs, SituationFault, Value};
+use fisca_inputs::{Given, Inputs, SituationFault};
 use fisca_members::Members;
+use fisca_model::Value;
 use fisca_num::Fraction;
 use fisca_situations::{Situation, cut_for, push_input};
-use fisca_tables::Tables;
+use fisca_symbols::Tables;
 use std::alloc::{AllocError, Global};
 
 /// A value of an axis for the variable at a place.

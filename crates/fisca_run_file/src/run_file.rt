@@ -1,7 +1,7 @@
 //! Files of `fisca run`.
 
 ghost use Rattle.std.specs.Prelude.{◌≡◌, length, map};
-ghost use Rattle.fisca_calc.specs.Outcomes.{Tells};
+ghost use Rattle.fisca_columns.specs.Outcomes.{Tells};
 ghost use Rattle.fisca_inputs.specs.Overlaps.{overlaps as overlaps_spec};
 ghost use Rattle.fisca_run_file.specs.RunFiles as spec;
 ghost use Rattle.fisca_run_file.specs.Views.{movement as movement_view, run_file as run_file_view, setting as setting_view};
@@ -13,10 +13,10 @@ use crate::file::{Movement, RunFile};
 use crate::keys::check_file;
 use crate::movement::movement_in;
 use crate::setting::{Setting, setting_in};
-use fisca_calc::{RunFileFault, columns_in};
+use fisca_columns::{RunFileFault, columns_in};
 use fisca_inputs::overlaps;
 use fisca_situations::Situation;
-use fisca_tables::Tables;
+use fisca_symbols::Tables;
 use fisca_time::Period;
 use fisca_yaml::Tree;
 use std::alloc::Global;

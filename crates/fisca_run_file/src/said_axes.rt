@@ -1,14 +1,14 @@
 //! The axes of a run file in groups, as they are said.
 
 ghost use Rattle.std.specs.Prelude.{◌≡◌, ◌+◌, length, IfOk};
-ghost use Rattle.fisca_calc.specs.Outcomes.{Tells};
+ghost use Rattle.fisca_columns.specs.Outcomes.{Tells};
 ghost use Rattle.fisca_run_file.specs.SaidAxes as spec;
 ghost use Rattle.fisca_run_file.specs.Views.{said_axes as said_axes_view, said_list};
 ghost use Rattle.fisca_yaml.specs.Views.{node, items_view};
 
 use crate::said::SaidAxes;
 use crate::said_axis::{SaidAxis, axis_said, bad_key};
-use fisca_calc::{RunFileFault, RunFileKind};
+use fisca_columns::{RunFileFault, RunFileKind};
 use fisca_yaml::{Item, Tree};
 use std::alloc::Global;
 

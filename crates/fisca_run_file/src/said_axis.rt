@@ -1,12 +1,12 @@
 //! An axis of a run file, as it is said.
 
 ghost use Rattle.std.specs.Prelude.{◌≡◌, [], option_map};
-ghost use Rattle.fisca_calc.specs.Outcomes.{Answers, Tells};
+ghost use Rattle.fisca_columns.specs.Outcomes.{Answers, Tells};
 ghost use Rattle.fisca_run_file.specs.SaidAxes as spec;
 ghost use Rattle.fisca_run_file.specs.Views.{said_axis as said_axis_view};
 ghost use Rattle.fisca_yaml.specs.Views.{node, entries_view};
 
-use fisca_calc::{RunFileFault, RunFileKind, period_in};
+use fisca_columns::{RunFileFault, RunFileKind, period_in};
 use fisca_grid::AxisSpec;
 use fisca_num::Fraction;
 use fisca_time::Period;

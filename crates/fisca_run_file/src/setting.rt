@@ -1,22 +1,22 @@
 //! The situation of a run file without its axes.
 
 ghost use Rattle.std.specs.Prelude.{◌≡◌, map};
-ghost use Rattle.fisca_calc.specs.Faults.{told};
-ghost use Rattle.fisca_calc.specs.Outcomes.{Tells};
+ghost use Rattle.fisca_columns.specs.Faults.{told};
+ghost use Rattle.fisca_columns.specs.Outcomes.{Tells};
 ghost use Rattle.fisca_inputs.specs.Inputs.{inputs_of};
 ghost use Rattle.fisca_inputs.specs.Rules.{rule_of};
-ghost use Rattle.fisca_rosters.specs.Lookup.{counts_of};
+ghost use Rattle.fisca_groups.specs.Lookup.{counts_of};
 ghost use Rattle.fisca_run_file.specs.RunFiles as spec;
 ghost use Rattle.fisca_run_file.specs.Views.{setting as setting_view};
 ghost use Rattle.fisca_situations.specs.Situations.{reading_of as reading_spec};
 ghost use Rattle.fisca_yaml.specs.Views.{node};
 
 use crate::neutral::marks_in;
-use fisca_calc::{RunFileFault, RunFileKind, default_in};
+use fisca_columns::{RunFileFault, RunFileKind, default_in};
 use fisca_inputs::{Inputs, SituationKind};
 use fisca_members::Members;
 use fisca_situations::{GivenInputs, Reading, Situation, reading_of};
-use fisca_tables::Tables;
+use fisca_symbols::Tables;
 use fisca_time::Period;
 use fisca_yaml::Tree;
 use std::alloc::Global;

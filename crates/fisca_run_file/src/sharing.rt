@@ -1,14 +1,15 @@
 //! Inputs with those that axes move.
 
 ghost use Rattle.std.specs.Prelude.{◌≡◌, [], IfOk};
-ghost use Rattle.fisca_calc.specs.Outcomes.{Tells};
+ghost use Rattle.fisca_columns.specs.Outcomes.{Tells};
 ghost use Rattle.fisca_run_file.specs.Moved as spec;
+ghost use Rattle.fisca_situations.specs.AllAxes as all_axes;
 ghost use Rattle.fisca_situations.specs.Views.{situation as situation_view};
 
-use fisca_calc::{RunFileFault, RunFileKind};
+use fisca_columns::{RunFileFault, RunFileKind};
 use fisca_inputs::{Given, Inputs, SituationKind};
 use fisca_situations::{Situation, put_in};
-use fisca_tables::Tables;
+use fisca_symbols::Tables;
 use std::alloc::{AllocError, Global};
 
 /// The inputs with these put in.
@@ -17,7 +18,7 @@ pub(crate) fn put_all_in(
     given: &[Given],
     moved: &[Given],
 ) -> Result<Vec<Given>, AllocError>
-    ensures { IfOk result (λ v. v.items ≡ spec.put_all_in given.now moved.now) }
+    ensures { IfOk result (λ v. v.items ≡ all_axes.put_all_in given.now moved.now) }
 {
     let mut all = Vec::with_capacity(alloc, given.len())?;
     all.extend_from_slice(given)?;

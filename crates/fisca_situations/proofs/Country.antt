@@ -2,16 +2,16 @@
 use Rattle.std.proofs.Common.{ℕ, List, [], ◌∷◌, codes}
 use Rattle.std.specs.Prelude.{true, false, Option, Some, None}
 use Rattle.fisca_num.specs.Number.{zero_number}
-use Rattle.fisca_tables.specs.declared.entity.Entity.{Entity}
-use Rattle.fisca_tables.specs.declared.role.Role.{Role}
-use Rattle.fisca_tables.specs.declared.tables.Tables.{Tables}
-use Rattle.fisca_tables.specs.declared.variable.DeclaredType.{DeclaredType}
-use Rattle.fisca_tables.specs.declared.variable.DeclaredType.TheVariants as type
-use Rattle.fisca_tables.specs.declared.variable.DefaultValue.{DefaultValue}
-use Rattle.fisca_tables.specs.declared.variable.DefaultValue.TheVariants as default
-use Rattle.fisca_tables.specs.declared.variable.SetInput.{SetInput}
-use Rattle.fisca_tables.specs.declared.variable.SetInput.TheVariants as shared
-use Rattle.fisca_tables.specs.declared.variable.Variable.{Variable}
+use Rattle.fisca_symbols.specs.declared.entity.Entity.{Entity}
+use Rattle.fisca_symbols.specs.declared.role.Role.{Role}
+use Rattle.fisca_symbols.specs.declared.tables.Tables.{Tables}
+use Rattle.fisca_symbols.specs.declared.variable.DeclaredType.{DeclaredType}
+use Rattle.fisca_symbols.specs.declared.variable.DeclaredType.TheVariants as type
+use Rattle.fisca_symbols.specs.declared.variable.DefaultValue.{DefaultValue}
+use Rattle.fisca_symbols.specs.declared.variable.DefaultValue.TheVariants as default
+use Rattle.fisca_symbols.specs.declared.variable.SetInput.{SetInput}
+use Rattle.fisca_symbols.specs.declared.variable.SetInput.TheVariants as shared
+use Rattle.fisca_symbols.specs.declared.variable.Variable.{Variable}
 use Rattle.fisca_time.specs.declared.unit.Unit.{Unit}
 use Rattle.fisca_time.specs.declared.unit.Unit.TheVariants as unit
 
@@ -46,8 +46,6 @@ person = record { constant = codes "Person"; key = codes "person"; plural = code
 -- a variable of this name, of the entity at this place, of a type, with a default, a definition period and how longer inputs are shared
 abbrev pub variable : List ℕ → ℕ → DeclaredType → DefaultValue → Unit → Option SetInput → Variable
 variable name entity t d u s = record {
-  «module» = 0;
-  line = 1;
   name = name;
   entity = entity;
   value_type = t;
@@ -55,11 +53,6 @@ variable name entity t d u s = record {
   default_value = d;
   end = None;
   set_input = s;
-  label = None;
-  documentation = None;
-  unit = None;
-  reference = [];
-  formulas = [];
 }
 
 -- the default of a number

@@ -4,9 +4,9 @@ use Rattle.std.specs.Prelude.{nat_lt, not, IfOk, OnOk, Result, Ok, Err}
 use Rattle.std.specs.List.{list_any}
 use Rattle.fisca_inputs.specs.Entries.{same_key}
 use Rattle.fisca_inputs.specs.Inputs.{key_given}
-use Rattle.fisca_inputs.specs.contracts.key.KeyEq.TheImpl.Laws.{laws-law}
+use Rattle.fisca_model.specs.contracts.key.KeyEq.TheImpl.Laws.{laws-law}
 use Rattle.fisca_inputs.specs.declared.given.Given.{Given}
-use Rattle.fisca_inputs.specs.declared.key.Key.{Key}
+use Rattle.fisca_model.specs.declared.key.Key.{Key}
 use Rattle.fisca_situations.specs.GivenKeys.{HasKeys, is_key_of}
 
 -- which of two keys comes first does not matter

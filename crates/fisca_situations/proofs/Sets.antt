@@ -4,9 +4,9 @@ use Rattle.std.specs.Prelude.{Ok, Err}
 use Rattle.std.specs.List.{list_any}
 use Rattle.fisca_inputs.specs.Anew.{set_keys}
 use Rattle.fisca_inputs.specs.Entries.{Entries, key, same_key}
-use Rattle.fisca_inputs.specs.declared.given.Value.{Value}
-use Rattle.fisca_inputs.specs.declared.given.Value.TheVariants.{Number as number}
-use Rattle.fisca_inputs.specs.declared.key.Key.{Key}
+use Rattle.fisca_model.specs.declared.value.Value.{Value}
+use Rattle.fisca_model.specs.declared.value.Value.TheVariants.{Number as number}
+use Rattle.fisca_model.specs.declared.key.Key.{Key}
 use Rattle.fisca_num.specs.Number.{Number}
 use Rattle.fisca_num.specs.declared.faults.NumFault.{NumFault}
 use Rattle.fisca_situations.specs.Sets.{set_each}

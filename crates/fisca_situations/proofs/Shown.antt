@@ -1,8 +1,8 @@
 -- Values as examples write them, and months.
 use Rattle.std.proofs.Common.{ℕ, ◌+◌, ◌-◌, ◌*◌}
 use Rattle.std.specs.Prelude.{ℤ, Bool}
-use Rattle.fisca_inputs.specs.declared.given.Value.{Value}
-use Rattle.fisca_inputs.specs.declared.given.Value.TheVariants as v
+use Rattle.fisca_model.specs.declared.value.Value.{Value}
+use Rattle.fisca_model.specs.declared.value.Value.TheVariants as v
 use Rattle.fisca_time.specs.Period.{Span, months}
 use Rattle.fisca_time.specs.declared.unit.Unit.TheVariants as unit
 

@@ -4,9 +4,9 @@ use Rattle.fisca_inputs.specs.declared.fault.SituationFault.{SituationFault}
 use Rattle.fisca_inputs.specs.declared.given.Given.{Given}
 use Rattle.fisca_members.specs.Faults.{entries_in}
 use Rattle.fisca_params.specs.Results.{and_then}
-use Rattle.fisca_tables.specs.declared.tables.Tables.{Tables}
+use Rattle.fisca_symbols.specs.declared.tables.Tables.{Tables}
 use Rattle.fisca_time.specs.Period.{Span}
-use Rattle.fisca_typing.specs.Tables.{Role}
+use Rattle.fisca_model.specs.Tables.{Role}
 use Rattle.fisca_yaml.specs.Node.{Node, Entries, entry}
 use Rattle.fisca_situations.specs.Reading.{member_below, members_given}
 

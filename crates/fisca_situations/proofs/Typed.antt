@@ -9,34 +9,35 @@ use Rattle.fisca_inputs.specs.Entries.{same_key, value_at}
 use Rattle.fisca_inputs.specs.Faults.{at_line}
 use Rattle.fisca_inputs.specs.Inputs.{and_given, key_given, inputs_of}
 use Rattle.fisca_inputs.specs.Rules.{is_accepted, rule_of}
-use Rattle.fisca_inputs.specs.Seen.{value_seen}
+use Rattle.fisca_model.specs.Seen.{value_seen}
 use Rattle.fisca_inputs.specs.Typed.{is_typed, IsValueOf, GivensTyped, DefaultsTyped}
 use Rattle.fisca_inputs.specs.declared.fault.SituationFault.{SituationFault}
 use Rattle.fisca_inputs.specs.declared.fault.SituationKind.TheVariants as kind
 use Rattle.fisca_inputs.specs.declared.given.Given.{Given}
-use Rattle.fisca_inputs.specs.declared.given.Value.{Value}
-use Rattle.fisca_inputs.specs.declared.given.Value.TheVariants as v
-use Rattle.fisca_inputs.specs.declared.key.Key.{Key}
-use Rattle.fisca_meaning.specs.Questions.{is_eternity, key_period, type_in, variable_type}
+use Rattle.fisca_model.specs.declared.value.Value.{Value}
+use Rattle.fisca_model.specs.declared.value.Value.TheVariants as v
+use Rattle.fisca_model.specs.declared.key.Key.{Key}
+use Rattle.fisca_model.specs.Periods.{is_eternity, key_period}
+use Rattle.fisca_model.specs.Tables.{type_in, variable_type}
 use Rattle.fisca_members.specs.Faults.{entries_in}
 use Rattle.fisca_members.specs.Groups.{role_named}
-use Rattle.fisca_rosters.specs.Lookup.{counts_of}
+use Rattle.fisca_groups.specs.Lookup.{counts_of}
 use Rattle.fisca_members.specs.Members.{members_in}
 use Rattle.fisca_members.specs.Persons.{most_members}
 use Rattle.fisca_members.specs.Sections.{Input, one_person, sections, Section, input_of, titles_of}
 use Rattle.fisca_num.specs.Number.{Number}
 use Rattle.fisca_params.specs.Results.{and_then}
-use Rattle.fisca_tables.specs.Known.{tables as known}
-use Rattle.fisca_tables.specs.KnownVariables.{value_type, variable}
-use Rattle.fisca_tables.specs.declared.tables.Tables.{Tables}
-use Rattle.fisca_tables.specs.declared.variable.DeclaredType.{DeclaredType}
-use Rattle.fisca_tables.specs.declared.variable.DeclaredType.TheVariants as type
-use Rattle.fisca_tables.specs.declared.variable.Variable.{Variable}
+use Rattle.fisca_symbols.specs.Known.{tables as known}
+use Rattle.fisca_symbols.specs.KnownVariables.{value_type, variable}
+use Rattle.fisca_symbols.specs.declared.tables.Tables.{Tables}
+use Rattle.fisca_symbols.specs.declared.variable.DeclaredType.{DeclaredType}
+use Rattle.fisca_symbols.specs.declared.variable.DeclaredType.TheVariants as type
+use Rattle.fisca_symbols.specs.declared.variable.Variable.{Variable}
 use Rattle.fisca_time.specs.Period.{Span, eternity}
 use Rattle.fisca_time.specs.PeriodText.{period_of_text}
 use Rattle.fisca_time.specs.declared.fault.TimeFault.{TimeFault}
-use Rattle.fisca_typing.specs.Tables.{Entity, Role, Tables as Known, member_named, members_at}
-use Rattle.fisca_typing.specs.declared.kinds.ValueType.TheVariants as vt
+use Rattle.fisca_model.specs.Tables.{Entity, Role, Tables as Known, member_named, members_at}
+use Rattle.fisca_model.specs.declared.value_type.ValueType.TheVariants as vt
 use Rattle.fisca_yaml.specs.Find.{as_number, as_text}
 use Rattle.fisca_yaml.specs.Node.{Node, null, scalar, list, map as mapping, Entries, no_entries, entry}
 use Rattle.fisca_situations.specs.Reading.{Place, fault_at, given_of, value_given, read_given, dated_given, all_dated, at_default, variable_given, has_variable, variable_at, variable_of, named_given, entry_given, member_given, member_below, members_given, section_by, section_of, section_given, sections_given, inputs_given}
@@ -56,7 +57,7 @@ position_inside test i (x ∷ xs) e h = by (test x) h (λ k. position_inside tes
     by true q more = let same : i ≡ e = cc in omega (arith, same)
     by false q more = let later = more q in omega (arith, later)
 
-known_type : (vs : List Variable) (i : ℕ) (x : Variable) → slice_get vs i ≡ Some x → type_in (slice_get (map variable vs) i) ≡ value_type x.value_type
+pub known_type : (vs : List Variable) (i : ℕ) (x : Variable) → slice_get vs i ≡ Some x → type_in (slice_get (map variable vs) i) ≡ value_type x.value_type
 known_type [] i x h = cc
 known_type (w ∷ vs) zero x h = let same : w ≡ x = cc in ap (λ y. value_type y.value_type) same
 known_type (w ∷ vs) (suc i) x h = known_type vs i x h
@@ -248,7 +249,8 @@ module _ (c : Tables) (default : Option Span) where
       let same : record { members = one.0; given = more.0 } ≡ r = cc in
       subst (λ (x : Reading). AllTyped x.given) same (given_inputs_typed i more.0 more.1)
 
-  read_all_typed : (line : ℕ) (n : Node) (r : Reading) → reading_of c default line n ≡ Ok r → AllTyped r.given
+  -- whatever is read is of its variable's type
+  pub read_all_typed : (line : ℕ) (n : Node) (r : Reading) → reading_of c default line n ≡ Ok r → AllTyped r.given
   unfolding reading_of
   read_all_typed line n r h =
       let one = then_ok (told (input_of (titles_of (known c).entities) line n)) (reading_in c default line) r h in

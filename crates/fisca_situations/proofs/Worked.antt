@@ -16,10 +16,10 @@ use Rattle.fisca_time.specs.declared.unit.Unit.TheVariants as unit
 use Rattle.fisca_yaml.specs.Flow.{flow_value, series}
 use Rattle.fisca_yaml.specs.Grouping.{document, block}
 use Rattle.fisca_yaml.specs.Node.{Node}
-use Rattle.fisca_rosters.specs.declared.entity_members.EntityMembers.{EntityMembers}
-use Rattle.fisca_meaning.specs.Questions.{Point, persons_at}
-use Rattle.fisca_typing.specs.Tables.{subrole_of, whole_role}
-use Rattle.fisca_rosters.specs.Grouped.{grouped}
+use Rattle.fisca_groups.specs.declared.entity_members.EntityMembers.{EntityMembers}
+use Rattle.fisca_model.specs.Groups.{Point, persons_at}
+use Rattle.fisca_model.specs.Tables.{subrole_of, whole_role}
+use Rattle.fisca_groups.specs.Grouped.{grouped}
 use Rattle.fisca_situations.specs.Reading.{dated_given, entry_given, inputs_given, member_below, named_given, section_by, section_given, value_given, variable_given}
 use Rattle.fisca_situations.specs.declared.reading.Reading.{Reading}
 use Rattle.fisca_situations.specs.Situations.{reading_in, reading_of}

@@ -10,15 +10,15 @@ use Rattle.fisca_inputs.specs.declared.fault.SituationFault.{SituationFault}
 use Rattle.fisca_inputs.specs.declared.fault.SituationKind.{SituationKind}
 use Rattle.fisca_inputs.specs.declared.fault.SituationKind.TheVariants.{UnknownVariable, UnknownPerson, BadValue, InconsistentInput}
 use Rattle.fisca_inputs.specs.declared.given.Given.{Given}
-use Rattle.fisca_inputs.specs.declared.given.Value.TheVariants.{Number}
-use Rattle.fisca_inputs.specs.declared.key.Key.{Key}
-use Rattle.fisca_meaning.specs.Questions.{key_period}
+use Rattle.fisca_model.specs.declared.value.Value.TheVariants.{Number}
+use Rattle.fisca_model.specs.declared.key.Key.{Key}
+use Rattle.fisca_model.specs.Periods.{key_period}
 use Rattle.fisca_num.specs.Number.{zero_number}
 use Rattle.fisca_params.specs.Results.{and_then}
-use Rattle.fisca_rosters.specs.Lookup.{count_at, counts_of}
-use Rattle.fisca_rosters.specs.declared.entity_members.EntityMembers.{EntityMembers}
-use Rattle.fisca_tables.specs.declared.tables.Tables.{Tables}
-use Rattle.fisca_tables.specs.declared.variable.Variable.{Variable}
+use Rattle.fisca_groups.specs.Lookup.{count_at, counts_of}
+use Rattle.fisca_groups.specs.declared.entity_members.EntityMembers.{EntityMembers}
+use Rattle.fisca_symbols.specs.declared.tables.Tables.{Tables}
+use Rattle.fisca_symbols.specs.declared.variable.Variable.{Variable}
 use Rattle.fisca_situations.specs.Situations.{Situation}
 use Rattle.fisca_situations.specs.Slots.{Slot, has_numbers, slot_of}
 

@@ -4,8 +4,8 @@ use Rattle.std.proofs.Common.{arith}
 use Rattle.std.proofs.Math.Nat.{div-le_self}
 use Rattle.std.proofs.lemmas.Int.{ints}
 use Rattle.fisca_num.specs.Number.{Number, trunc_of, whole_number}
-use Rattle.fisca_tables.specs.declared.variable.DeclaredType.{DeclaredType}
-use Rattle.fisca_tables.specs.declared.variable.DeclaredType.TheVariants as type
+use Rattle.fisca_symbols.specs.declared.variable.DeclaredType.{DeclaredType}
+use Rattle.fisca_symbols.specs.declared.variable.DeclaredType.TheVariants as type
 
 size_opposite : (z : ℤ) → unsigned_abs (neg_ℤ z) ≡ unsigned_abs z
 size_opposite z = omega (arith, ints)

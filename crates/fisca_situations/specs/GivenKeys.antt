@@ -4,7 +4,7 @@ use Rattle.std.specs.List.{list_any}
 use Rattle.fisca_inputs.specs.Entries.{same_key}
 use Rattle.fisca_inputs.specs.Inputs.{key_given}
 use Rattle.fisca_inputs.specs.declared.given.Given.{Given}
-use Rattle.fisca_inputs.specs.declared.key.Key.{Key}
+use Rattle.fisca_model.specs.declared.key.Key.{Key}
 
 -- one of these inputs is of this key
 abbrev pub is_key_of : List Given → Key → Bool

@@ -1,3 +1,6 @@
+pub mod AllAxes
+pub mod Answered
+pub mod Asked
 pub mod Axes
 pub mod Cuts
 pub mod GivenKeys

@@ -8,20 +8,20 @@ use Rattle.fisca_inputs.specs.declared.fault.SituationFault.{SituationFault}
 use Rattle.fisca_inputs.specs.declared.fault.SituationKind.{SituationKind}
 use Rattle.fisca_inputs.specs.declared.fault.SituationKind.TheVariants as kind
 use Rattle.fisca_inputs.specs.declared.given.Given.{Given}
-use Rattle.fisca_inputs.specs.declared.given.Value.{Value}
-use Rattle.fisca_meaning.specs.Questions.{is_eternity, key_period}
+use Rattle.fisca_model.specs.declared.value.Value.{Value}
+use Rattle.fisca_model.specs.Periods.{is_eternity, key_period}
 use Rattle.fisca_members.specs.Faults.{entries_in}
 use Rattle.fisca_members.specs.Groups.{role_named}
 use Rattle.fisca_members.specs.Persons.{most_members}
 use Rattle.fisca_members.specs.Sections.{Input, one_person, sections, Section}
 use Rattle.fisca_params.specs.Results.{and_then}
-use Rattle.fisca_tables.specs.Known.{tables as known}
-use Rattle.fisca_tables.specs.declared.tables.Tables.{Tables}
-use Rattle.fisca_tables.specs.declared.variable.Variable.{Variable}
+use Rattle.fisca_symbols.specs.Known.{tables as known}
+use Rattle.fisca_symbols.specs.declared.tables.Tables.{Tables}
+use Rattle.fisca_symbols.specs.declared.variable.Variable.{Variable}
 use Rattle.fisca_time.specs.Period.{Span, eternity}
 use Rattle.fisca_time.specs.PeriodText.{period_of_text}
 use Rattle.fisca_time.specs.declared.fault.TimeFault.{TimeFault}
-use Rattle.fisca_typing.specs.Tables.{Entity, Role, variable_named}
+use Rattle.fisca_model.specs.Tables.{Entity, Role, variable_named}
 use Rattle.fisca_yaml.specs.Find.{begins_on}
 use Rattle.fisca_yaml.specs.Node.{Node, null, scalar, list, map, Entries, no_entries, entry}
 use Rattle.fisca_situations.specs.declared.said.Said.{Said}

@@ -2,7 +2,7 @@
 use Rattle.std.specs.Prelude.{ℕ, List, [], ◌∷◌}
 use Rattle.fisca_inputs.specs.Anew.{set_keys}
 use Rattle.fisca_inputs.specs.Entries.{Entries, key}
-use Rattle.fisca_inputs.specs.declared.given.Value.{Value}
+use Rattle.fisca_model.specs.declared.value.Value.{Value}
 use Rattle.fisca_time.specs.Period.{Span}
 
 abbrev pub set_each : ℕ → ℕ → List Span → Value → Entries → Entries

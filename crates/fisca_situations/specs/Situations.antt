@@ -7,16 +7,16 @@ use Rattle.fisca_inputs.specs.Rules.{rule_of}
 use Rattle.fisca_inputs.specs.declared.fault.SituationFault.{SituationFault}
 use Rattle.fisca_inputs.specs.declared.fault.SituationKind.{SituationKind}
 use Rattle.fisca_inputs.specs.declared.fault.SituationKind.TheVariants as situation
-use Rattle.fisca_rosters.specs.declared.entity_members.EntityMembers.{EntityMembers}
-use Rattle.fisca_members.specs.declared.fault.Kind.{Kind}
-use Rattle.fisca_members.specs.declared.fault.Kind.TheVariants as members
+use Rattle.fisca_groups.specs.declared.entity_members.EntityMembers.{EntityMembers}
+use Rattle.fisca_members.specs.declared.fault.MembersKind.{MembersKind}
+use Rattle.fisca_members.specs.declared.fault.MembersKind.TheVariants as members
 use Rattle.fisca_members.specs.declared.fault.MembersFault.{MembersFault}
-use Rattle.fisca_rosters.specs.Lookup.{counts_of}
+use Rattle.fisca_groups.specs.Lookup.{counts_of}
 use Rattle.fisca_members.specs.Members.{members_in}
 use Rattle.fisca_members.specs.Sections.{Input, input_of, titles_of}
 use Rattle.fisca_params.specs.Results.{and_then}
-use Rattle.fisca_tables.specs.Known.{tables as known}
-use Rattle.fisca_tables.specs.declared.tables.Tables.{Tables}
+use Rattle.fisca_symbols.specs.Known.{tables as known}
+use Rattle.fisca_symbols.specs.declared.tables.Tables.{Tables}
 use Rattle.fisca_time.specs.Period.{Span}
 use Rattle.fisca_yaml.specs.Node.{Node}
 use Rattle.fisca_situations.specs.declared.reading.Reading.{Reading}
@@ -26,7 +26,7 @@ pub record Situation : Type 0 where
   pub members : List EntityMembers
   pub inputs : Entries
 
-abbrev pub kind_of : Kind → SituationKind
+abbrev pub kind_of : MembersKind → SituationKind
 kind_of members.UnknownEntity = situation.UnknownEntity
 kind_of members.UnknownPerson = situation.UnknownPerson
 kind_of members.PersonTwice = situation.PersonTwice

@@ -7,19 +7,19 @@ use Rattle.fisca_inputs.specs.Inputs.{is_marked}
 use Rattle.fisca_inputs.specs.Rules.{Rule, rule_of}
 use Rattle.fisca_inputs.specs.Sharing.{part_ratio}
 use Rattle.fisca_inputs.specs.declared.given.Given.{Given}
-use Rattle.fisca_inputs.specs.declared.given.Value.TheVariants as value
-use Rattle.fisca_inputs.specs.declared.key.Key.{Key}
-use Rattle.fisca_meaning.specs.Questions.{fits, key_period}
+use Rattle.fisca_model.specs.declared.value.Value.TheVariants as value
+use Rattle.fisca_model.specs.declared.key.Key.{Key}
+use Rattle.fisca_model.specs.Periods.{fits, key_period}
 use Rattle.fisca_num.specs.Number.{Number}
 use Rattle.fisca_num.specs.Operations.{number_of}
 use Rattle.fisca_num.specs.declared.faults.NumFault.{NumFault}
 use Rattle.fisca_num.specs.declared.faults.NumFault.TheVariants.{ZeroDivisor}
-use Rattle.fisca_tables.specs.declared.tables.Tables.{Tables}
-use Rattle.fisca_tables.specs.declared.variable.DeclaredType.{DeclaredType}
-use Rattle.fisca_tables.specs.declared.variable.DeclaredType.TheVariants as type
-use Rattle.fisca_tables.specs.declared.variable.SetInput.{SetInput}
-use Rattle.fisca_tables.specs.declared.variable.SetInput.TheVariants.{DivideByPeriod, DispatchByPeriod}
-use Rattle.fisca_tables.specs.declared.variable.Variable.{Variable}
+use Rattle.fisca_symbols.specs.declared.tables.Tables.{Tables}
+use Rattle.fisca_symbols.specs.declared.variable.DeclaredType.{DeclaredType}
+use Rattle.fisca_symbols.specs.declared.variable.DeclaredType.TheVariants as type
+use Rattle.fisca_symbols.specs.declared.variable.SetInput.{SetInput}
+use Rattle.fisca_symbols.specs.declared.variable.SetInput.TheVariants.{DivideByPeriod, DispatchByPeriod}
+use Rattle.fisca_symbols.specs.declared.variable.Variable.{Variable}
 use Rattle.fisca_time.specs.Period.{Span, subs}
 use Rattle.fisca_situations.specs.Cuts.{cut_for}
 

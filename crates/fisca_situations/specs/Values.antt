@@ -1,12 +1,12 @@
 -- What stands for a value of a variable.
 use Rattle.std.specs.Prelude.{ℕ, zero, suc, ℤ, pos, negsuc, List, Bool, true, false, ◌==◌, ◌&&◌, nat_lt, is_ok, is_some, if◌then◌else◌, Option, Some, None, option_map, option_and_then}
-use Rattle.fisca_inputs.specs.declared.given.Value.{Value}
-use Rattle.fisca_inputs.specs.declared.given.Value.TheVariants as v
+use Rattle.fisca_model.specs.declared.value.Value.{Value}
+use Rattle.fisca_model.specs.declared.value.Value.TheVariants as v
 use Rattle.fisca_num.specs.Number.{Number}
-use Rattle.fisca_tables.specs.declared.variable.DeclaredType.{DeclaredType}
-use Rattle.fisca_tables.specs.declared.variable.DeclaredType.TheVariants as type
+use Rattle.fisca_symbols.specs.declared.variable.DeclaredType.{DeclaredType}
+use Rattle.fisca_symbols.specs.declared.variable.DeclaredType.TheVariants as type
 use Rattle.fisca_time.specs.Instant.{instant_of_text}
-use Rattle.fisca_typing.specs.Tables.{Tables, member_named}
+use Rattle.fisca_model.specs.Tables.{Tables, member_named}
 use Rattle.fisca_yaml.specs.Find.{as_bool, as_number, as_text}
 use Rattle.fisca_yaml.specs.Node.{Node}
 use Rattle.fisca_situations.specs.declared.said.Said.{Said}

@@ -9,12 +9,11 @@ use crate::axis_slot::slot_of;
 use crate::putting::put_in;
 use crate::situation::Situation;
 use crate::slot::{Slot, has_numbers};
-use fisca_inputs::{
-    Given, Inputs, Key, SituationFault, SituationKind, Value, key_period, overlaps,
-};
+use fisca_inputs::{Given, Inputs, SituationFault, SituationKind, key_period, overlaps};
 use fisca_members::Members;
+use fisca_model::{Key, Value};
 use fisca_num::Fraction;
-use fisca_tables::{Tables, Variable};
+use fisca_symbols::{Tables, Variable};
 use std::alloc::{AllocError, Global};
 
 /// A fault that no line says.

@@ -1,15 +1,15 @@
 //! The slot of an axis.
 
 ghost use Rattle.std.specs.Prelude.{◌≡◌, ◌++◌, ◌∷◌, [], false, Some, IfOk, OnOk};
-ghost use Rattle.fisca_inputs.specs.Inputs.{is_marked};
 ghost use Rattle.fisca_inputs.specs.Rules.{rule_of};
 ghost use Rattle.fisca_situations.specs.Slots as spec;
 ghost use Rattle.fisca_situations.specs.Views.{slot as slot_view};
 ghost use Rattle.fisca_time.specs.Period.{subs};
 
 use crate::slot::Slot;
-use fisca_inputs::{Given, fits, key_period};
-use fisca_tables::{DeclaredType, SetInput, Tables, Variable};
+use fisca_inputs::{Given, is_marked, key_period};
+use fisca_model::fits;
+use fisca_symbols::{DeclaredType, SetInput, Tables, Variable};
 use fisca_time::{Period, Unit};
 use std::alloc::{AllocError, Global};
 
@@ -63,16 +63,6 @@ fn is_divided(variable: &Variable<'_>, given: &Given) -> bool
     ensures { result ≡ spec.is_divided (rule_of variable.now) given.now }
 {
     !fits(variable.definition_period, given.period) && divides(variable.set_input)
-}
-
-/// Whether the variable at this place has a mark.
-fn is_marked(marks: &[bool], variable: usize) -> bool
-    ensures { result ≡ is_marked marks.now variable }
-{
-    match marks.get(variable) {
-        Some(mark) => *mark,
-        None => false,
-    }
 }
 
 /// The slot of an axis that moves the input of no key.

@@ -4,7 +4,7 @@ ghost use Rattle.std.specs.Prelude.{◌≡◌};
 ghost use Rattle.fisca_situations.specs.Cuts as spec;
 
 use fisca_num::Fraction;
-use fisca_tables::DeclaredType;
+use fisca_symbols::DeclaredType;
 
 /// A number cut towards zero.
 fn whole_part(value: Fraction) -> Fraction

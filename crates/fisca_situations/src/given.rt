@@ -11,8 +11,9 @@ ghost use Rattle.fisca_situations.specs.Views.{place as place_view};
 use crate::given_inputs::GivenInputs;
 use crate::place::Place;
 use crate::said::{Said, said_of};
-use fisca_inputs::{Given, SituationFault, SituationKind, Value, key_period, takes};
-use fisca_tables::Tables;
+use fisca_inputs::{Given, SituationFault, SituationKind, key_period, takes};
+use fisca_model::Value;
+use fisca_symbols::Tables;
 use fisca_time::{Period, TimeFault, Unit};
 use fisca_yaml::{Entry, Tree};
 

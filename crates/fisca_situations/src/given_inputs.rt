@@ -7,10 +7,11 @@ ghost use Rattle.fisca_inputs.specs.Entries.{same_key};
 ghost use Rattle.fisca_inputs.specs.Inputs.{and_given, key_given};
 ghost use Rattle.fisca_inputs.specs.Outcomes.{Tells};
 ghost use Rattle.fisca_inputs.specs.declared.given.Given as declared_given;
-ghost use Rattle.fisca_inputs.specs.declared.key.Key as declared;
+ghost use Rattle.fisca_model.specs.declared.key.Key as declared;
 ghost use Rattle.fisca_situations.specs.GivenKeys.{HasKeys, is_key_of};
 
-use fisca_inputs::{Given, Key, KeyHasher, SituationFault, SituationKind};
+use fisca_inputs::{Given, KeyHasher, SituationFault, SituationKind};
+use fisca_model::Key;
 use indexmap::IndexSet;
 use std::alloc::{AllocError, Global};
 use std::hash::BuildHasherDefault;

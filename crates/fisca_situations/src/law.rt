@@ -3,13 +3,13 @@
 ghost use Rattle.std.specs.Prelude.{◌≡◌, ℕ, map, Option, Some, Ok};
 ghost use Rattle.fisca_inputs.specs.Entries.{value_at};
 ghost use Rattle.fisca_inputs.specs.Rules.{rule_of};
-ghost use Rattle.fisca_inputs.specs.Seen.{value_seen};
+ghost use Rattle.fisca_model.specs.Seen.{value_seen};
 ghost use Rattle.fisca_inputs.specs.Typed.{DefaultsTyped, IsValueOf};
-ghost use Rattle.fisca_inputs.specs.declared.given.Value.{Value};
-ghost use Rattle.fisca_inputs.specs.declared.key.Key.{Key};
+ghost use Rattle.fisca_model.specs.declared.value.Value.{Value};
+ghost use Rattle.fisca_model.specs.declared.key.Key.{Key};
 ghost use Rattle.fisca_situations.specs.Situations.{Situation, situation_of};
-ghost use Rattle.fisca_tables.specs.Known.{tables as known};
-ghost use Rattle.fisca_tables.specs.declared.tables.Tables.{Tables};
+ghost use Rattle.fisca_symbols.specs.Known.{tables as known};
+ghost use Rattle.fisca_symbols.specs.declared.tables.Tables.{Tables};
 ghost use Rattle.fisca_time.specs.Period.{Span};
 ghost use Rattle.fisca_yaml.specs.Node.{Node};
 

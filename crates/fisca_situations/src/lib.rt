@@ -1,6 +1,7 @@
 //! Situations: the members of entities and their inputs, as a YAML tree says them, and what axes move of these.
 #![tactic(auto)]
 
+mod answers;
 mod axis;
 mod axis_slot;
 mod cuts;
@@ -16,6 +17,7 @@ mod situation;
 mod slot;
 mod variables;
 
+pub use answers::Answers;
 pub use axis_slot::slot_of;
 pub use cuts::cut_for;
 pub use given_inputs::GivenInputs;

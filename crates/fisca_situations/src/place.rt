@@ -1,6 +1,6 @@
 //! For whom values of a variable are given.
 
-use fisca_tables::Variable;
+use fisca_symbols::Variable;
 
 /// A variable, and the member that values of it are given for.
 #[derive(Clone, Copy)]

@@ -5,15 +5,15 @@ ghost use Rattle.fisca_inputs.specs.Outcomes.{Tells};
 ghost use Rattle.fisca_members.specs.Members.{members_in as members_spec};
 ghost use Rattle.fisca_members.specs.Sections.{input_of as input_spec, titles_of as titles_spec};
 ghost use Rattle.fisca_members.specs.Views.{input_view};
-ghost use Rattle.fisca_tables.specs.Known.{tables as known};
+ghost use Rattle.fisca_symbols.specs.Known.{tables as known};
 ghost use Rattle.fisca_yaml.specs.Views.{node};
 ghost use Rattle.fisca_situations.specs.Situations as spec;
 
 use crate::given_inputs::GivenInputs;
 use crate::sections::inputs_given;
 use fisca_inputs::{SituationFault, SituationKind};
-use fisca_members::{Input, Kind, Members, MembersFault, input_of, members_in, titles_of};
-use fisca_tables::Tables;
+use fisca_members::{Input, Members, MembersFault, MembersKind, input_of, members_in, titles_of};
+use fisca_symbols::Tables;
 use fisca_time::Period;
 use fisca_yaml::Tree;
 use std::alloc::Global;
@@ -28,17 +28,17 @@ pub struct Reading {
 }
 
 /// The kind of a fault of members.
-fn kind_of(kind: Kind) -> SituationKind
+fn kind_of(kind: MembersKind) -> SituationKind
     ensures { result ≡ spec.kind_of kind }
 {
     match kind {
-        Kind::UnknownEntity => SituationKind::UnknownEntity,
-        Kind::UnknownPerson => SituationKind::UnknownPerson,
-        Kind::PersonTwice => SituationKind::PersonTwice,
-        Kind::RoleFull => SituationKind::RoleFull,
-        Kind::BadValue => SituationKind::BadValue,
-        Kind::TooMany => SituationKind::TooMany,
-        Kind::Memory => SituationKind::Memory,
+        MembersKind::UnknownEntity => SituationKind::UnknownEntity,
+        MembersKind::UnknownPerson => SituationKind::UnknownPerson,
+        MembersKind::PersonTwice => SituationKind::PersonTwice,
+        MembersKind::RoleFull => SituationKind::RoleFull,
+        MembersKind::BadValue => SituationKind::BadValue,
+        MembersKind::TooMany => SituationKind::TooMany,
+        MembersKind::Memory => SituationKind::Memory,
     }
 }
 

@@ -1,13 +1,13 @@
 //! What stands for a value of a variable.
 
 ghost use Rattle.std.specs.Prelude.{◌≡◌, option_map};
-ghost use Rattle.fisca_tables.specs.Known.{tables as known};
+ghost use Rattle.fisca_symbols.specs.Known.{tables as known};
 ghost use Rattle.fisca_yaml.specs.Views.{node};
 ghost use Rattle.fisca_situations.specs.Values as spec;
 
-use fisca_inputs::Value;
+use fisca_model::Value;
 use fisca_num::Fraction;
-use fisca_tables::{DeclaredType, Tables};
+use fisca_symbols::{DeclaredType, Tables};
 use fisca_time::Instant;
 use fisca_yaml::Tree;
 

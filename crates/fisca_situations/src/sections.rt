@@ -4,8 +4,8 @@ ghost use Rattle.std.specs.Prelude.{◌≡◌, [], map, option_map, slice_get, N
 ghost use Rattle.fisca_inputs.specs.Outcomes.{Tells};
 ghost use Rattle.fisca_members.specs.Faults.{entries_in};
 ghost use Rattle.fisca_members.specs.Views.{section as section_view, input_view};
-ghost use Rattle.fisca_tables.specs.KnownEntities.{entity as known_one, entities as known_all};
-ghost use Rattle.fisca_tables.specs.KnownRoles.{roles as known_roles};
+ghost use Rattle.fisca_symbols.specs.KnownEntities.{entity as known_one, entities as known_all};
+ghost use Rattle.fisca_symbols.specs.KnownRoles.{roles as known_roles};
 ghost use Rattle.fisca_yaml.specs.Views.{node, entries_view};
 ghost use Rattle.fisca_situations.specs.Reading as spec;
 
@@ -14,7 +14,7 @@ use crate::given_inputs::GivenInputs;
 use crate::variables::member_given;
 use fisca_inputs::{SituationFault, SituationKind};
 use fisca_members::{Input, RoleTable, Section};
-use fisca_tables::{Entity, Role, Tables};
+use fisca_symbols::{Entity, Role, Tables};
 use fisca_time::Period;
 use fisca_yaml::{Entry, Tree};
 use std::alloc::Global;

@@ -6,9 +6,10 @@ ghost use Rattle.fisca_situations.specs.Slots as spec;
 ghost use Rattle.fisca_situations.specs.Views.{slot as slot_view};
 
 use crate::cuts::cut_for;
-use fisca_inputs::{Inputs, Key, Value};
+use fisca_inputs::Inputs;
+use fisca_model::{Key, Value};
 use fisca_num::{Fraction, NumFault};
-use fisca_tables::DeclaredType;
+use fisca_symbols::DeclaredType;
 use fisca_time::Period;
 
 /// What an axis moves: the inputs of a member for these periods.

@@ -10,7 +10,7 @@ use crate::given_inputs::GivenInputs;
 use crate::place::Place;
 use fisca_inputs::{SituationFault, SituationKind};
 use fisca_members::RoleTable;
-use fisca_tables::{Tables, Variable};
+use fisca_symbols::{Tables, Variable};
 use fisca_time::Period;
 use fisca_yaml::{Entry, Tree};
 

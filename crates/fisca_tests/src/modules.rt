@@ -1,8 +1,9 @@
 //! Modules: what they declare.
 
-use fisca_expressions::Slice;
-use fisca_syntax::{Assignment, Formula, Item, Module, Statement, read_module};
-use fisca_tokens::{FormulaFault, Kind};
+use fisca_ast::{
+    Assignment, ClassLine, Formula, FormulaFault, FormulaKind, Module, Slice, Statement,
+};
+use fisca_parser::read_module;
 use std::alloc::{AllocError, Global};
 use std::test::Fail;
 
@@ -44,10 +45,10 @@ fn show_formula(alloc: Global, formula: &Formula<'_>) -> Result<String, AllocErr
     Ok(text)
 }
 
-fn show_item(alloc: Global, item: &Item<'_>) -> Result<String, AllocError> {
+fn show_item(alloc: Global, item: &ClassLine<'_>) -> Result<String, AllocError> {
     match item {
-        Item::Attribute(attribute) => show_assignment(alloc, attribute),
-        Item::Formula(formula) => show_formula(alloc, formula),
+        ClassLine::Attribute(attribute) => show_assignment(alloc, attribute),
+        ClassLine::Formula(formula) => show_formula(alloc, formula),
     }
 }
 
@@ -201,7 +202,7 @@ fn a_refused_growth_is_the_fault(rt: HostRuntime) {
                 fault,
                 FormulaFault {
                     line: 0,
-                    kind: Kind::Memory
+                    kind: FormulaKind::Memory
                 }
             );
         }

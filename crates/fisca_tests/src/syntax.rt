@@ -1,7 +1,8 @@
 //! Long texts of modules and high expressions.
 
-use fisca_expressions::{Mode, read_expression};
-use fisca_tokens::{FormulaFault, Kind, join_texts, tokens};
+use fisca_ast::{FormulaFault, FormulaKind};
+use fisca_expr_parser::{Mode, read_expression};
+use fisca_lexer::{join_texts, tokens};
 use std::alloc::{AllocError, Global};
 use std::test::Fail;
 
@@ -14,7 +15,7 @@ fn read(alloc: Global, source: &str) -> Result<(), FormulaFault> {
 }
 
 /// The fault of a text on its first line.
-fn fault(kind: Kind) -> FormulaFault {
+fn fault(kind: FormulaKind) -> FormulaFault {
     FormulaFault { line: 1, kind }
 }
 
@@ -36,7 +37,10 @@ fn parentheses_up_to_the_height_are_read(rt: HostRuntime) -> Result<(), Fail> {
     let text = nested(rt.alloc(), 119)?;
     assert_eq!(rt; read(rt.alloc(), text.as_str()), Ok(()));
     let high = nested(rt.alloc(), 120)?;
-    assert_eq!(rt; read(rt.alloc(), high.as_str()), Err(fault(Kind::TooDeep)));
+    assert_eq!(rt;
+        read(rt.alloc(), high.as_str()),
+        Err(fault(FormulaKind::TooDeep))
+    );
     Ok(())
 }
 
@@ -81,6 +85,6 @@ fn longer_texts_are_too_long(rt: HostRuntime) -> Result<(), Fail> {
     assert!(rt; tokens(rt.alloc(), text.as_str()).is_ok());
     text.push_str("@")?;
     let answer = tokens(rt.alloc(), text.as_str()).err();
-    assert_eq!(rt; answer, Some(fault(Kind::TooLong)));
+    assert_eq!(rt; answer, Some(fault(FormulaKind::TooLong)));
     Ok(())
 }

@@ -1,11 +1,11 @@
 //! YAML texts that are made: long ones, beginnings of files, and such as are drawn by lot.
 
-use fisca_yaml::{Kind, read};
+use fisca_yaml::{YamlKind, read};
 use std::alloc::Global;
 use std::test::Fail;
 
 /// The kind and the line of a text's fault.
-fn fault(alloc: Global, text: &str) -> Option<(Kind, usize)> {
+fn fault(alloc: Global, text: &str) -> Option<(YamlKind, usize)> {
     match read(alloc, text) {
         Ok(_) => None,
         Err(fault) => Some((fault.kind, fault.line)),
@@ -20,7 +20,10 @@ fn a_text_above_its_limit_is_too_long(rt: HostRuntime) -> Result<(), Fail> {
     }
     assert_eq!(rt; fault(rt.alloc(), text.as_str()), None);
     text.push_str("\t")?;
-    assert_eq!(rt; fault(rt.alloc(), text.as_str()), Some((Kind::TooLong, 1)));
+    assert_eq!(rt;
+        fault(rt.alloc(), text.as_str()),
+        Some((YamlKind::TooLong, 1))
+    );
     Ok(())
 }
 
@@ -39,7 +42,7 @@ fn count_lines(text: &str) -> usize {
 fn is_answered(alloc: Global, text: &str) -> bool {
     match fault(alloc, text) {
         None => true,
-        Some((kind, line)) => kind != Kind::Memory && 1 <= line && line <= count_lines(text),
+        Some((kind, line)) => kind != YamlKind::Memory && 1 <= line && line <= count_lines(text),
     }
 }
 

@@ -1,7 +1,7 @@
 -- Sizes with locals put in.
 use Rattle.std.proofs.Common.{◌≡◌, ◌∙◌, ℕ, suc, ◌+◌, min, max, ◌&&◌, nat_le, ◌∷◌, List, [], Bool, true, false, refl, ap, arith, if◌then◌else◌}
 use Rattle.std.specs.Str.{bytes_eq}
-use Rattle.fisca_expressions.specs.Tree.{Tree, Series, Argument, name, number, text, bracketed, attribute, applied, prefixed, binary, compare, nothing, last, next, positional, keyword, entry, height, height_all, height_of}
+use Rattle.fisca_ast.specs.Tree.{Tree, Series, Argument, name, number, text, bracketed, attribute, applied, prefixed, binary, compare, nothing, last, next, positional, keyword, entry, height, height_all, height_of}
 use Rattle.fisca_typing.specs.Sizes.{Size, Sized, Written, beside, above, size_named, size_of, size_all, size_in, is_small, tree_named, put_in, put_in_all, put_in_one, all_sized, capped, all_capped, capped_size_of, capped_size_all, capped_size_in}
 
 named-by : (b : Bool) (s : Size) (e : Tree) (r : Size) (f : Tree) → s ≡ size_of [] e → r ≡ size_of [] f → (if b then s else r) ≡ size_of [] (if b then e else f)

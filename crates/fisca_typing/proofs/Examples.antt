@@ -1,19 +1,19 @@
 -- A small rule set to work on.
 use Rattle.std.proofs.Common.{ℕ, List, [], ◌∷◌, true, false}
 use Rattle.std.specs.Prelude.{codes, Some, None, Result}
-use Rattle.fisca_tokens.specs.declared.fault.Kind.{Kind}
-use Rattle.fisca_expressions.specs.Tree.{Tree, Series}
-use Rattle.fisca_expressions.specs.Tree as tree
-use Rattle.fisca_expressions.specs.declared.tree.Suffix.TheVariants as suffix
-use Rattle.fisca_expressions.specs.declared.tree.Bracket.TheVariants as bracket
+use Rattle.fisca_ast.specs.declared.fault.FormulaKind.{FormulaKind}
+use Rattle.fisca_ast.specs.Tree.{Tree, Series}
+use Rattle.fisca_ast.specs.Tree as tree
+use Rattle.fisca_ast.specs.declared.tree.Suffix.TheVariants as suffix
+use Rattle.fisca_ast.specs.declared.tree.Bracket.TheVariants as bracket
 use Rattle.fisca_time.specs.declared.unit.Unit.TheVariants as unit
 use Rattle.fisca_typing.specs.declared.kinds.Level.{Level}
 use Rattle.fisca_typing.specs.declared.kinds.Level.TheVariants as level
-use Rattle.fisca_typing.specs.declared.kinds.ValueType.{ValueType}
-use Rattle.fisca_typing.specs.declared.kinds.ValueType.TheVariants as vt
+use Rattle.fisca_model.specs.declared.value_type.ValueType.{ValueType}
+use Rattle.fisca_model.specs.declared.value_type.ValueType.TheVariants as vt
 use Rattle.fisca_typing.specs.Names.{Names, Local}
 use Rattle.fisca_typing.specs.Nodes.{Node, local as earlier}
-use Rattle.fisca_typing.specs.Tables.{Tables, Role, Entity, Choices, Variable}
+use Rattle.fisca_model.specs.Tables.{Tables, Role, Entity, Choices, Variable}
 use Rattle.fisca_typing.specs.Things.{Thing, value, typed}
 
 -- `Household` with the roles `parent` (subroles `first_parent`, `second_parent`), `child`, `sum` and `members` (each of one person); `Person`;
@@ -153,11 +153,11 @@ list xs = tree.bracketed bracket.Square (by_position xs)
 abbrev pub group : Tree → Tree
 group x = tree.bracketed bracket.Round (by_position (x ∷ []))
 
-abbrev pub number : Level → Node → Result Thing Kind
+abbrev pub number : Level → Node → Result Thing FormulaKind
 number l node = typed vt.Number l node
 
-abbrev pub bool : Level → Node → Result Thing Kind
+abbrev pub bool : Level → Node → Result Thing FormulaKind
 bool l node = typed vt.Bool l node
 
-abbrev pub occupancy : Level → Node → Result Thing Kind
+abbrev pub occupancy : Level → Node → Result Thing FormulaKind
 occupancy l node = typed (vt.Enum 0) l node

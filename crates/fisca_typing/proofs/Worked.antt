@@ -2,12 +2,12 @@
 use Rattle.std.proofs.Common.{◌≡◌, [], ◌∷◌, false, refl}
 use Rattle.std.specs.Prelude.{codes, Err, Result}
 use Rattle.fisca_num.specs.Number.{zero_number}
-use Rattle.fisca_expressions.specs.Tree.{Tree, binary, compare, prefixed}
-use Rattle.fisca_expressions.specs.declared.tree.Operator.TheVariants as op
-use Rattle.fisca_expressions.specs.declared.tree.Comparison.TheVariants as cmp
-use Rattle.fisca_expressions.specs.declared.tree.Prefix.TheVariants as pre
-use Rattle.fisca_tokens.specs.declared.fault.Kind.{Kind}
-use Rattle.fisca_tokens.specs.declared.fault.Kind.TheVariants as kind
+use Rattle.fisca_ast.specs.Tree.{Tree, binary, compare, prefixed}
+use Rattle.fisca_ast.specs.declared.tree.Operator.TheVariants as op
+use Rattle.fisca_ast.specs.declared.tree.Comparison.TheVariants as cmp
+use Rattle.fisca_ast.specs.declared.tree.Prefix.TheVariants as pre
+use Rattle.fisca_ast.specs.declared.fault.FormulaKind.{FormulaKind}
+use Rattle.fisca_ast.specs.declared.fault.FormulaKind.TheVariants as kind
 use Rattle.fisca_typing.specs.declared.kinds.Level.TheVariants as level
 use Rattle.fisca_typing.specs.declared.operations.Arithmetic.TheVariants as arith
 use Rattle.fisca_typing.specs.declared.operations.Logic.TheVariants as logic
@@ -17,7 +17,7 @@ use Rattle.fisca_typing.specs.Things.{Thing}
 use Rattle.fisca_typing.specs.Typing.{thing_of}
 use Rattle.fisca_typing.proofs.Examples.{of_household, k, q, d, n, b, e, s, m, t, o, nope, w, call, call_with, and_keyword, dot, list, group, number, bool, occupancy}
 
-abbrev is : Tree → Result Thing Kind
+abbrev is : Tree → Result Thing FormulaKind
 is x = thing_of of_household x
 
 -- `+` and `*` of two bools: or, and
@@ -162,10 +162,10 @@ unfolding known_word
 arguments_first = refl
 
 -- `select([c..], [v..], default=d)`: the first true one's value, else d, else 0 (False if all are bools)
-abbrev select_with : Tree → Tree → Tree → Result Thing Kind
+abbrev select_with : Tree → Tree → Tree → Result Thing FormulaKind
 select_with cs vs default = is (call_with (w (codes "select")) (and_keyword (cs ∷ vs ∷ []) (codes "default") default))
 
-abbrev select : Tree → Tree → Result Thing Kind
+abbrev select : Tree → Tree → Result Thing FormulaKind
 select cs vs = is (call (w (codes "select")) (cs ∷ vs ∷ []))
 
 with_default : select_with (list (b ∷ q ∷ [])) (list (n ∷ q ∷ [])) k ≡ number level.Own (choose (local 4) (local 3) (choose (local 1) (local 1) (local 0)))

@@ -1,10 +1,10 @@
 -- Questions beside their sentences.
 use Rattle.std.proofs.Common.{◌≡◌, ℕ, List, [], ◌∷◌, refl}
 use Rattle.std.specs.Prelude.{codes, Err, Result, Some, None}
-use Rattle.fisca_expressions.specs.Tree.{Tree, binary, text}
-use Rattle.fisca_expressions.specs.declared.tree.Operator.TheVariants as op
-use Rattle.fisca_tokens.specs.declared.fault.Kind.{Kind}
-use Rattle.fisca_tokens.specs.declared.fault.Kind.TheVariants as kind
+use Rattle.fisca_ast.specs.Tree.{Tree, binary, text}
+use Rattle.fisca_ast.specs.declared.tree.Operator.TheVariants as op
+use Rattle.fisca_ast.specs.declared.fault.FormulaKind.{FormulaKind}
+use Rattle.fisca_ast.specs.declared.fault.FormulaKind.TheVariants as kind
 use Rattle.fisca_typing.specs.declared.asking.Asking.TheVariants as asking
 use Rattle.fisca_typing.specs.declared.asking.Whom.TheVariants as whom
 use Rattle.fisca_typing.specs.declared.kinds.Level.TheVariants as level
@@ -14,16 +14,16 @@ use Rattle.fisca_typing.specs.Asks.{group_method, person_method}
 use Rattle.fisca_typing.specs.Names.{known_word}
 use Rattle.fisca_typing.specs.Nodes.{local, ask, has_role, count, total as of_all}
 use Rattle.fisca_typing.specs.Periods.{period_attribute}
-use Rattle.fisca_typing.specs.Tables.{whole_role, subrole_of}
-use Rattle.fisca_typing.specs.Texts.{said_within}
+use Rattle.fisca_model.specs.Tables.{whole_role, subrole_of}
+use Rattle.fisca_ast.specs.Contents.{said_within}
 use Rattle.fisca_typing.specs.Things.{Thing}
 use Rattle.fisca_typing.specs.Typing.{thing_of}
 use Rattle.fisca_typing.proofs.Examples.{of_household, of_person, k, n, b, m, t, o, nope, w, call, call_with, and_keyword, dot, group, list, period, number, bool, occupancy}
 
-abbrev is : Tree → Result Thing Kind
+abbrev is : Tree → Result Thing FormulaKind
 is x = thing_of of_household x
 
-abbrev is_to_person : Tree → Result Thing Kind
+abbrev is_to_person : Tree → Result Thing FormulaKind
 is_to_person x = thing_of of_person x
 
 abbrev household : Tree

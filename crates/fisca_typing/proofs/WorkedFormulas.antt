@@ -1,13 +1,13 @@
 -- Formulas beside their sentences.
 use Rattle.std.proofs.Common.{◌≡◌, ℕ, zero, suc, List, [], ◌∷◌, ◌++◌, true, refl}
 use Rattle.std.specs.Prelude.{codes, Ok, Err, Result}
-use Rattle.fisca_expressions.specs.Tree.{Tree, binary, text}
-use Rattle.fisca_expressions.specs.declared.tree.Operator.TheVariants as op
-use Rattle.fisca_tokens.specs.declared.fault.Kind.{Kind}
-use Rattle.fisca_tokens.specs.declared.fault.Kind.TheVariants as kind
+use Rattle.fisca_ast.specs.Tree.{Tree, binary, text}
+use Rattle.fisca_ast.specs.declared.tree.Operator.TheVariants as op
+use Rattle.fisca_ast.specs.declared.fault.FormulaKind.{FormulaKind}
+use Rattle.fisca_ast.specs.declared.fault.FormulaKind.TheVariants as kind
 use Rattle.fisca_typing.specs.declared.asking.Asking.TheVariants as asking
 use Rattle.fisca_typing.specs.declared.asking.Whom.TheVariants as whom
-use Rattle.fisca_typing.specs.declared.kinds.ValueType.TheVariants as vt
+use Rattle.fisca_model.specs.declared.value_type.ValueType.TheVariants as vt
 use Rattle.fisca_typing.specs.declared.moves.DatePart.TheVariants as part
 use Rattle.fisca_typing.specs.declared.moves.Move.TheVariants as step
 use Rattle.fisca_typing.specs.declared.operations.Arithmetic.TheVariants as arith
@@ -16,7 +16,7 @@ use Rattle.fisca_typing.specs.Names.{Names, known_word}
 use Rattle.fisca_typing.specs.Nodes.{Node, local, truth, ask, arithmetic, date_part, member}
 use Rattle.fisca_typing.specs.Periods.{period_attribute, start_attribute}
 use Rattle.fisca_typing.specs.Sizes.{Size, Sized, size_of, capped_size_of}
-use Rattle.fisca_typing.specs.Texts.{said_within}
+use Rattle.fisca_ast.specs.Contents.{said_within}
 use Rattle.fisca_typing.proofs.Examples.{of_household, w, call, dot, group, list, period, nope}
 
 abbrev household : Names
@@ -31,7 +31,7 @@ typed = formula_of household vt.Number
 abbrev formula : List Node → Node → Result Formula Refusal
 formula values result = Ok (record { values = values; result = result })
 
-abbrev refused : ℕ → Kind → Result Formula Refusal
+abbrev refused : ℕ → FormulaKind → Result Formula Refusal
 refused place k = Err (record { place = place; kind = k })
 
 abbrev year : Tree

@@ -4,10 +4,10 @@ use Rattle.std.specs.Prelude.{codes, Ok, Err, Result, None}
 use Rattle.fisca_params.specs.Tree.{TreeNode, child_node}
 use Rattle.fisca_params.specs.declared.content.Content.{Content}
 use Rattle.fisca_params.specs.declared.content.Content.TheVariants as content
-use Rattle.fisca_expressions.specs.Tree.{Tree, binary}
-use Rattle.fisca_expressions.specs.declared.tree.Operator.TheVariants as op
-use Rattle.fisca_tokens.specs.declared.fault.Kind.{Kind}
-use Rattle.fisca_tokens.specs.declared.fault.Kind.TheVariants as kind
+use Rattle.fisca_ast.specs.Tree.{Tree, binary}
+use Rattle.fisca_ast.specs.declared.tree.Operator.TheVariants as op
+use Rattle.fisca_ast.specs.declared.fault.FormulaKind.{FormulaKind}
+use Rattle.fisca_ast.specs.declared.fault.FormulaKind.TheVariants as kind
 use Rattle.fisca_typing.specs.declared.kinds.Level.TheVariants as level
 use Rattle.fisca_typing.specs.declared.moves.Move.TheVariants as step
 use Rattle.fisca_typing.specs.Names.{Names, known_word}
@@ -57,7 +57,7 @@ area_nodes =
 abbrev c : Names
 c = record of_household { tables = record tables { nodes = first_nodes ++ indexed_nodes ++ area_nodes } }
 
-abbrev is : Tree → Result Thing Kind
+abbrev is : Tree → Result Thing FormulaKind
 is x = thing_of c x
 
 abbrev root_node : Tree

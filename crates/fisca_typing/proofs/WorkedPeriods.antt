@@ -4,32 +4,32 @@ use Rattle.std.specs.Prelude.{codes, Ok, Err, Result, Some, None}
 use Rattle.fisca_num.specs.Literal.{number_of_literal, number_of_parts, digits_ratio}
 use Rattle.fisca_num.specs.Number.{one_number}
 use Rattle.fisca_num.specs.Operations.{only_number_of}
-use Rattle.fisca_expressions.specs.Tree.{Tree}
-use Rattle.fisca_expressions.specs.Tree as tree
-use Rattle.fisca_expressions.specs.declared.tree.Operator.TheVariants as op
-use Rattle.fisca_expressions.specs.declared.tree.Prefix.TheVariants as pre
+use Rattle.fisca_ast.specs.Tree.{Tree}
+use Rattle.fisca_ast.specs.Tree as tree
+use Rattle.fisca_ast.specs.declared.tree.Operator.TheVariants as op
+use Rattle.fisca_ast.specs.declared.tree.Prefix.TheVariants as pre
 use Rattle.fisca_time.specs.declared.unit.Unit.TheVariants as unit
-use Rattle.fisca_tokens.specs.declared.fault.Kind.{Kind}
-use Rattle.fisca_tokens.specs.declared.fault.Kind.TheVariants as kind
+use Rattle.fisca_ast.specs.declared.fault.FormulaKind.{FormulaKind}
+use Rattle.fisca_ast.specs.declared.fault.FormulaKind.TheVariants as kind
 use Rattle.fisca_typing.specs.declared.asking.Asking.TheVariants as asking
 use Rattle.fisca_typing.specs.declared.kinds.Level.TheVariants as level
-use Rattle.fisca_typing.specs.declared.kinds.ValueType.TheVariants as vt
+use Rattle.fisca_model.specs.declared.value_type.ValueType.TheVariants as vt
 use Rattle.fisca_typing.specs.declared.moves.DatePart.TheVariants as part
 use Rattle.fisca_typing.specs.declared.moves.Move.{Move}
 use Rattle.fisca_typing.specs.declared.moves.Move.TheVariants as step
 use Rattle.fisca_typing.specs.Names.{known_word}
 use Rattle.fisca_typing.specs.Nodes.{local, truth, date_part, member}
 use Rattle.fisca_typing.specs.Periods.{period_attribute, start_attribute, unit_named}
-use Rattle.fisca_typing.specs.Texts.{content, said_within}
+use Rattle.fisca_ast.specs.Contents.{content, said_within}
 use Rattle.fisca_typing.specs.Things.{Thing, period as the_period, asker, reader, enumeration, entity, option}
 use Rattle.fisca_typing.specs.Typing.{thing_of}
 use Rattle.fisca_typing.proofs.Examples.{of_household, of_person, a_local, k, n, b, e, nope, w, call, dot, group, period, number, bool, occupancy}
 
-abbrev is : Tree → Result Thing Kind
+abbrev is : Tree → Result Thing FormulaKind
 is x = thing_of of_household x
 
 -- a period with these moves
-abbrev by : List Move → Result Thing Kind
+abbrev by : List Move → Result Thing FormulaKind
 by ms = Ok (the_period ms)
 
 -- periods are the formula's second argument, and the moves as attributes

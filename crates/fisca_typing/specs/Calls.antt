@@ -1,13 +1,13 @@
 -- Calls of functions, and what stands in their parentheses.
 use Rattle.std.specs.Prelude.{ℕ, suc, List, [], ◌∷◌, length, Bool, true, false, ◌==◌, ◌&&◌, if◌then◌else◌, Option, Some, None, Result, Ok, codes}
 use Rattle.fisca_num.specs.Number.{zero_number}
-use Rattle.fisca_expressions.specs.Words.{is}
-use Rattle.fisca_expressions.specs.Tree.{Tree}
+use Rattle.fisca_ast.specs.Words.{is}
+use Rattle.fisca_ast.specs.Tree.{Tree}
 use Rattle.fisca_params.specs.Results.{and_then}
-use Rattle.fisca_tokens.specs.declared.fault.Kind.{Kind}
+use Rattle.fisca_ast.specs.declared.fault.FormulaKind.{FormulaKind}
 use Rattle.fisca_typing.specs.declared.kinds.Level.TheVariants as level
-use Rattle.fisca_typing.specs.declared.kinds.ValueType.{ValueType}
-use Rattle.fisca_typing.specs.declared.kinds.ValueType.TheVariants as vt
+use Rattle.fisca_model.specs.declared.value_type.ValueType.{ValueType}
+use Rattle.fisca_model.specs.declared.value_type.ValueType.TheVariants as vt
 use Rattle.fisca_typing.specs.declared.moves.Move.{Move}
 use Rattle.fisca_typing.specs.declared.operations.Arithmetic.TheVariants as arith
 use Rattle.fisca_typing.specs.declared.operations.Function.{Function}
@@ -16,7 +16,7 @@ use Rattle.fisca_typing.specs.Nodes.{Node, literal, truth, choose, scale_sum}
 use Rattle.fisca_typing.specs.Operations.{operated, extreme, negated, numeric_of, common_all, highest, typed_all, where_of}
 use Rattle.fisca_typing.specs.Parameters.{root_at}
 use Rattle.fisca_typing.specs.Periods.{offset_by, offset_by_unit}
-use Rattle.fisca_typing.specs.Tables.{Tables}
+use Rattle.fisca_model.specs.Tables.{Tables}
 use Rattle.fisca_typing.specs.Things.{Thing, Typed, typed, value_of, things_of, instant_of, text_of}
 use Rattle.fisca_typing.specs.Types.{is_bool, bad_type, common}
 
@@ -24,7 +24,7 @@ use Rattle.fisca_typing.specs.Types.{is_bool, bad_type, common}
 pub record Given : Type 0 where
   pub keyword : Option (List ℕ)
   pub tree : Tree
-  pub thing : Result Thing Kind
+  pub thing : Result Thing FormulaKind
 
 -- the same where it stands for something
 pub record Settled : Type 0 where
@@ -32,7 +32,7 @@ pub record Settled : Type 0 where
   pub tree : Tree
   pub thing : Thing
 
-abbrev pub settled : List Given → Result (List Settled) Kind
+abbrev pub settled : List Given → Result (List Settled) FormulaKind
 settled [] = Ok []
 settled (g ∷ gs) =
     and_then g.thing (λ x. and_then (settled gs) (λ ss. Ok (record { keyword = g.keyword; tree = g.tree; thing = x } ∷ ss)))
@@ -74,44 +74,44 @@ selected [] vs rest = rest
 selected (c ∷ cs) [] rest = rest
 selected (c ∷ cs) (v ∷ vs) rest = choose c.node v.node (selected cs vs rest)
 
-abbrev pub nothing_selected : ValueType → Result Node Kind
+abbrev pub nothing_selected : ValueType → Result Node FormulaKind
 nothing_selected vt.Number = Ok (literal zero_number)
 nothing_selected vt.Bool = Ok (truth false)
 nothing_selected (vt.Enum e) = bad_type
 
-abbrev pub select_typed : ValueType → List Typed → List Typed → List Typed → Node → Result Thing Kind
+abbrev pub select_typed : ValueType → List Typed → List Typed → List Typed → Node → Result Thing FormulaKind
 select_typed t cs vs ds rest =
     and_then (highest level.Constant cs) (λ l. and_then (highest l vs) (λ m. and_then (highest m ds) (λ n. typed t n (selected cs vs rest))))
 
 -- without a default: 0, or False where all are bools; members of an Enum need one
-abbrev pub select_default : ValueType → List Typed → List Typed → Option Typed → Result Thing Kind
+abbrev pub select_default : ValueType → List Typed → List Typed → Option Typed → Result Thing FormulaKind
 select_default t cs vs None = and_then (nothing_selected t) (select_typed t cs vs [])
 select_default t cs vs (Some d) = and_then (common t d.value_type) (λ s. select_typed s cs vs (d ∷ []) d.node)
 
-abbrev pub select_values : List Typed → List Typed → Option Typed → Result Thing Kind
+abbrev pub select_values : List Typed → List Typed → Option Typed → Result Thing FormulaKind
 select_values cs [] d = bad_type
 select_values cs (v ∷ vs) d =
     if all_bools cs && (length cs == suc (length vs)) then and_then (common_all v.value_type vs) (λ t. select_default t cs (v ∷ vs) d) else bad_type
 
-abbrev pub select_of : Thing → Thing → Result (Option Typed) Kind → Result Thing Kind
+abbrev pub select_of : Thing → Thing → Result (Option Typed) FormulaKind → Result Thing FormulaKind
 select_of cs vs default =
     and_then (things_of cs) (λ xs. and_then (typed_all xs) (λ us.
     and_then (things_of vs) (λ ys. and_then (typed_all ys) (λ ws.
     and_then default (λ d. select_values us ws d)))))
 
-abbrev pub default_in : List ℕ → Thing → Result (Option Typed) Kind
+abbrev pub default_in : List ℕ → Thing → Result (Option Typed) FormulaKind
 default_in k x = if is k (codes "default") then and_then (value_of x) (λ v. Ok (Some v)) else bad_type
 
 -- Functions by their names
 
-abbrev pub where_by : Positions → Result Thing Kind
+abbrev pub where_by : Positions → Result Thing FormulaKind
 where_by (by_position (c ∷ a ∷ b ∷ [])) =
     and_then (value_of c.thing) (λ x. and_then (value_of a.thing) (λ y. and_then (value_of b.thing) (λ z. where_of x y z)))
 where_by (by_position _) = bad_type
 where_by (and_keyword ss k x) = bad_type
 where_by more_keywords = bad_type
 
-abbrev pub select_by : Positions → Result Thing Kind
+abbrev pub select_by : Positions → Result Thing FormulaKind
 select_by (by_position (c ∷ v ∷ [])) = select_of c.thing v.thing (Ok None)
 select_by (by_position _) = bad_type
 select_by (and_keyword (c ∷ v ∷ []) k x) = select_of c.thing v.thing (default_in k x)
@@ -119,19 +119,19 @@ select_by (and_keyword _ k x) = bad_type
 select_by more_keywords = bad_type
 
 -- one argument by position, and nothing else
-abbrev pub alone : Positions → Result Settled Kind
+abbrev pub alone : Positions → Result Settled FormulaKind
 alone (by_position (s ∷ [])) = Ok s
 alone (by_position _) = bad_type
 alone (and_keyword ss k x) = bad_type
 alone more_keywords = bad_type
 
-abbrev pub two : Positions → (Settled → Settled → Result Thing Kind) → Result Thing Kind
+abbrev pub two : Positions → (Settled → Settled → Result Thing FormulaKind) → Result Thing FormulaKind
 two (by_position (a ∷ b ∷ [])) f = f a b
 two (by_position _) f = bad_type
 two (and_keyword ss k x) f = bad_type
 two more_keywords f = bad_type
 
-abbrev pub function_by : Function → Positions → Result Thing Kind
+abbrev pub function_by : Function → Positions → Result Thing FormulaKind
 function_by function.Where ps = where_by ps
 function_by function.Select ps = select_by ps
 function_by function.Min ps = two ps (λ a b. operated (extreme arith.Min) a.thing b.thing)
@@ -139,7 +139,7 @@ function_by function.Max ps = two ps (λ a b. operated (extreme arith.Max) a.thi
 function_by function.Not ps = and_then (alone ps) (λ s. and_then (value_of s.thing) negated)
 
 -- `p.offset(k)`, `p.offset(k, "month")`
-abbrev pub offset_of : List Move → Positions → Result Thing Kind
+abbrev pub offset_of : List Move → Positions → Result Thing FormulaKind
 offset_of ms (by_position (k ∷ [])) = offset_by ms k.tree
 offset_of ms (by_position (k ∷ u ∷ [])) = and_then (text_of u.thing) (offset_by_unit ms k.tree)
 offset_of ms (by_position _) = bad_type
@@ -147,10 +147,10 @@ offset_of ms (and_keyword ss k x) = bad_type
 offset_of ms more_keywords = bad_type
 
 -- `parameters(p)`, `parameters(p.start)`
-abbrev pub reader_by : Tables → Positions → Result Thing Kind
+abbrev pub reader_by : Tables → Positions → Result Thing FormulaKind
 reader_by c ps = and_then (alone ps) (λ s. and_then (instant_of s.thing) (root_at c.nodes))
 
 -- `scale.calc(x)`
-abbrev pub calculation_by : ℕ → List Move → Positions → Result Thing Kind
+abbrev pub calculation_by : ℕ → List Move → Positions → Result Thing FormulaKind
 calculation_by place ms ps =
     and_then (alone ps) (λ s. and_then (numeric_of s.thing) (λ v. typed vt.Number v.level (scale_sum place ms v.node)))

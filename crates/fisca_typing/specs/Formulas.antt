@@ -1,13 +1,13 @@
 -- Formulas: locals, each of which sees those before it, and what is returned.
 use Rattle.std.specs.Prelude.{ℕ, suc, List, [], ◌∷◌, ◌++◌, length, Bool, false, ◌==◌, if◌then◌else◌, Result, Ok, Err}
-use Rattle.fisca_expressions.specs.Tree.{Tree}
+use Rattle.fisca_ast.specs.Tree.{Tree}
 use Rattle.fisca_params.specs.Results.{and_then}
-use Rattle.fisca_tokens.specs.declared.fault.Kind.{Kind}
-use Rattle.fisca_tokens.specs.declared.fault.Kind.TheVariants as kind
+use Rattle.fisca_ast.specs.declared.fault.FormulaKind.{FormulaKind}
+use Rattle.fisca_ast.specs.declared.fault.FormulaKind.TheVariants as kind
 use Rattle.fisca_typing.specs.declared.kinds.Level.{Level}
 use Rattle.fisca_typing.specs.declared.kinds.Level.TheVariants as level
-use Rattle.fisca_typing.specs.declared.kinds.ValueType.{ValueType}
-use Rattle.fisca_typing.specs.declared.kinds.ValueType.TheVariants as vt
+use Rattle.fisca_model.specs.declared.value_type.ValueType.{ValueType}
+use Rattle.fisca_model.specs.declared.value_type.ValueType.TheVariants as vt
 use Rattle.fisca_typing.specs.Names.{Names}
 use Rattle.fisca_typing.specs.Nodes.{Node, local}
 use Rattle.fisca_typing.specs.Sizes.{Size, Sized, size_of, is_small}
@@ -30,14 +30,14 @@ pub record Kept : Type 0 where
   pub thing : Thing
   pub values : List Node
 
-abbrev pub kept_as : Thing → List Node → Result Kept Kind
+abbrev pub kept_as : Thing → List Node → Result Kept FormulaKind
 kept_as x ns = Ok (record { thing = x; values = ns })
 
-abbrev pub kept_value : Typed → List Node → Result Kept Kind
+abbrev pub kept_value : Typed → List Node → Result Kept FormulaKind
 kept_value v ns = kept_as (value (record v { node = local (length ns) })) (ns ++ v.node ∷ [])
 
 -- a local stands for a number, a bool, a member of an Enum, a period, parameters or a scale
-abbrev pub kept : Thing → List Node → Result Kept Kind
+abbrev pub kept : Thing → List Node → Result Kept FormulaKind
 kept (value v) ns = kept_value v ns
 kept (period ms) ns = kept_as (period ms) ns
 kept (start ms) ns = bad_type
@@ -59,7 +59,7 @@ kept (text t) ns = bad_type
 kept (listed xs) ns = bad_type
 
 -- the limits are judged last
-abbrev pub if_small : {X : Type 0} → Size → X → Result X Kind
+abbrev pub if_small : {X : Type 0} → Size → X → Result X FormulaKind
 if_small size x = if is_small size then Ok x else Err kind.TooDeep
 
 abbrev pub with_local : Scope → List ℕ → Size → Kept → Scope
@@ -70,7 +70,7 @@ with_local s name size k = record {
 }
 
 -- the scope behind one more local
-abbrev pub behind_local : Scope → List ℕ → Tree → Result Scope Kind
+abbrev pub behind_local : Scope → List ℕ → Tree → Result Scope FormulaKind
 behind_local s name e =
     and_then (thing_of s.names e) (λ x. and_then (kept x s.values) (λ k. if_small (size_of s.sizes e) (with_local s name (size_of s.sizes e) k)))
 
@@ -82,15 +82,15 @@ returns (vt.Enum e) vt.Number = false
 returns (vt.Enum e) vt.Bool = false
 returns (vt.Enum e) (vt.Enum f) = e == f
 
-abbrev pub of_type : ValueType → Typed → Result Typed Kind
+abbrev pub of_type : ValueType → Typed → Result Typed FormulaKind
 of_type t v = if returns t v.value_type then Ok v else bad_type
 
-abbrev pub of_entity : Level → Node → Result Node Kind
+abbrev pub of_entity : Level → Node → Result Node FormulaKind
 of_entity level.Constant n = Ok n
 of_entity level.Own n = Ok n
 of_entity level.Members n = bad_level
 
-abbrev pub returned : Scope → ValueType → Tree → Result Node Kind
+abbrev pub returned : Scope → ValueType → Tree → Result Node FormulaKind
 returned s t e =
     and_then (thing_of s.names e) (λ x. and_then (value_of x) (λ v. and_then (of_type t v) (λ u. and_then (of_entity u.level u.node) (λ n.
     if_small (size_of s.sizes e) n))))
@@ -108,9 +108,9 @@ pub record Formula : Type 0 where
 -- how many locals come before the fault
 pub record Refusal : Type 0 where
   pub place : ℕ
-  pub kind : Kind
+  pub kind : FormulaKind
 
-abbrev pub at : {X : Type 0} → ℕ → Result X Kind → Result X Refusal
+abbrev pub at : {X : Type 0} → ℕ → Result X FormulaKind → Result X Refusal
 at place (Ok x) = Ok x
 at place (Err k) = Err (record { place = place; kind = k })
 

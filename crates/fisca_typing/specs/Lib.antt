@@ -7,8 +7,6 @@ pub mod Operations
 pub mod Parameters
 pub mod Periods
 pub mod Sizes
-pub mod Tables
-pub mod Texts
 pub mod Things
 pub mod Types
 pub mod Typing

@@ -1,15 +1,15 @@
 -- What the names in a formula stand for.
 use Rattle.std.specs.Prelude.{ℕ, List, [], ◌∷◌, Bool, true, false, if◌then◌else◌, Option, Some, None, option_map, ok_or, Result, Ok, Err, codes}
 use Rattle.std.specs.Str.{bytes_eq}
-use Rattle.fisca_expressions.specs.Words.{is}
-use Rattle.fisca_tokens.specs.declared.fault.Kind.{Kind}
-use Rattle.fisca_tokens.specs.declared.fault.Kind.TheVariants as kind
+use Rattle.fisca_ast.specs.Words.{is}
+use Rattle.fisca_ast.specs.declared.fault.FormulaKind.{FormulaKind}
+use Rattle.fisca_ast.specs.declared.fault.FormulaKind.TheVariants as kind
 use Rattle.fisca_typing.specs.declared.asking.Asking.TheVariants as asking
 use Rattle.fisca_typing.specs.declared.kinds.Level.TheVariants as level
-use Rattle.fisca_typing.specs.declared.kinds.ValueType.TheVariants as vt
+use Rattle.fisca_model.specs.declared.value_type.ValueType.TheVariants as vt
 use Rattle.fisca_typing.specs.declared.operations.Function.TheVariants as function
 use Rattle.fisca_typing.specs.Nodes.{truth}
-use Rattle.fisca_typing.specs.Tables.{Tables, place_in, otherwise}
+use Rattle.fisca_model.specs.Tables.{Tables, place_in, otherwise}
 use Rattle.fisca_typing.specs.Things.{Thing, value, period, reader, enumeration, entity, asker, library, function as called_function, option}
 
 pub record Local : Type 0 where
@@ -25,7 +25,7 @@ pub record Names : Type 0 where
   pub reader_name : Option (List ℕ)
   pub locals : List Local
 
-abbrev pub unknown_name : {X : Type 0} → Result X Kind
+abbrev pub unknown_name : {X : Type 0} → Result X FormulaKind
 unknown_name = Err kind.UnknownName
 
 abbrev pub local_named : List Local → List ℕ → Option Thing
@@ -61,7 +61,7 @@ known_word t =
     else (if is t (codes "DIVIDE") then Some (option asking.Divide) else None))))))))))
 
 -- names of the functions behind `np` or `numpy`
-unfoldable pub library_function : List ℕ → Result Thing Kind
+unfoldable pub library_function : List ℕ → Result Thing FormulaKind
 library_function t =
     if is t (codes "where") then Ok (called_function function.Where)
     else (if is t (codes "select") then Ok (called_function function.Select)
@@ -75,6 +75,6 @@ declared c t =
     (option_map entity (place_in (λ e. bytes_eq e.constant t) c.entities))
 
 -- the latest local, else an argument, else a word of the language, else an Enum or an entity
-abbrev pub named : Names → List ℕ → Result Thing Kind
+abbrev pub named : Names → List ℕ → Result Thing FormulaKind
 named c t =
     ok_or (otherwise (local_named c.locals t) (otherwise (argument_named c t) (otherwise (known_word t) (declared c.tables t)))) kind.UnknownName

@@ -1,9 +1,9 @@
 -- What typed formulas work out: all names are resolved, and no text is left.
 use Rattle.std.specs.Prelude.{ℕ, List, Bool, Option}
 use Rattle.fisca_num.specs.Number.{Number}
-use Rattle.fisca_expressions.specs.declared.tree.Comparison.{Comparison}
+use Rattle.fisca_ast.specs.declared.tree.Comparison.{Comparison}
 use Rattle.fisca_typing.specs.declared.asking.Asking.{Asking}
-use Rattle.fisca_typing.specs.declared.asking.RolePlace.{RolePlace}
+use Rattle.fisca_model.specs.declared.role_place.RolePlace.{RolePlace}
 use Rattle.fisca_typing.specs.declared.asking.Whom.{Whom}
 use Rattle.fisca_typing.specs.declared.moves.DatePart.{DatePart}
 use Rattle.fisca_typing.specs.declared.moves.Move.{Move}

@@ -1,16 +1,16 @@
 -- Types and levels of operations.
 use Rattle.std.specs.Prelude.{List, [], ◌∷◌, Bool, ◌&&◌, if◌then◌else◌, Result, Ok}
 use Rattle.fisca_params.specs.Results.{and_then}
-use Rattle.fisca_expressions.specs.declared.tree.Operator.{Operator}
-use Rattle.fisca_expressions.specs.declared.tree.Operator.TheVariants as operator
-use Rattle.fisca_expressions.specs.declared.tree.Comparison.{Comparison}
-use Rattle.fisca_expressions.specs.declared.tree.Comparison.TheVariants as cmp
-use Rattle.fisca_expressions.specs.declared.tree.Prefix.{Prefix}
-use Rattle.fisca_expressions.specs.declared.tree.Prefix.TheVariants as prefix
-use Rattle.fisca_tokens.specs.declared.fault.Kind.{Kind}
+use Rattle.fisca_ast.specs.declared.tree.Operator.{Operator}
+use Rattle.fisca_ast.specs.declared.tree.Operator.TheVariants as operator
+use Rattle.fisca_ast.specs.declared.tree.Comparison.{Comparison}
+use Rattle.fisca_ast.specs.declared.tree.Comparison.TheVariants as cmp
+use Rattle.fisca_ast.specs.declared.tree.Prefix.{Prefix}
+use Rattle.fisca_ast.specs.declared.tree.Prefix.TheVariants as prefix
+use Rattle.fisca_ast.specs.declared.fault.FormulaKind.{FormulaKind}
 use Rattle.fisca_typing.specs.declared.kinds.Level.{Level}
-use Rattle.fisca_typing.specs.declared.kinds.ValueType.{ValueType}
-use Rattle.fisca_typing.specs.declared.kinds.ValueType.TheVariants as vt
+use Rattle.fisca_model.specs.declared.value_type.ValueType.{ValueType}
+use Rattle.fisca_model.specs.declared.value_type.ValueType.TheVariants as vt
 use Rattle.fisca_typing.specs.declared.operations.Arithmetic.{Arithmetic}
 use Rattle.fisca_typing.specs.declared.operations.Arithmetic.TheVariants as arith
 use Rattle.fisca_typing.specs.declared.operations.Logic.{Logic}
@@ -24,10 +24,10 @@ pub record Operation : Type 0 where
   pub gives : ValueType
   pub node : Node → Node → Node
 
-abbrev pub with_numbers : Arithmetic → Result Operation Kind
+abbrev pub with_numbers : Arithmetic → Result Operation FormulaKind
 with_numbers o = Ok (record { gives = vt.Number; node = arithmetic o })
 
-abbrev pub with_bools : Logic → Result Operation Kind
+abbrev pub with_bools : Logic → Result Operation FormulaKind
 with_bools o = Ok (record { gives = vt.Bool; node = logic_node o })
 
 abbrev pub are_bools : ValueType → ValueType → Bool
@@ -37,10 +37,10 @@ abbrev pub are_numeric : ValueType → ValueType → Bool
 are_numeric s t = is_numeric s && is_numeric t
 
 -- what two bools give, and what two others of numbers and bools give
-abbrev pub on_bools_or_numbers : Result Operation Kind → Result Operation Kind → ValueType → ValueType → Result Operation Kind
+abbrev pub on_bools_or_numbers : Result Operation FormulaKind → Result Operation FormulaKind → ValueType → ValueType → Result Operation FormulaKind
 on_bools_or_numbers bools numbers s t = if are_bools s t then bools else (if are_numeric s t then numbers else bad_type)
 
-abbrev pub operation : Operator → ValueType → ValueType → Result Operation Kind
+abbrev pub operation : Operator → ValueType → ValueType → Result Operation FormulaKind
 operation operator.Or s t = on_bools_or_numbers (with_bools logic.Or) bad_type s t
 operation operator.And s t = on_bools_or_numbers (with_bools logic.And) bad_type s t
 operation operator.Add s t = on_bools_or_numbers (with_bools logic.Or) (with_numbers arith.Add) s t
@@ -49,14 +49,14 @@ operation operator.Multiply s t = on_bools_or_numbers (with_bools logic.And) (wi
 operation operator.Divide s t = on_bools_or_numbers (with_numbers arith.Divide) (with_numbers arith.Divide) s t
 
 -- the lower and the higher of two
-abbrev pub extreme : Arithmetic → ValueType → ValueType → Result Operation Kind
+abbrev pub extreme : Arithmetic → ValueType → ValueType → Result Operation FormulaKind
 extreme o s t = on_bools_or_numbers bad_type (with_numbers o) s t
 
-abbrev pub compares : (Node → Node → Node) → Result Operation Kind
+abbrev pub compares : (Node → Node → Node) → Result Operation FormulaKind
 compares node = Ok (record { gives = vt.Bool; node = node })
 
 -- members of one Enum are equal or not
-abbrev pub comparison_of_members : Comparison → Result Operation Kind
+abbrev pub comparison_of_members : Comparison → Result Operation FormulaKind
 comparison_of_members cmp.Less = bad_type
 comparison_of_members cmp.LessEqual = bad_type
 comparison_of_members cmp.Greater = bad_type
@@ -64,65 +64,65 @@ comparison_of_members cmp.GreaterEqual = bad_type
 comparison_of_members cmp.Equal = compares same
 comparison_of_members cmp.NotEqual = compares (λ a b. opposite (same a b))
 
-abbrev pub comparison_by : Comparison → ValueType → Result Operation Kind
+abbrev pub comparison_by : Comparison → ValueType → Result Operation FormulaKind
 comparison_by o vt.Number = compares (comparison o)
 comparison_by o vt.Bool = compares (comparison o)
 comparison_by o (vt.Enum e) = comparison_of_members o
 
 -- numbers and bools are compared as numbers
-abbrev pub comparison_of : Comparison → ValueType → ValueType → Result Operation Kind
+abbrev pub comparison_of : Comparison → ValueType → ValueType → Result Operation FormulaKind
 comparison_of o s t = and_then (common s t) (comparison_by o)
 
 -- an operation on two values: its type first, then its level
-abbrev pub with_levels : Typed → Typed → Operation → Result Thing Kind
+abbrev pub with_levels : Typed → Typed → Operation → Result Thing FormulaKind
 with_levels a b o = and_then (higher a.level b.level) (λ l. typed o.gives l (o.node a.node b.node))
 
-abbrev pub operated : (ValueType → ValueType → Result Operation Kind) → Thing → Thing → Result Thing Kind
+abbrev pub operated : (ValueType → ValueType → Result Operation FormulaKind) → Thing → Thing → Result Thing FormulaKind
 operated by x y =
     and_then (value_of x) (λ a. and_then (value_of y) (λ b. and_then (by a.value_type b.value_type) (with_levels a b)))
 
 -- a prefix
 
-abbrev pub signed : (Node → Node) → Typed → Result Thing Kind
+abbrev pub signed : (Node → Node) → Typed → Result Thing FormulaKind
 signed node a = by a.value_type where
-  by : ValueType → Result Thing Kind
+  by : ValueType → Result Thing FormulaKind
   by vt.Number = typed vt.Number a.level (node a.node)
   by vt.Bool = bad_type
   by (vt.Enum e) = bad_type
 
-abbrev pub negated : Typed → Result Thing Kind
+abbrev pub negated : Typed → Result Thing FormulaKind
 negated a = if is_bool a.value_type then typed vt.Bool a.level (opposite a.node) else bad_type
 
-abbrev pub prefixed_by : Prefix → Typed → Result Thing Kind
+abbrev pub prefixed_by : Prefix → Typed → Result Thing FormulaKind
 prefixed_by prefix.Plus a = signed (λ n. n) a
 prefixed_by prefix.Minus a = signed negative a
 prefixed_by prefix.Not a = negated a
 
-abbrev pub prefixed_value : Prefix → Thing → Result Thing Kind
+abbrev pub prefixed_value : Prefix → Thing → Result Thing FormulaKind
 prefixed_value p x = and_then (value_of x) (prefixed_by p)
 
 -- One or the other, by a condition
 
-abbrev pub bool_of : Thing → Result Typed Kind
+abbrev pub bool_of : Thing → Result Typed FormulaKind
 bool_of x = and_then (value_of x) (λ v. if is_bool v.value_type then Ok v else bad_type)
 
-abbrev pub numeric_of : Thing → Result Typed Kind
+abbrev pub numeric_of : Thing → Result Typed FormulaKind
 numeric_of x = and_then (value_of x) (λ v. if is_numeric v.value_type then Ok v else bad_type)
 
-abbrev pub typed_all : Things → Result (List Typed) Kind
+abbrev pub typed_all : Things → Result (List Typed) FormulaKind
 typed_all none = Ok []
 typed_all (more x xs) = and_then (value_of x) (λ v. and_then (typed_all xs) (λ vs. Ok (v ∷ vs)))
 
 -- the common type of a first and more
-abbrev pub common_all : ValueType → List Typed → Result ValueType Kind
+abbrev pub common_all : ValueType → List Typed → Result ValueType FormulaKind
 common_all t [] = Ok t
 common_all t (v ∷ vs) = and_then (common t v.value_type) (λ s. common_all s vs)
 
-abbrev pub highest : Level → List Typed → Result Level Kind
+abbrev pub highest : Level → List Typed → Result Level FormulaKind
 highest l [] = Ok l
 highest l (v ∷ vs) = and_then (higher l v.level) (λ m. highest m vs)
 
-abbrev pub where_of : Typed → Typed → Typed → Result Thing Kind
+abbrev pub where_of : Typed → Typed → Typed → Result Thing FormulaKind
 where_of c a b =
     and_then (if is_bool c.value_type then common a.value_type b.value_type else bad_type) (λ t.
     and_then (highest c.level (a ∷ b ∷ [])) (λ l. typed t l (choose c.node a.node b.node)))

@@ -6,17 +6,17 @@ use Rattle.fisca_num.specs.Literal.{number_of_literal}
 use Rattle.fisca_params.specs.Results.{and_then}
 use Rattle.fisca_time.specs.declared.unit.Unit.{Unit}
 use Rattle.fisca_time.specs.declared.unit.Unit.TheVariants as unit
-use Rattle.fisca_expressions.specs.Words.{is}
-use Rattle.fisca_expressions.specs.Tree.{Tree, Series, Argument}
-use Rattle.fisca_expressions.specs.Tree as tree
-use Rattle.fisca_expressions.specs.declared.tree.Bracket.{Bracket}
-use Rattle.fisca_expressions.specs.declared.tree.Bracket.TheVariants as bracket
-use Rattle.fisca_expressions.specs.declared.tree.Prefix.{Prefix}
-use Rattle.fisca_expressions.specs.declared.tree.Prefix.TheVariants as prefix
-use Rattle.fisca_tokens.specs.declared.fault.Kind.{Kind}
-use Rattle.fisca_tokens.specs.declared.fault.Kind.TheVariants as kind
+use Rattle.fisca_ast.specs.Words.{is}
+use Rattle.fisca_ast.specs.Tree.{Tree, Series, Argument}
+use Rattle.fisca_ast.specs.Tree as tree
+use Rattle.fisca_ast.specs.declared.tree.Bracket.{Bracket}
+use Rattle.fisca_ast.specs.declared.tree.Bracket.TheVariants as bracket
+use Rattle.fisca_ast.specs.declared.tree.Prefix.{Prefix}
+use Rattle.fisca_ast.specs.declared.tree.Prefix.TheVariants as prefix
+use Rattle.fisca_ast.specs.declared.fault.FormulaKind.{FormulaKind}
+use Rattle.fisca_ast.specs.declared.fault.FormulaKind.TheVariants as kind
 use Rattle.fisca_typing.specs.declared.kinds.Level.TheVariants as level
-use Rattle.fisca_typing.specs.declared.kinds.ValueType.TheVariants as vt
+use Rattle.fisca_model.specs.declared.value_type.ValueType.TheVariants as vt
 use Rattle.fisca_typing.specs.declared.moves.DatePart.{DatePart}
 use Rattle.fisca_typing.specs.declared.moves.DatePart.TheVariants as part
 use Rattle.fisca_typing.specs.declared.moves.Move.{Move}
@@ -25,11 +25,11 @@ use Rattle.fisca_typing.specs.Nodes.{date_part}
 use Rattle.fisca_typing.specs.Names.{unknown_name}
 use Rattle.fisca_typing.specs.Things.{Thing, period, start, offset, typed}
 
-abbrev pub moved : List Move → Move → Result Thing Kind
+abbrev pub moved : List Move → Move → Result Thing FormulaKind
 moved ms m = Ok (period (ms ++ m ∷ []))
 
 -- the moves that are written as names behind a period
-unfoldable pub period_attribute : List ℕ → List Move → Result Thing Kind
+unfoldable pub period_attribute : List ℕ → List Move → Result Thing FormulaKind
 period_attribute t ms =
     if is t (codes "this_year") then moved ms step.ThisYear
     else (if is t (codes "first_month") then moved ms step.FirstMonth
@@ -41,10 +41,10 @@ period_attribute t ms =
     else (if is t (codes "start") then Ok (start ms)
     else (if is t (codes "offset") then Ok (offset ms) else unknown_name))))))))
 
-abbrev pub part_of : DatePart → List Move → Result Thing Kind
+abbrev pub part_of : DatePart → List Move → Result Thing FormulaKind
 part_of p ms = typed vt.Number level.Constant (date_part p ms)
 
-unfoldable pub start_attribute : List ℕ → List Move → Result Thing Kind
+unfoldable pub start_attribute : List ℕ → List Move → Result Thing FormulaKind
 start_attribute t ms =
     if is t (codes "year") then part_of part.Year ms
     else (if is t (codes "month") then part_of part.Month ms
@@ -117,9 +117,9 @@ unit_named t =
     else (if is t (codes "year") then Some unit.Year else None))
 
 -- `p.offset(k)` and `p.offset(k, unit)`
-abbrev pub offset_by : List Move → Tree → Result Thing Kind
+abbrev pub offset_by : List Move → Tree → Result Thing FormulaKind
 offset_by ms k = and_then (ok_or (whole k) kind.BadType) (λ n. moved ms (step.Offset n))
 
-abbrev pub offset_by_unit : List Move → Tree → List ℕ → Result Thing Kind
+abbrev pub offset_by_unit : List Move → Tree → List ℕ → Result Thing FormulaKind
 offset_by_unit ms k t =
     and_then (ok_or (whole k) kind.BadType) (λ n. and_then (ok_or (unit_named t) kind.BadType) (λ u. moved ms (step.OffsetBy n u)))

@@ -1,11 +1,11 @@
 -- What an expression of a formula may stand for.
 use Rattle.std.specs.Prelude.{ℕ, List, Option, Result, Ok}
-use Rattle.fisca_tokens.specs.declared.fault.Kind.{Kind}
+use Rattle.fisca_ast.specs.declared.fault.FormulaKind.{FormulaKind}
 use Rattle.fisca_typing.specs.declared.asking.Asking.{Asking}
-use Rattle.fisca_typing.specs.declared.asking.RolePlace.{RolePlace}
+use Rattle.fisca_model.specs.declared.role_place.RolePlace.{RolePlace}
 use Rattle.fisca_typing.specs.declared.asking.Whom.{Whom}
 use Rattle.fisca_typing.specs.declared.kinds.Level.{Level}
-use Rattle.fisca_typing.specs.declared.kinds.ValueType.{ValueType}
+use Rattle.fisca_model.specs.declared.value_type.ValueType.{ValueType}
 use Rattle.fisca_typing.specs.declared.moves.Move.{Move}
 use Rattle.fisca_typing.specs.declared.operations.Function.{Function}
 use Rattle.fisca_typing.specs.declared.operations.Method.{Method}
@@ -64,10 +64,10 @@ mutual
     none : Things
     more : Thing → Things → Things
 
-abbrev pub typed : ValueType → Level → Node → Result Thing Kind
+abbrev pub typed : ValueType → Level → Node → Result Thing FormulaKind
 typed t l n = Ok (value (record { value_type = t; level = l; node = n }))
 
-abbrev pub value_of : Thing → Result Typed Kind
+abbrev pub value_of : Thing → Result Typed FormulaKind
 value_of (value v) = Ok v
 value_of (period ms) = bad_type
 value_of (start ms) = bad_type
@@ -88,7 +88,7 @@ value_of (option a) = bad_type
 value_of (text t) = bad_type
 value_of (listed xs) = bad_type
 
-abbrev pub period_of : Thing → Result (List Move) Kind
+abbrev pub period_of : Thing → Result (List Move) FormulaKind
 period_of (value v) = bad_type
 period_of (period ms) = Ok ms
 period_of (start ms) = bad_type
@@ -110,7 +110,7 @@ period_of (text t) = bad_type
 period_of (listed xs) = bad_type
 
 -- parameters are read at the start of a period, which names the period as well
-abbrev pub instant_of : Thing → Result (List Move) Kind
+abbrev pub instant_of : Thing → Result (List Move) FormulaKind
 instant_of (value v) = bad_type
 instant_of (period ms) = Ok ms
 instant_of (start ms) = Ok ms
@@ -131,7 +131,7 @@ instant_of (option a) = bad_type
 instant_of (text t) = bad_type
 instant_of (listed xs) = bad_type
 
-abbrev pub text_of : Thing → Result (List ℕ) Kind
+abbrev pub text_of : Thing → Result (List ℕ) FormulaKind
 text_of (value v) = bad_type
 text_of (period ms) = bad_type
 text_of (start ms) = bad_type
@@ -152,7 +152,7 @@ text_of (option a) = bad_type
 text_of (text t) = Ok t
 text_of (listed xs) = bad_type
 
-abbrev pub things_of : Thing → Result Things Kind
+abbrev pub things_of : Thing → Result Things FormulaKind
 things_of (value v) = bad_type
 things_of (period ms) = bad_type
 things_of (start ms) = bad_type
@@ -173,7 +173,7 @@ things_of (option a) = bad_type
 things_of (text t) = bad_type
 things_of (listed xs) = Ok xs
 
-abbrev pub option_of : Thing → Result Asking Kind
+abbrev pub option_of : Thing → Result Asking FormulaKind
 option_of (value v) = bad_type
 option_of (period ms) = bad_type
 option_of (start ms) = bad_type
@@ -194,7 +194,7 @@ option_of (option a) = Ok a
 option_of (text t) = bad_type
 option_of (listed xs) = bad_type
 
-abbrev pub role_of : Thing → Result (ℕ × RolePlace) Kind
+abbrev pub role_of : Thing → Result (ℕ × RolePlace) FormulaKind
 role_of (value v) = bad_type
 role_of (period ms) = bad_type
 role_of (start ms) = bad_type
@@ -215,7 +215,7 @@ role_of (option a) = bad_type
 role_of (text t) = bad_type
 role_of (listed xs) = bad_type
 
-abbrev pub nodes_of : Thing → Result Chosen Kind
+abbrev pub nodes_of : Thing → Result Chosen FormulaKind
 nodes_of (value v) = bad_type
 nodes_of (period ms) = bad_type
 nodes_of (start ms) = bad_type

@@ -1,11 +1,11 @@
 -- Types of values, and levels.
 use Rattle.std.specs.Prelude.{Bool, true, false, ◌==◌, if◌then◌else◌, Result, Ok, Err}
-use Rattle.fisca_tokens.specs.declared.fault.Kind.{Kind}
-use Rattle.fisca_tokens.specs.declared.fault.Kind.TheVariants as kind
+use Rattle.fisca_ast.specs.declared.fault.FormulaKind.{FormulaKind}
+use Rattle.fisca_ast.specs.declared.fault.FormulaKind.TheVariants as kind
 use Rattle.fisca_typing.specs.declared.kinds.Level.{Level}
 use Rattle.fisca_typing.specs.declared.kinds.Level.TheVariants as level
-use Rattle.fisca_typing.specs.declared.kinds.ValueType.{ValueType}
-use Rattle.fisca_typing.specs.declared.kinds.ValueType.TheVariants as vt
+use Rattle.fisca_model.specs.declared.value_type.ValueType.{ValueType}
+use Rattle.fisca_model.specs.declared.value_type.ValueType.TheVariants as vt
 
 -- a bool counts as a number: 0 or 1
 abbrev pub is_numeric : ValueType → Bool
@@ -18,14 +18,14 @@ is_bool vt.Number = false
 is_bool vt.Bool = true
 is_bool (vt.Enum e) = false
 
-abbrev pub bad_type : {X : Type 0} → Result X Kind
+abbrev pub bad_type : {X : Type 0} → Result X FormulaKind
 bad_type = Err kind.BadType
 
-abbrev pub bad_level : {X : Type 0} → Result X Kind
+abbrev pub bad_level : {X : Type 0} → Result X FormulaKind
 bad_level = Err kind.BadLevel
 
 -- the type of what is one or the other: of one type, or a number where one of them is a number and one a bool
-abbrev pub common : ValueType → ValueType → Result ValueType Kind
+abbrev pub common : ValueType → ValueType → Result ValueType FormulaKind
 common vt.Number vt.Number = Ok vt.Number
 common vt.Number vt.Bool = Ok vt.Number
 common vt.Number (vt.Enum f) = bad_type
@@ -37,7 +37,7 @@ common (vt.Enum e) vt.Bool = bad_type
 common (vt.Enum e) (vt.Enum f) = if e == f then Ok (vt.Enum e) else bad_type
 
 -- the higher of two levels; a value of the group and values of its persons have none
-abbrev pub higher : Level → Level → Result Level Kind
+abbrev pub higher : Level → Level → Result Level FormulaKind
 higher level.Constant l = Ok l
 higher level.Own level.Constant = Ok level.Own
 higher level.Own level.Own = Ok level.Own

@@ -3,19 +3,19 @@ use Rattle.std.specs.Prelude.{ℕ, List, [], ◌∷◌, Bool, true, false, if◌
 use Rattle.fisca_num.specs.declared.faults.NumFault.{NumFault}
 use Rattle.fisca_num.specs.Number.{Number}
 use Rattle.fisca_num.specs.Literal.{number_of_literal}
-use Rattle.fisca_expressions.specs.Words.{is}
-use Rattle.fisca_expressions.specs.Tree.{Tree, Series, Argument}
-use Rattle.fisca_expressions.specs.Tree as tree
-use Rattle.fisca_expressions.specs.declared.tree.Bracket.{Bracket}
-use Rattle.fisca_expressions.specs.declared.tree.Bracket.TheVariants as bracket
-use Rattle.fisca_expressions.specs.declared.tree.Suffix.{Suffix}
-use Rattle.fisca_expressions.specs.declared.tree.Suffix.TheVariants as suffix
+use Rattle.fisca_ast.specs.Words.{is}
+use Rattle.fisca_ast.specs.Tree.{Tree, Series, Argument}
+use Rattle.fisca_ast.specs.Tree as tree
+use Rattle.fisca_ast.specs.declared.tree.Bracket.{Bracket}
+use Rattle.fisca_ast.specs.declared.tree.Bracket.TheVariants as bracket
+use Rattle.fisca_ast.specs.declared.tree.Suffix.{Suffix}
+use Rattle.fisca_ast.specs.declared.tree.Suffix.TheVariants as suffix
 use Rattle.fisca_params.specs.Results.{and_then}
-use Rattle.fisca_tokens.specs.declared.fault.Kind.{Kind}
-use Rattle.fisca_typing.specs.declared.asking.RolePlace.{RolePlace}
+use Rattle.fisca_ast.specs.declared.fault.FormulaKind.{FormulaKind}
+use Rattle.fisca_model.specs.declared.role_place.RolePlace.{RolePlace}
 use Rattle.fisca_typing.specs.declared.kinds.Level.TheVariants as level
-use Rattle.fisca_typing.specs.declared.kinds.ValueType.{ValueType}
-use Rattle.fisca_typing.specs.declared.kinds.ValueType.TheVariants as vt
+use Rattle.fisca_model.specs.declared.value_type.ValueType.{ValueType}
+use Rattle.fisca_model.specs.declared.value_type.ValueType.TheVariants as vt
 use Rattle.fisca_typing.specs.Asks.{asked_with, to_self, asker_attribute, method_called, settled_positions}
 use Rattle.fisca_typing.specs.Calls.{Given, function_by, offset_of, reader_by, calculation_by}
 use Rattle.fisca_typing.specs.Names.{Names, named, library_function, unknown_name}
@@ -23,38 +23,38 @@ use Rattle.fisca_typing.specs.Nodes.{literal, member}
 use Rattle.fisca_typing.specs.Operations.{operated, operation, comparison_of, prefixed_value}
 use Rattle.fisca_typing.specs.Parameters.{node_attribute, scale_attribute, subscripted}
 use Rattle.fisca_typing.specs.Periods.{period_attribute, start_attribute}
-use Rattle.fisca_typing.specs.Tables.{Tables, member_named, role_of_constant, roles_at}
-use Rattle.fisca_typing.specs.Texts.{content}
+use Rattle.fisca_model.specs.Tables.{Tables, member_named, role_of_constant, roles_at}
+use Rattle.fisca_ast.specs.Contents.{content}
 use Rattle.fisca_typing.specs.Things.{Thing, Things, typed, value, period, start, offset, reader, nodes, scale, calculation, enumeration, choices, entity, role, asker, method, library, function, option, text, listed, none, more, value_of, nodes_of}
 use Rattle.fisca_typing.specs.Types.{bad_type}
 
 -- no module has a number that is none
-abbrev pub number_thing : Result Number NumFault → Result Thing Kind
+abbrev pub number_thing : Result Number NumFault → Result Thing FormulaKind
 number_thing (Ok n) = typed vt.Number level.Constant (literal n)
 number_thing (Err e) = bad_type
 
 -- Names behind a point
 
-abbrev pub member_at : ℕ → Option ℕ → Result Thing Kind
+abbrev pub member_at : ℕ → Option ℕ → Result Thing FormulaKind
 member_at e None = unknown_name
 member_at e (Some i) = typed (vt.Enum e) level.Constant (member e i)
 
-abbrev pub member_thing : Tables → ℕ → List ℕ → Result Thing Kind
+abbrev pub member_thing : Tables → ℕ → List ℕ → Result Thing FormulaKind
 member_thing c e t = member_at e (member_named c e t)
 
-abbrev pub value_attribute : List ℕ → ValueType → Result Thing Kind
+abbrev pub value_attribute : List ℕ → ValueType → Result Thing FormulaKind
 value_attribute t vt.Number = bad_type
 value_attribute t vt.Bool = bad_type
 value_attribute t (vt.Enum e) = if is t (codes "possible_values") then Ok (choices e) else unknown_name
 
-abbrev pub role_at : ℕ → Option RolePlace → Result Thing Kind
+abbrev pub role_at : ℕ → Option RolePlace → Result Thing FormulaKind
 role_at g None = unknown_name
 role_at g (Some r) = Ok (role g r)
 
-abbrev pub role_thing : Tables → ℕ → List ℕ → Result Thing Kind
+abbrev pub role_thing : Tables → ℕ → List ℕ → Result Thing FormulaKind
 role_thing c g t = role_at g (role_of_constant (roles_at c g) t)
 
-abbrev pub attribute_of : Names → List ℕ → Thing → Result Thing Kind
+abbrev pub attribute_of : Names → List ℕ → Thing → Result Thing FormulaKind
 attribute_of c t (value v) = value_attribute t v.value_type
 attribute_of c t (period ms) = period_attribute t ms
 attribute_of c t (start ms) = start_attribute t ms
@@ -77,10 +77,10 @@ attribute_of c t (listed xs) = bad_type
 
 -- Calls: the arguments of all but questions are taken first, from left to right
 
-abbrev pub not_called : List Given → Result Thing Kind
+abbrev pub not_called : List Given → Result Thing FormulaKind
 not_called gs = settled_positions gs (λ ps. bad_type)
 
-abbrev pub called : Names → Thing → List Given → Result Thing Kind
+abbrev pub called : Names → Thing → List Given → Result Thing FormulaKind
 called c (value v) gs = not_called gs
 called c (period ms) gs = not_called gs
 called c (start ms) gs = not_called gs
@@ -108,36 +108,36 @@ is_positional None = true
 is_positional (Some k) = false
 
 -- the elements of a list
-abbrev pub elements : List Given → Result Things Kind
+abbrev pub elements : List Given → Result Things FormulaKind
 elements [] = Ok none
 elements (g ∷ gs) =
     and_then g.thing (λ x. if is_positional g.keyword then and_then (elements gs) (λ xs. Ok (more x xs)) else bad_type)
 
 -- what stands alone in brackets
-abbrev pub only : List Given → Result Thing Kind
+abbrev pub only : List Given → Result Thing FormulaKind
 only [] = bad_type
 only (g ∷ []) = if is_positional g.keyword then g.thing else bad_type
 only (g ∷ h ∷ gs) = bad_type
 
 -- parentheses group alone; no formula has tuples or maps
-abbrev pub in_brackets : Bracket → List Given → Result Thing Kind
+abbrev pub in_brackets : Bracket → List Given → Result Thing FormulaKind
 in_brackets bracket.Round gs = only gs
 in_brackets bracket.Square gs = and_then (elements gs) (λ xs. Ok (listed xs))
 in_brackets bracket.Curly gs = bad_type
 
 -- `NODE[e]`
-abbrev pub subscript_of : Names → Thing → List Given → Result Thing Kind
+abbrev pub subscript_of : Names → Thing → List Given → Result Thing FormulaKind
 subscript_of c x gs = and_then (only gs) (λ i. and_then (nodes_of x) (λ n. and_then (value_of i) (subscripted c.tables n)))
 
-abbrev pub with_suffix : Names → Suffix → Thing → List Given → Result Thing Kind
+abbrev pub with_suffix : Names → Suffix → Thing → List Given → Result Thing FormulaKind
 with_suffix c suffix.Call x gs = called c x gs
 with_suffix c suffix.Subscript x gs = subscript_of c x gs
 
-abbrev pub given : Option (List ℕ) → Tree → Result Thing Kind → Given
+abbrev pub given : Option (List ℕ) → Tree → Result Thing FormulaKind → Given
 given k e x = record { keyword = k; tree = e; thing = x }
 
 abbrev mutual
-  pub thing_of : Names → Tree → Result Thing Kind
+  pub thing_of : Names → Tree → Result Thing FormulaKind
   thing_of c (tree.name t) = named c t
   thing_of c (tree.number t) = number_thing (number_of_literal t)
   thing_of c (tree.text t) = Ok (text (content t))

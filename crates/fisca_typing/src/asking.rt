@@ -1,13 +1,6 @@
 //! How formulas ask for the values of variables.
 
-/// A role of a group: its place among the roles of its entity, and of a subrole its place there.
-#[derive(Clone, Copy, Debug, PartialEq, Eq)]
-pub struct RolePlace {
-    /// The role.
-    pub role: usize,
-    /// The subrole, if it is one.
-    pub subrole: Option<usize>,
-}
+use fisca_model::RolePlace;
 
 /// For whom a variable is asked.
 #[derive(Clone, Copy, Debug, PartialEq, Eq)]

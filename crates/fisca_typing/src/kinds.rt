@@ -1,15 +1,4 @@
-//! Types and levels of values.
-
-/// The type of a value.
-#[derive(Clone, Copy, Debug, PartialEq, Eq)]
-pub enum ValueType {
-    /// A number.
-    Number,
-    /// `True` or `False`.
-    Bool,
-    /// A member of the Enum at this place among all.
-    Enum(usize),
-}
+//! How many values an expression has.
 
 /// How many values an expression has in one formula.
 #[derive(Clone, Copy, Debug, PartialEq, Eq)]

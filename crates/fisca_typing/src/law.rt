@@ -1,7 +1,7 @@
 //! Laws of typed formulas.
 
 ghost use Rattle.std.specs.Prelude.{◌≡◌, List, []};
-ghost use Rattle.fisca_expressions.specs.Tree.{Tree, height};
+ghost use Rattle.fisca_ast.specs.Tree.{Tree, height};
 ghost use Rattle.fisca_typing.specs.Sizes.{Sized, Written, all_capped, all_sized, capped, capped_size_of, is_small, put_in, size_of};
 
 /// The height and the count of nodes, worked out from those of the earlier locals, are those of the expression in which

@@ -7,8 +7,8 @@ mod law;
 mod moves;
 mod operations;
 
-pub use asking::{Asking, RolePlace, Whom};
-pub use kinds::{Level, ValueType};
+pub use asking::{Asking, Whom};
+pub use kinds::Level;
 pub use law::{counting_to_the_limits_decides_them, sizes_are_of_locals_put_in};
 pub use moves::{DatePart, Move};
 pub use operations::{Arithmetic, Function, Logic, Method, Total};

@@ -1,7 +1,7 @@
 -- What a reader answers.
 use Rattle.std.specs.Prelude.{◌≡◌, ◌≢◌, ◌≤◌, ℕ, List, Option, Some, None, Result, Ok, Err}
 use Rattle.fisca_yaml.specs.declared.fault.YamlFault.{YamlFault}
-use Rattle.fisca_yaml.specs.declared.fault.Kind.TheVariants.{Memory, TooLong}
+use Rattle.fisca_yaml.specs.declared.fault.YamlKind.TheVariants.{Memory, TooLong}
 
 -- What was read, seen by view, is this value. A refusal for another cause than memory comes only where there is none.
 abbrev pub Gives : {X Y : Type 0} → (X → Y) → Result X YamlFault → Option Y → Type 0

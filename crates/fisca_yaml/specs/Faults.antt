@@ -1,9 +1,9 @@
 -- The numbers and the plain names of the kinds of faults.
 use Rattle.std.specs.Prelude.{ℕ, List, codes}
-use Rattle.fisca_yaml.specs.declared.fault.Kind.{Kind}
-use Rattle.fisca_yaml.specs.declared.fault.Kind.TheVariants.{Tab, BadIndent, DuplicateKey, BadFlow, BadQuote, Unsupported, TooDeep, TooLong, Memory}
+use Rattle.fisca_yaml.specs.declared.fault.YamlKind.{YamlKind}
+use Rattle.fisca_yaml.specs.declared.fault.YamlKind.TheVariants.{Tab, BadIndent, DuplicateKey, BadFlow, BadQuote, Unsupported, TooDeep, TooLong, Memory}
 
-abbrev pub name_of : Kind → List ℕ
+abbrev pub name_of : YamlKind → List ℕ
 name_of Tab = codes "Tab"
 name_of BadIndent = codes "BadIndent"
 name_of DuplicateKey = codes "DuplicateKey"
@@ -14,7 +14,7 @@ name_of TooDeep = codes "TooDeep"
 name_of TooLong = codes "TooLong"
 name_of Memory = codes "Memory"
 
-abbrev pub number_of : Kind → ℕ
+abbrev pub number_of : YamlKind → ℕ
 number_of Tab = 1
 number_of BadIndent = 2
 number_of DuplicateKey = 3

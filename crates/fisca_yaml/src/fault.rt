@@ -1,7 +1,7 @@
 //! Why a text is refused.
 
 ghost use Rattle.std.specs.Prelude.{◌≡◌, ◌≢◌, ◌<◌, ◌↔◌};
-ghost use Rattle.fisca_yaml.specs.declared.fault.Kind.TheVariants as kinds;
+ghost use Rattle.fisca_yaml.specs.declared.fault.YamlKind.TheVariants as kinds;
 ghost use Rattle.fisca_yaml.specs.Faults.{name_of, number_of};
 
 use std::alloc::{AllocError, AllocFailed};
@@ -10,7 +10,7 @@ use thiserror::Error;
 /// Why a text is refused: this project's own list, by its numbers.
 #[derive(Clone, Copy, Debug, PartialEq, Eq, Error)]
 #[error("{}", self.name())]
-pub enum Kind {
+pub enum YamlKind {
     /// 1: a tab stands among the leading blanks of a line.
     Tab,
     /// 2: a line stands at an indentation that is not open, or below a value that stands on its line.
@@ -31,21 +31,21 @@ pub enum Kind {
     Memory,
 }
 
-impl Kind {
+impl YamlKind {
     /// The number of the kind, from 1 to 9.
     pub fn number(self) -> u8
         ensures { result ≡ number_of self }
     {
         match self {
-            Kind::Tab => 1,
-            Kind::BadIndent => 2,
-            Kind::DuplicateKey => 3,
-            Kind::BadFlow => 4,
-            Kind::BadQuote => 5,
-            Kind::Unsupported => 6,
-            Kind::TooDeep => 7,
-            Kind::TooLong => 8,
-            Kind::Memory => 9,
+            YamlKind::Tab => 1,
+            YamlKind::BadIndent => 2,
+            YamlKind::DuplicateKey => 3,
+            YamlKind::BadFlow => 4,
+            YamlKind::BadQuote => 5,
+            YamlKind::Unsupported => 6,
+            YamlKind::TooDeep => 7,
+            YamlKind::TooLong => 8,
+            YamlKind::Memory => 9,
         }
     }
 
@@ -54,15 +54,15 @@ impl Kind {
         ensures { result.now ≡ name_of self }
     {
         match self {
-            Kind::Tab => "Tab",
-            Kind::BadIndent => "BadIndent",
-            Kind::DuplicateKey => "DuplicateKey",
-            Kind::BadFlow => "BadFlow",
-            Kind::BadQuote => "BadQuote",
-            Kind::Unsupported => "Unsupported",
-            Kind::TooDeep => "TooDeep",
-            Kind::TooLong => "TooLong",
-            Kind::Memory => "Memory",
+            YamlKind::Tab => "Tab",
+            YamlKind::BadIndent => "BadIndent",
+            YamlKind::DuplicateKey => "DuplicateKey",
+            YamlKind::BadFlow => "BadFlow",
+            YamlKind::BadQuote => "BadQuote",
+            YamlKind::Unsupported => "Unsupported",
+            YamlKind::TooDeep => "TooDeep",
+            YamlKind::TooLong => "TooLong",
+            YamlKind::Memory => "Memory",
         }
     }
 }
@@ -72,42 +72,42 @@ impl Kind {
 #[error("{line}: {kind}")]
 pub struct YamlFault {
     pub line: usize,
-    pub kind: Kind,
+    pub kind: YamlKind,
     pub ghost placed: { (line ≡ 0) ↔ (kind ≡ kinds.Memory) },
 }
 
 impl From<AllocError> for YamlFault {
     ghost use Rattle.std.specs.Prelude.{◌≡◌};
-    ghost use Rattle.fisca_yaml.specs.declared.fault.Kind.TheVariants.{Memory};
+    ghost use Rattle.fisca_yaml.specs.declared.fault.YamlKind.TheVariants.{Memory};
 
     ghost from_gives = { λ _ f. (f.kind ≡ Memory) × (f.line ≡ 0) };
 
     fn from(_error: AllocError) -> YamlFault {
         YamlFault {
             line: 0,
-            kind: Kind::Memory,
+            kind: YamlKind::Memory,
         }
     }
 }
 
 impl<T: Drop> From<AllocFailed<T>> for YamlFault {
     ghost use Rattle.std.specs.Prelude.{◌≡◌};
-    ghost use Rattle.fisca_yaml.specs.declared.fault.Kind.TheVariants.{Memory};
+    ghost use Rattle.fisca_yaml.specs.declared.fault.YamlKind.TheVariants.{Memory};
 
     ghost from_gives = { λ _ f. (f.kind ≡ Memory) × (f.line ≡ 0) };
 
     fn from(_error: AllocFailed<T>) -> YamlFault {
         YamlFault {
             line: 0,
-            kind: Kind::Memory,
+            kind: YamlKind::Memory,
         }
     }
 }
 
 /// The fault of a line.
-pub(crate) fn at(line: usize, kind: Kind) -> YamlFault
+pub(crate) fn at(line: usize, kind: YamlKind) -> YamlFault
     requires numbered { 0 < line }
-    requires known { kind ≢ Kind.Memory }
+    requires known { kind ≢ YamlKind.Memory }
     ensures line { result.line ≡ line }
     ensures kind { result.kind ≡ kind }
 {

@@ -10,7 +10,7 @@ ghost use Rattle.fisca_yaml.specs.Views.{node, items_view, entries_view, keyed_v
 ghost use Rattle.fisca_yaml.specs.Answers.{GivesAnd, Gives, IsTold};
 ghost use Rattle.fisca_yaml.specs.Node.{AreNumbered, last_line};
 
-use crate::fault::{Kind, YamlFault, at};
+use crate::fault::{YamlFault, YamlKind, at};
 use crate::keys::{first_fault, first_of_entry, repeated};
 use crate::marks::{around, begins, is_quote, may_begin, past_blanks, trim_end};
 use crate::plain::{ends_key, is_key, word_len};
@@ -112,15 +112,15 @@ impl<'a> Flow<'a> {
 }
 
 /// Why no plain scalar may begin so.
-pub(crate) fn refused_kind(bytes: &[u8]) -> Kind
-    ensures memory { result ≢ Kind.Memory }
-    ensures long { result ≢ Kind.TooLong }
+pub(crate) fn refused_kind(bytes: &[u8]) -> YamlKind
+    ensures memory { result ≢ YamlKind.Memory }
+    ensures long { result ≢ YamlKind.TooLong }
 {
     match bytes {
-        [b'\t', ..] => Kind::Tab,
-        [b'&' | b'*' | b'!' | b'%' | b'@' | b'`', ..] => Kind::Unsupported,
-        [b'?' | b':' | b'-'] | [b'?' | b':' | b'-', b' ' | b'\t', ..] => Kind::Unsupported,
-        _ => Kind::BadFlow,
+        [b'\t', ..] => YamlKind::Tab,
+        [b'&' | b'*' | b'!' | b'%' | b'@' | b'`', ..] => YamlKind::Unsupported,
+        [b'?' | b':' | b'-'] | [b'?' | b':' | b'-', b' ' | b'\t', ..] => YamlKind::Unsupported,
+        _ => YamlKind::BadFlow,
     }
 }
 
@@ -138,7 +138,7 @@ fn read_flow_scalar<'a>(
     if is_quote(flow.rest().as_bytes()) {
         return match flow.take_quoted(alloc)? {
             Some(text) => Ok(quoted_scalar(number, text)),
-            None => Err(at(number, Kind::BadQuote)),
+            None => Err(at(number, YamlKind::BadQuote)),
         };
     }
     match flow.take_plain() {
@@ -162,14 +162,14 @@ pub(crate) fn read_flow<'a>(
 {
     if flow.take(b'[') {
         if depth == 0 {
-            return Err(at(number, Kind::TooDeep));
+            return Err(at(number, YamlKind::TooDeep));
         }
         flow.skip_blanks();
         return Ok(Tree::List(read_flow_items(alloc, number, flow, depth - 1)?));
     }
     if flow.take(b'{') {
         if depth == 0 {
-            return Err(at(number, Kind::TooDeep));
+            return Err(at(number, YamlKind::TooDeep));
         }
         flow.skip_blanks();
         let entries = read_flow_entries(alloc, number, flow, depth - 1)?;
@@ -185,7 +185,7 @@ pub(crate) fn make_map<'a>(alloc: Global, entries: Vec<Entry<'a>>) -> Result<Tre
     ensures told { IfErr result (IsTold (last_line (entries_view entries.entry.items))) }
 {
     if let Some(line) = repeated(alloc, &entries)? {
-        return Err(at(line, Kind::DuplicateKey));
+        return Err(at(line, YamlKind::DuplicateKey));
     }
     Ok(Tree::Map(entries))
 }
@@ -216,7 +216,7 @@ fn read_flow_items<'a>(
 fn separate(number: usize, flow: &mut Flow<'_>, close: u8) -> Result<(), YamlFault>
     requires ascii { close < 128 }
     requires numbered { 0 < number }
-    ensures value { MatchResult result (λ _. after_value close flow.old ≡ Some flow.new) (λ f. (f.kind ≢ Kind.Memory) × (after_value close flow.old ≡ None)) }
+    ensures value { MatchResult result (λ _. after_value close flow.old ≡ Some flow.new) (λ f. (f.kind ≢ YamlKind.Memory) × (after_value close flow.old ≡ None)) }
     ensures told { IfErr result (IsTold number) }
     ensures shorter { OnOk result (length flow.new ≤ length flow.old) }
 {
@@ -228,7 +228,7 @@ fn separate(number: usize, flow: &mut Flow<'_>, close: u8) -> Result<(), YamlFau
     if flow.begins(close) {
         Ok(())
     } else {
-        Err(at(number, Kind::BadFlow))
+        Err(at(number, YamlKind::BadFlow))
     }
 }
 
@@ -312,7 +312,7 @@ fn read_flow_key<'a>(
 {
     if is_quote(flow.rest().as_bytes()) {
         let Some(key) = flow.take_quoted(alloc)? else {
-            return Err(at(number, Kind::BadQuote));
+            return Err(at(number, YamlKind::BadQuote));
         };
         take_colon(number, flow, true, key.as_str())?;
         return Ok(key);
@@ -325,12 +325,12 @@ fn read_flow_key<'a>(
 }
 
 /// Why no plain key may begin so. A colon with a blank or an end behind it follows an empty key.
-fn refused_key(bytes: &[u8]) -> Kind
-    ensures memory { result ≢ Kind.Memory }
-    ensures long { result ≢ Kind.TooLong }
+fn refused_key(bytes: &[u8]) -> YamlKind
+    ensures memory { result ≢ YamlKind.Memory }
+    ensures long { result ≢ YamlKind.TooLong }
 {
     match bytes {
-        [b':', rest @ ..] if ends_key(rest) => Kind::Unsupported,
+        [b':', rest @ ..] if ends_key(rest) => YamlKind::Unsupported,
         _ => refused_kind(bytes),
     }
 }
@@ -338,19 +338,19 @@ fn refused_key(bytes: &[u8]) -> Kind
 /// Goes past a key's colon and the blanks behind it. Behind a plain key's colon a blank or an end must follow.
 fn take_colon(number: usize, flow: &mut Flow<'_>, loose: bool, key: &str) -> Result<(), YamlFault>
     requires { 0 < number }
-    ensures value { MatchResult result (λ _. keyed_by loose (Some (key.now, flow.old)) ≡ Some (key.now, flow.new)) (λ f. (f.kind ≢ Kind.Memory) × (keyed_by loose (Some (key.now, flow.old)) ≡ None)) }
+    ensures value { MatchResult result (λ _. keyed_by loose (Some (key.now, flow.old)) ≡ Some (key.now, flow.new)) (λ f. (f.kind ≢ YamlKind.Memory) × (keyed_by loose (Some (key.now, flow.old)) ≡ None)) }
     ensures told { IfErr result (IsTold number) }
     ensures shorter { OnOk result (length flow.new ≤ length flow.old) }
 {
     flow.skip_blanks();
     if !flow.take(b':') {
-        return Err(at(number, Kind::BadFlow));
+        return Err(at(number, YamlKind::BadFlow));
     }
     if !loose && !ends_key(flow.rest().as_bytes()) {
-        return Err(at(number, Kind::BadFlow));
+        return Err(at(number, YamlKind::BadFlow));
     }
     if !is_key(key) {
-        return Err(at(number, Kind::Unsupported));
+        return Err(at(number, YamlKind::Unsupported));
     }
     flow.skip_blanks();
     Ok(())

@@ -6,7 +6,7 @@ ghost use Rattle.std.specs.Str.{bytes_eq};
 ghost use Rattle.fisca_yaml.specs.Node.{keys, repeats, AreNumbered, last_line};
 ghost use Rattle.fisca_yaml.specs.Views.{entries_view};
 
-use crate::fault::{Kind, YamlFault, at};
+use crate::fault::{YamlFault, YamlKind, at};
 use crate::tree::Entry;
 use std::alloc::{AllocError, Global};
 use std::collections::BTreeMap;
@@ -72,15 +72,15 @@ fn has_key(entries: &[Entry<'_>], key: &str) -> bool
 /// The first fault of a map's lines: the key that comes a second time before this fault, or this fault.
 pub(crate) fn first_fault(alloc: Global, entries: &[Entry<'_>], fault: YamlFault) -> YamlFault
     requires { AreNumbered (entries_view entries.now) }
-    ensures memory { result.kind ≢ Kind.Memory → fault.kind ≢ Kind.Memory }
+    ensures memory { result.kind ≢ YamlKind.Memory → fault.kind ≢ YamlKind.Memory }
     ensures line { result.line ≤ max fault.line (last_line (entries_view entries.now)) }
-    ensures long { fault.kind ≢ Kind.TooLong → result.kind ≢ Kind.TooLong }
+    ensures long { fault.kind ≢ YamlKind.TooLong → result.kind ≢ YamlKind.TooLong }
 {
-    if fault.kind == Kind::Memory {
+    if fault.kind == YamlKind::Memory {
         return fault;
     }
     match repeated(alloc, entries) {
-        Ok(Some(line)) => at(line, Kind::DuplicateKey),
+        Ok(Some(line)) => at(line, YamlKind::DuplicateKey),
         Ok(None) => fault,
         Err(error) => YamlFault::from(error),
     }
@@ -94,12 +94,12 @@ pub(crate) fn first_of_entry(
     fault: YamlFault,
 ) -> YamlFault
     requires { 0 < line }
-    ensures memory { result.kind ≢ Kind.Memory → fault.kind ≢ Kind.Memory }
+    ensures memory { result.kind ≢ YamlKind.Memory → fault.kind ≢ YamlKind.Memory }
     ensures line { result.line ≤ max fault.line line }
-    ensures long { fault.kind ≢ Kind.TooLong → result.kind ≢ Kind.TooLong }
+    ensures long { fault.kind ≢ YamlKind.TooLong → result.kind ≢ YamlKind.TooLong }
 {
-    if fault.kind != Kind::Memory && has_key(entries, key) {
-        at(line, Kind::DuplicateKey)
+    if fault.kind != YamlKind::Memory && has_key(entries, key) {
+        at(line, YamlKind::DuplicateKey)
     } else {
         fault
     }

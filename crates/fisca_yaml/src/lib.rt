@@ -16,6 +16,6 @@ mod split;
 mod tree;
 mod value;
 
-pub use fault::{Kind, YamlFault};
+pub use fault::{YamlFault, YamlKind};
 pub use reader::read;
 pub use tree::{Entry, Item, Text, Tree};

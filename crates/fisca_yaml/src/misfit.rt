@@ -3,7 +3,7 @@
 ghost use Rattle.std.specs.Prelude.{◌≡◌, ◌&&◌, ◌==◌, nat_lt, ◌/◌, ◌-◌, IfErr};
 ghost use Rattle.fisca_yaml.specs.Answers.{IsTold};
 
-use crate::fault::{Kind, YamlFault, at};
+use crate::fault::{YamlFault, YamlKind, at};
 use crate::line::Line;
 use crate::plain::is_key;
 use crate::value::read_on_line;
@@ -21,7 +21,7 @@ pub(crate) fn misplaced(alloc: Global, line: Line<'_>, open: bool, depth: usize)
     ensures { IsTold line.entry.number result }
 {
     if !line.is_tabbed() && !open {
-        return at(line.number, Kind::BadIndent);
+        return at(line.number, YamlKind::BadIndent);
     }
     misfit(alloc, line, depth)
 }
@@ -31,17 +31,17 @@ pub(crate) fn misfit(alloc: Global, line: Line<'_>, depth: usize) -> YamlFault
     ensures { IsTold line.entry.number result }
 {
     if line.is_tabbed() {
-        return at(line.number, Kind::Tab);
+        return at(line.number, YamlKind::Tab);
     }
     let mut inner = line;
     'items: while inner.is_item() {
         match inner.after_dash() {
             Some(next) if !next.begins_text() => inner = next,
-            _ => return at(line.number, Kind::Unsupported),
+            _ => return at(line.number, YamlKind::Unsupported),
         }
     }
     match look_over(alloc, inner, depth) {
-        Ok(()) => at(line.number, Kind::Unsupported),
+        Ok(()) => at(line.number, YamlKind::Unsupported),
         Err(fault) => fault,
     }
 }
@@ -55,7 +55,7 @@ fn look_over(alloc: Global, line: Line<'_>, depth: usize) -> Result<(), YamlFaul
         return Ok(());
     };
     if !is_key(key.as_str()) {
-        return Err(at(line.number, Kind::Unsupported));
+        return Err(at(line.number, YamlKind::Unsupported));
     }
     if let Some(value) = Line::following(line.number, 0, rest) {
         let _value = read_on_line(alloc, &value, depth)?;

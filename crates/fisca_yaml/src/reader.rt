@@ -9,7 +9,7 @@ ghost use Rattle.fisca_yaml.specs.Lines.{row};
 ghost use Rattle.fisca_yaml.specs.Views.{node, items_view, entries_view, AddsEntry};
 ghost use Rattle.fisca_yaml.specs.Answers.{Gives, IsTold};
 
-use crate::fault::{Kind, YamlFault, at};
+use crate::fault::{YamlFault, YamlKind, at};
 use crate::flow::make_map;
 use crate::keys::{first_fault, first_of_entry};
 use crate::line::Line;
@@ -38,19 +38,19 @@ pub fn read(alloc: Global, text: &str) -> Result<Tree<'_>, YamlFault>
     // What is read is the text's tree, and no limit is passed.
     ensures tree { IfOk result (λ t. IsTree text.now (node t) × Within text.now (node t)) }
     // A refusal for another cause than memory comes only where there is no tree, or a limit is passed.
-    ensures only { IfErr result (λ f. f.kind ≢ Kind.Memory → (n : Node) → IsTree text.now n → Within text.now n → ⊥) }
+    ensures only { IfErr result (λ f. f.kind ≢ YamlKind.Memory → (n : Node) → IsTree text.now n → Within text.now n → ⊥) }
     // The same, by the function that gives the tree of a text within the limits.
     ensures found { IfOk result (λ t. document text.now ≡ Some (node t)) }
-    ensures none { IfErr result (λ f. f.kind ≢ Kind.Memory → document text.now ≡ None) }
+    ensures none { IfErr result (λ f. f.kind ≢ YamlKind.Memory → document text.now ≡ None) }
     // `TooLong` is told of a text that is too long, at line 1, and of no other.
-    ensures too_long { 2 ^ 20 < length text.now → IsErrAnd result (λ f. (f.kind ≡ Kind.TooLong) × (f.line ≡ 1)) }
-    ensures long { IfErr result (λ f. f.kind ≡ Kind.TooLong → 2 ^ 20 < length text.now) }
+    ensures too_long { 2 ^ 20 < length text.now → IsErrAnd result (λ f. (f.kind ≡ YamlKind.TooLong) × (f.line ≡ 1)) }
+    ensures long { IfErr result (λ f. f.kind ≡ YamlKind.TooLong → 2 ^ 20 < length text.now) }
     // A fault is told of a line of the text, and want of memory alone of line 0.
-    ensures line { IfErr result (λ f. f.kind ≢ Kind.TooLong → f.line ≤ length (lines text.now)) }
-    ensures memory { IfErr result (λ f. (f.line ≡ 0) ↔ (f.kind ≡ Kind.Memory)) }
+    ensures line { IfErr result (λ f. f.kind ≢ YamlKind.TooLong → f.line ≤ length (lines text.now)) }
+    ensures memory { IfErr result (λ f. (f.line ≡ 0) ↔ (f.kind ≡ YamlKind.Memory)) }
 {
     if text.len() > MAX_TEXT {
-        return Err(at(1, Kind::TooLong));
+        return Err(at(1, YamlKind::TooLong));
     }
     let tree = read_tree(alloc, text)?;
     Ok(tree)
@@ -68,7 +68,7 @@ fn read_tree(alloc: Global, text: &str) -> Result<Tree<'_>, YamlFault>
         None => Ok(Tree::Null),
         Some(head) => {
             if head.is_marker() {
-                return Err(at(head.number, Kind::Unsupported));
+                return Err(at(head.number, YamlKind::Unsupported));
             }
             if head.opens(alloc)? {
                 read_block(alloc, head, &mut lines, 0, MAX_DEPTH)
@@ -94,7 +94,7 @@ fn read_block<'a>(
     ensures rest { OnOk result (rest.new ≡ after floor rest.old) }
 {
     if depth == 0 {
-        return Err(at(head.number, Kind::TooDeep));
+        return Err(at(head.number, YamlKind::TooDeep));
     }
     if head.is_item() {
         Ok(Tree::List(read_items(alloc, head, rest, floor, depth - 1)?))
@@ -233,7 +233,7 @@ fn read_entry<'a>(
     ensures value { MatchResult result
         (λ _. (p : List ℕ × Node) × ((entry_value depth (block depth) (record { head = row line.now; inside = front (rank (row line.now)) rest.old }) ≡ Some p)
         × AddsEntry entries.old.items entries.new.items p.0 line.now.number p.1))
-        (λ f. f.kind ≢ Kind.Memory → entry_value depth (block depth) (record { head = row line.now; inside = front (rank (row line.now)) rest.old }) ≡ None) }
+        (λ f. f.kind ≢ YamlKind.Memory → entry_value depth (block depth) (record { head = row line.now; inside = front (rank (row line.now)) rest.old }) ≡ None) }
     ensures told { IfErr result (IsTold (last_number (row line.now ∷ rest.old))) }
     ensures kept { OnErr result (entries.new.items ≡ entries.old.items) }
     ensures rest { OnOk result (rest.new ≡ after (rank (row line.now)) rest.old) }
@@ -242,7 +242,7 @@ fn read_entry<'a>(
         return Err(misfit(alloc, *line, depth));
     };
     if !is_key(key.as_str()) {
-        return Err(at(line.number, Kind::Unsupported));
+        return Err(at(line.number, YamlKind::Unsupported));
     }
     match read_value(alloc, line, tail, rest, depth) {
         Ok(value) => {

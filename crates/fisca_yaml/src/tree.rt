@@ -6,7 +6,7 @@ ghost use Rattle.fisca_yaml.specs.Scalars.{leaf};
 ghost use Rattle.fisca_yaml.specs.Views.{node, entries_view, AddsItem, AddsEntry};
 ghost use Rattle.fisca_yaml.specs.Find.{get, get_entry, begins_on, entry_line, line_at, as_text, as_plain, as_bool, as_number, bool_of};
 
-use crate::fault::{Kind, YamlFault};
+use crate::fault::{YamlFault, YamlKind};
 use crate::plain::is_null_word;
 use fisca_num::Fraction;
 use std::alloc::{AllocError, Global};
@@ -101,7 +101,7 @@ pub(crate) fn push_item<'a>(
     value: Tree<'a>,
 ) -> Result<(), YamlFault>
     ensures ok { OnOk result (AddsItem items.old.items items.new.items line (node value.entry)) }
-    ensures err { IfErr result (λ f. (f.kind ≡ Kind.Memory) × (f.line ≡ 0)) }
+    ensures err { IfErr result (λ f. (f.kind ≡ YamlKind.Memory) × (f.line ≡ 0)) }
 {
     items.push(Item { line, value })?;
     Ok(())
@@ -126,7 +126,7 @@ pub(crate) fn push_entry<'a>(
     value: Tree<'a>,
 ) -> Result<(), YamlFault>
     ensures ok { OnOk result (AddsEntry entries.old.items entries.new.items key.entry line (node value.entry)) }
-    ensures err { IfErr result (λ f. (f.kind ≡ Kind.Memory) × (f.line ≡ 0)) }
+    ensures err { IfErr result (λ f. (f.kind ≡ YamlKind.Memory) × (f.line ≡ 0)) }
     ensures kept { OnErr result (entries.new.items ≡ entries.old.items) }
 {
     reserve_first(entries)?;

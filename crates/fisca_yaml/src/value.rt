@@ -10,7 +10,7 @@ ghost use Rattle.fisca_yaml.specs.Lines.{row};
 ghost use Rattle.fisca_yaml.specs.Views.{node};
 ghost use Rattle.fisca_yaml.specs.Answers.{Gives, IsTold};
 
-use crate::fault::{Kind, YamlFault, at};
+use crate::fault::{YamlFault, YamlKind, at};
 use crate::flow::{Flow, read_flow, refused_kind};
 use crate::line::Line;
 use crate::lines::Lines;
@@ -50,7 +50,7 @@ fn read_bracketed<'a>(alloc: Global, line: &Line<'a>, depth: usize) -> Result<Tr
     if ends_line(flow.rest()) {
         Ok(tree)
     } else {
-        Err(at(line.number, Kind::BadFlow))
+        Err(at(line.number, YamlKind::BadFlow))
     }
 }
 
@@ -60,12 +60,12 @@ fn read_quoted_value<'a>(alloc: Global, line: &Line<'a>) -> Result<Tree<'a>, Yam
     ensures told { IfErr result (IsTold line.now.number) }
 {
     let Some((text, rest)) = read_quoted(alloc, line.content)? else {
-        return Err(at(line.number, Kind::BadQuote));
+        return Err(at(line.number, YamlKind::BadQuote));
     };
     if ends_line(rest) {
         Ok(quoted_scalar(line.number, text))
     } else {
-        Err(at(line.number, Kind::BadQuote))
+        Err(at(line.number, YamlKind::BadQuote))
     }
 }
 
@@ -80,7 +80,7 @@ fn read_plain_value<'a>(line: &Line<'a>) -> Result<Tree<'a>, YamlFault>
     }
     match value_text(line.content) {
         Some(text) => Ok(leaf(line.number, trim_end(text))),
-        None => Err(at(line.number, Kind::Unsupported)),
+        None => Err(at(line.number, YamlKind::Unsupported)),
     }
 }
 
@@ -168,7 +168,7 @@ fn read_text<'a>(
     ensures rest { OnOk result (rest.new ≡ after floor rest.old) }
 {
     if !is_header(tail(line.content)) {
-        return Err(at(line.number, Kind::Unsupported));
+        return Err(at(line.number, YamlKind::Unsupported));
     }
     while let Some(inside) = rest.next_deeper(floor) {
         if inside.indent <= indent || inside.is_tabbed() {

@@ -1,6 +1,6 @@
 //! The sink in memory.
 
-use fisca_lines::{MemorySink, RowSink};
+use fisca_writer::{MemorySink, RowSink};
 
 #[test]
 fn a_sink_in_memory_takes_whole_pieces(rt: HostRuntime) {

@@ -2,9 +2,9 @@
 
 ghost use Rattle.std.specs.Prelude.{◌≡◌, ⊤, ℕ, ◌+◌, ◌*◌, ◌-◌, ◌<◌, ◌≤◌, ◌^◌, ◌==◌, nat_lt, cond, List, [], ◌∷◌, ◌++◌, Some};
 ghost use Rattle.std.specs.Fmt.{decimal};
-ghost use Rattle.fisca_lines.specs.Row.{Nothing, Line, Fault};
+ghost use Rattle.fisca_writer.specs.Row.{Nothing, Line, Fault};
 
-use fisca_lines::{
+use fisca_writer::{
     Groups, MemorySink, Odometer, RowFault, RowSink, Rows, RunEnd, RunFault, Selection, SinkFault,
     StreamSink, write_lines,
 };

@@ -1,6 +1,6 @@
 //! The sink before a writer.
 
-use fisca_lines::{RowSink, SinkFault, StreamSink, hand_over};
+use fisca_writer::{RowSink, SinkFault, StreamSink, hand_over};
 use std::alloc::Global;
 use std::io;
 use std::io::{ErrorKind, Write};

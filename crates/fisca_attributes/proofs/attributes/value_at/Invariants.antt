@@ -1,5 +1,5 @@
 use Rattle.std.proofs.Common.{◌≡◌, map, drop}
-use Rattle.fisca_syntax.specs.Views.{item}
+use Rattle.fisca_ast.specs.ModuleViews.{item}
 use Rattle.fisca_attributes.specs.AttributeForms.{value_at}
 use Rattle.fisca_attributes.proofs.attributes.value_at.Given as goal
 

@@ -1,5 +1,5 @@
 use Rattle.std.proofs.Common.{◌≡◌, map, drop}
-use Rattle.fisca_expressions.specs.Views.{argument_view}
+use Rattle.fisca_ast.specs.Views.{argument_view}
 use Rattle.fisca_attributes.specs.Values.{each, each_behind, whole_value}
 use Rattle.fisca_attributes.proofs.dates.each_whole.Given as goal
 

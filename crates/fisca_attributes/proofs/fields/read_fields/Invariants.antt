@@ -1,5 +1,5 @@
 use Rattle.std.proofs.Common.{◌≡◌, [], map, drop}
-use Rattle.fisca_expressions.specs.Views.{argument_view}
+use Rattle.fisca_ast.specs.Views.{argument_view}
 use Rattle.fisca_attributes.specs.Fields.{labels, field_view}
 use Rattle.fisca_attributes.specs.Values.{fields_from}
 use Rattle.fisca_attributes.proofs.fields.read_fields.Given as goal

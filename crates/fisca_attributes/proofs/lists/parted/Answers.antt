@@ -1,5 +1,5 @@
 use Rattle.std.proofs.Common.{map, sym}
-use Rattle.fisca_expressions.specs.Views.{argument_view}
+use Rattle.fisca_ast.specs.Views.{argument_view}
 use Rattle.fisca_attributes.proofs.Inside.{items_of_series}
 use Rattle.fisca_attributes.proofs.lists.parted.Goals as goal
 

@@ -1,6 +1,6 @@
 use Rattle.std.proofs.Common.{subst, sym}
-use Rattle.fisca_eval.specs.Simulations.{Simulation}
-use Rattle.fisca_eval.specs.Sound.{InputsFit}
+use Rattle.fisca_simulation.specs.Simulations.{Simulation}
+use Rattle.fisca_simulation.specs.Sound.{InputsFit}
 use Rattle.fisca_bench.proofs.evaluation.forgotten.Goals as goal
 
 pub worked_out-requires-clause-fit : goal.worked_out-requires-clause-fit

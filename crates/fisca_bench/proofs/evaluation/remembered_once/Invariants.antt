@@ -1,5 +1,5 @@
 use Rattle.std.proofs.Common.{◌≡◌}
-use Rattle.fisca_memo.specs.Evaluators.{IsMemoryOf, marks_in, simulation_of}
+use Rattle.fisca_evaluator.specs.Evaluators.{IsMemoryOf, marks_in, simulation_of}
 use Rattle.fisca_bench.proofs.evaluation.remembered_once.Given as goal
 
 abbrev pub invariant-loop-key : goal.invariant-loop-key

@@ -1,5 +1,5 @@
 use Rattle.std.proofs.Common.{◌≡◌}
-use Rattle.fisca_eval.specs.Evaluators.{simulation_of}
+use Rattle.fisca_simulation.specs.Evaluators.{simulation_of}
 use Rattle.fisca_bench.proofs.evaluation.worked_out.Given as goal
 
 abbrev pub invariant-loop-round : goal.invariant-loop-round

@@ -1,6 +1,6 @@
 use Rattle.std.proofs.Common.{subst, sym}
-use Rattle.fisca_calc.specs.Views.{calc}
-use Rattle.fisca_eval.specs.Told.{IsReady}
+use Rattle.fisca_columns.specs.Views.{calc}
+use Rattle.fisca_simulation.specs.Told.{IsReady}
 use Rattle.fisca_yaml.specs.Views.{node}
 use Rattle.fisca_cases.proofs.columns.plain_values.Goals as goal
 

@@ -1,4 +1,4 @@
-use Rattle.fisca_calc.specs.Views.{calc}
+use Rattle.fisca_columns.specs.Views.{calc}
 use Rattle.fisca_yaml.specs.Views.{node}
 use Rattle.fisca_cases.proofs.columns.remembered_values.Goals as goal
 

@@ -1,5 +1,5 @@
 use Rattle.std.proofs.Common.{ap, ◌∙◌}
-use Rattle.fisca_memo.specs.Evaluators.{marks_in, simulation_of}
+use Rattle.fisca_evaluator.specs.Evaluators.{marks_in, simulation_of}
 use Rattle.fisca_rules.specs.Views.{rule_set}
 use Rattle.fisca_commands.proofs.Begun.{kept_begun}
 use Rattle.fisca_run_file.specs.Views.{run_file}

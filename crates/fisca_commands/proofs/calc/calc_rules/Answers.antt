@@ -1,8 +1,8 @@
 use Rattle.std.proofs.Common.{◌≡◌, ◌∙◌, false, cond, inl, inr, Err, ap, sym, rules}
 use Rattle.std.proofs.lemmas.Result.{err_from_is_err_and}
 use Rattle.std.specs.Io.KnownBytes.{Keeps}
-use Rattle.fisca_calc.specs.Views.{calc}
-use Rattle.fisca_lines.specs.Sink.{one_more}
+use Rattle.fisca_columns.specs.Views.{calc}
+use Rattle.fisca_writer.specs.Sink.{one_more}
 use Rattle.fisca_commands.specs.Calc.{Calculation}
 use Rattle.fisca_rule_files.specs.Refusal.{is_write}
 use Rattle.fisca_commands.proofs.Calculated.{ready}

@@ -1,5 +1,5 @@
 use Rattle.std.proofs.Common.{◌≢◌, inr, refl, rules, arith}
-use Rattle.fisca_yaml.specs.declared.fault.Kind.TheVariants as yaml
+use Rattle.fisca_yaml.specs.declared.fault.YamlKind.TheVariants as yaml
 use Rattle.fisca_commands.specs.Yaml.{IsYamlFault}
 use Rattle.fisca_commands.proofs.calc.read_tree.Goals as goal
 

@@ -1,8 +1,8 @@
 use Rattle.std.proofs.Common.{◌∙◌, inl, inr, Err, refl, ap, subst}
-use Rattle.fisca_calc.specs.Views.{calc}
-use Rattle.fisca_memo.specs.Evaluators.{simulation_of}
+use Rattle.fisca_columns.specs.Views.{calc}
+use Rattle.fisca_evaluator.specs.Evaluators.{simulation_of}
 use Rattle.fisca_situations.specs.Situations.{Situation}
-use Rattle.fisca_eval.specs.Simulations.{Simulation}
+use Rattle.fisca_simulation.specs.Simulations.{Simulation}
 use Rattle.fisca_commands.specs.Calc.{Calculation, IsColumnsRun, IsKeyTold}
 use Rattle.fisca_commands.proofs.Calculated.{columns_run, ended, out_of_memory, without_value}
 use Rattle.fisca_commands.proofs.calc.write_values.Goals as goal

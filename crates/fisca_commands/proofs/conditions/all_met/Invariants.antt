@@ -1,5 +1,5 @@
 use Rattle.std.proofs.Common.{◌≡◌, drop}
-use Rattle.fisca_calc.proofs.Asking.{AreLeft}
+use Rattle.fisca_situations.proofs.Asking.{AreLeft}
 use Rattle.fisca_commands.specs.Asked.{keys_met}
 use Rattle.fisca_commands.specs.Conditions.{all_met}
 use Rattle.fisca_commands.proofs.conditions.all_met.Given as goal

@@ -1,5 +1,5 @@
 use Rattle.std.proofs.Common.{ap, sym, subst, ◌∙◌}
-use Rattle.fisca_memo.specs.Recalled.{marks_of}
+use Rattle.fisca_evaluator.specs.Recalled.{marks_of}
 use Rattle.fisca_commands.proofs.Came.{ended_well}
 use Rattle.fisca_commands.proofs.Counting.{run_counted}
 use Rattle.fisca_commands.specs.Ends.{stop_of}

@@ -1,5 +1,5 @@
 use Rattle.std.proofs.Common.{None, subst}
-use Rattle.fisca_memo.specs.Evaluators.{marks_in, simulation_of}
+use Rattle.fisca_evaluator.specs.Evaluators.{marks_in, simulation_of}
 use Rattle.fisca_commands.proofs.Came.{came_same, kept_anywhere}
 use Rattle.fisca_commands.specs.Kept.{IsKept}
 use Rattle.fisca_run_file.specs.Views.{run_file}

@@ -1,10 +1,10 @@
 use Rattle.std.proofs.Common.{Bool, Err, Ok, ap, sym, subst, ◌∙◌}
 use Rattle.std.proofs.lemmas.Result.{err_from_is_err_and}
-use Rattle.fisca_calc.proofs.Asking.{some_all, some_first}
-use Rattle.fisca_calc.specs.Asked.{HaveAsked}
-use Rattle.fisca_eval.specs.Told.{IsReady, told_in}
-use Rattle.fisca_memo.specs.Asked.{HasRefused, HasWorked}
-use Rattle.fisca_memo.specs.Evaluators.{simulation_of}
+use Rattle.fisca_situations.proofs.Asking.{some_all, some_first}
+use Rattle.fisca_situations.specs.Asked.{HaveAsked}
+use Rattle.fisca_simulation.specs.Told.{IsReady, told_in}
+use Rattle.fisca_evaluator.specs.Asked.{HasRefused, HasWorked}
+use Rattle.fisca_evaluator.specs.Evaluators.{simulation_of}
 use Rattle.fisca_commands.proofs.Asking.{handed_on, row_fault, row_written}
 use Rattle.fisca_commands.proofs.Fitting.{ready_at}
 use Rattle.fisca_commands.specs.Asked.{keys_if_met, keys_met, keys_written}

@@ -1,8 +1,8 @@
 use Rattle.std.proofs.Common.{ℕ, ◌++◌, List, codes, decimal, rules}
 use Rattle.std.specs.Io.KnownBytes.{Appends}
-use Rattle.fisca_lines.specs.Run.{IsProperPrefix}
+use Rattle.fisca_writer.specs.Run.{IsProperPrefix}
 use Rattle.fisca_commands.specs.LastLine.{last_line}
-use Rattle.fisca_lines.proofs.Grown.{trans}
+use Rattle.fisca_writer.proofs.Grown.{trans}
 use Rattle.fisca_commands.proofs.Parts.{of_first, of_second, on_err}
 use Rattle.fisca_commands.proofs.last_line.write_end.Goals as goal
 

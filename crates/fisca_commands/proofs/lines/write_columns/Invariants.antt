@@ -1,6 +1,6 @@
 use Rattle.std.proofs.Common.{◌≡◌, drop, string_bytes}
-use Rattle.fisca_calc.proofs.Asking.{AreLeft}
-use Rattle.fisca_tables.specs.Known.{tables as known}
+use Rattle.fisca_situations.proofs.Asking.{AreLeft}
+use Rattle.fisca_symbols.specs.Known.{tables as known}
 use Rattle.fisca_commands.specs.Asked.{keys_written}
 use Rattle.fisca_commands.specs.Lines.{with_columns}
 use Rattle.fisca_commands.proofs.lines.write_columns.Given as goal

@@ -1,5 +1,5 @@
 use Rattle.std.proofs.Common.{◌≡◌, drop, string_bytes}
-use Rattle.fisca_tables.specs.Known.{tables as known}
+use Rattle.fisca_symbols.specs.Known.{tables as known}
 use Rattle.fisca_commands.specs.Lines.{with_moved}
 use Rattle.fisca_commands.proofs.lines.write_moved.Given as goal
 

@@ -1,4 +1,4 @@
-use Rattle.fisca_calc.proofs.Asking.{some_all, some_none}
+use Rattle.fisca_situations.proofs.Asking.{some_all, some_none}
 use Rattle.fisca_commands.specs.Asked.{keys_written}
 use Rattle.fisca_commands.proofs.row.write_line.Goals as goal
 

@@ -1,5 +1,5 @@
 use Rattle.std.proofs.Common.{ap, Ok}
-use Rattle.fisca_memo.proofs.Files.{members_again, never_refused}
+use Rattle.fisca_run.proofs.Files.{members_again, never_refused}
 use Rattle.fisca_run_file.specs.Views.{run_file}
 use Rattle.fisca_yaml.specs.Views.{node}
 use Rattle.fisca_commands.proofs.rows.members_again.Goals as goal

@@ -1,10 +1,10 @@
 use Rattle.std.proofs.Common.{◌≡◌, ◌∙◌, false, cond, inl, inr, ℕ, List, Option, Result, Ok, Err, IfOk, ap, sym, rules}
 use Rattle.std.proofs.lemmas.Result.{err_from_is_err_and}
 use Rattle.std.specs.Io.KnownBytes.{Keeps}
-use Rattle.fisca_lines.specs.Sink.{one_more}
-use Rattle.fisca_lines.specs.declared.fault.RunEnd.{RunEnd}
+use Rattle.fisca_writer.specs.Sink.{one_more}
+use Rattle.fisca_writer.specs.declared.fault.RunEnd.{RunEnd}
 use Rattle.fisca_params.specs.Source.{Source}
-use Rattle.fisca_memo.specs.declared.counts.Counts.{Counts}
+use Rattle.fisca_evaluator.specs.declared.counts.Counts.{Counts}
 use Rattle.fisca_rule_files.specs.Refusal.{is_write}
 use Rattle.fisca_rule_files.specs.declared.refusal.Refusal.{Refusal}
 use Rattle.fisca_rules.specs.Views.{rule_set}

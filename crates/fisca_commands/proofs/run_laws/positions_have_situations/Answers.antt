@@ -1,4 +1,4 @@
-use Rattle.fisca_memo.proofs.Positions.{each_situated}
+use Rattle.fisca_run.proofs.Positions.{each_situated}
 use Rattle.fisca_commands.proofs.run_laws.positions_have_situations.Goals as goal
 
 pub returns : goal.returns

@@ -1,7 +1,7 @@
 use Rattle.std.proofs.Common.{◌≡◌, ◌∙◌, Result, Ok, Err, refl, sym, ap, cond}
-use Rattle.fisca_lines.specs.Sink.{one_more}
-use Rattle.fisca_lines.specs.declared.fault.RunEnd.{RunEnd}
-use Rattle.fisca_memo.specs.declared.counts.Counts.{Counts}
+use Rattle.fisca_writer.specs.Sink.{one_more}
+use Rattle.fisca_writer.specs.declared.fault.RunEnd.{RunEnd}
+use Rattle.fisca_evaluator.specs.declared.counts.Counts.{Counts}
 use Rattle.fisca_rule_files.specs.Refusal.{is_write}
 use Rattle.fisca_rule_files.specs.declared.refusal.Refusal.{Refusal}
 use Rattle.fisca_commands.specs.Ends.{end_of}

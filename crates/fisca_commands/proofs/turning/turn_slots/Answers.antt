@@ -1,7 +1,7 @@
 use Rattle.std.proofs.Common.{◌≡◌, ◌<◌, ◌+◌, suc, length, sym, subst, arith}
 use Rattle.fisca_grid.proofs.Groups.{length-axes_at}
 use Rattle.fisca_grid.specs.Grid.{axes_at}
-use Rattle.fisca_memo.specs.Evaluators.{AreMarked}
+use Rattle.fisca_evaluator.specs.Evaluators.{AreMarked}
 use Rattle.fisca_commands.proofs.AxisValues.{get_there}
 use Rattle.fisca_commands.proofs.OnTheWay.{IsOnTheWay, on_end, on_passed, on_start, on_turned}
 use Rattle.fisca_situations.specs.Views.{slot as slot_view}

@@ -1,4 +1,4 @@
-use Rattle.std.proofs.Common.{◌≡◌, ◌∙◌, ap, sym, arith}
+use Rattle.std.proofs.Common.{◌≡◌, ◌≤◌, ◌∙◌, ap, sym, arith, length}
 use Rattle.std.proofs.lemmas.Result.{err_from_is_err_and}
 use Rattle.fisca_folder.specs.Folder.{Found, found_in}
 use Rattle.fisca_folder.proofs.Looks.{fault_below, fault_on_top, on_top, one_deeper, rule_paths}
@@ -24,5 +24,6 @@ pub returns-clause-paths : goal.returns-clause-paths
 returns-clause-paths g c = λ known says.
     let ended : c.levels.level ≡ 8 = omega (arith, c.levels.auto.level-end) in
     let found = c.found.view_is in
-    rule_paths known c.levels.found c.found.inside.files.items c.sort.new.self.items (c.levels.invariant.1 known says ∙ ap (found_in known) ended) (ap (λ (f : Found). f.is_short) (sym found)) c.levels.invariant.0
+    let few : length c.found.inside.files.items ≤ 1000 = grind arith in
+    rule_paths known c.levels.found c.found.inside.files.items c.sort.new.self.items (c.levels.invariant.1 known says ∙ ap (found_in known) ended) (ap (λ (f : Found). f.is_short) (sym found)) c.levels.invariant.0 few
     (ap (λ (f : Found). f.files) found) c.sort.ensures.permutation c.in_ok-sort.ensures.sorted

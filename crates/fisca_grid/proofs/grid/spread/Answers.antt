@@ -1,6 +1,6 @@
 use Rattle.std.proofs.Common.{◌≡◌, ◌∷◌, ◌∙◌, ◌+◌, ◌*◌, ◌++◌, [], take, drop, drop-cons, add-one, get_or, map, length-append, arith, ap, refl}
-use Rattle.fisca_lines.specs.Odometer.{product_of}
-use Rattle.fisca_lines.proofs.Places.{product_more}
+use Rattle.fisca_writer.specs.Odometer.{product_of}
+use Rattle.fisca_writer.proofs.Places.{product_more}
 use Rattle.fisca_grid.specs.Grid.{count_of}
 use Rattle.fisca_grid.specs.Turning.{specs_of, placed}
 use Rattle.fisca_grid.proofs.Groups.{left_grouped, group_alike, group_counts, group_pace, group_axes, pace_within, turn_group}

@@ -1,6 +1,6 @@
 use Rattle.std.proofs.Common.{◌≡◌, ◌*◌, ◌/◌, ◌++◌, ℕ, false, drop, sum, map, length}
 use Rattle.std.specs.List.{list_any}
-use Rattle.fisca_lines.specs.Odometer.{product_of}
+use Rattle.fisca_writer.specs.Odometer.{product_of}
 use Rattle.fisca_grid.specs.Grid.{groups_of, counts_of, has_two_counts, size_of, axes_at}
 use Rattle.fisca_grid.specs.Turning.{specs_of, axes_of, placed}
 use Rattle.fisca_grid.proofs.grid.spread.Given as goal

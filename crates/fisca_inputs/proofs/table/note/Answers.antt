@@ -5,7 +5,7 @@ use Rattle.std.proofs.lemmas.Result.{on_err_weaker, on_ok_weaker}
 use Rattle.indexmap.specs.Entry.{entry_value, map_with_value}
 use Rattle.fisca_inputs.specs.Entries.{same_key}
 use Rattle.fisca_inputs.specs.Places.{number_at, number_in, page_key}
-use Rattle.fisca_inputs.specs.declared.key.Key.{Key}
+use Rattle.fisca_model.specs.declared.key.Key.{Key}
 use Rattle.fisca_inputs.proofs.Noted.{put_seen}
 use Rattle.fisca_inputs.proofs.Numbered.{page_like, page_or, page_put}
 use Rattle.fisca_inputs.proofs.table.note.Goals as goal

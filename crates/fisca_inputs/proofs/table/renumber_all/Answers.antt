@@ -1,7 +1,7 @@
 use Rattle.std.proofs.Common.{arith}
 use Rattle.std.specs.Map.{keys_of}
 use Rattle.std.proofs.lemmas.Map.Entries.{length-keys_of}
-use Rattle.fisca_inputs.specs.contracts.key.KeyEq.TheImpl.Laws.{laws-law}
+use Rattle.fisca_model.specs.contracts.key.KeyEq.TheImpl.Laws.{laws-law}
 use Rattle.fisca_inputs.proofs.Numbered.{number_within, numbers_begin, numbers_go_on, numbers_next, numbers_some, own_number}
 use Rattle.fisca_inputs.proofs.table.renumber_all.Goals as goal
 

@@ -1,7 +1,7 @@
 use Rattle.std.proofs.Common.{◌≡◌, ◌≤◌, ◌<◌}
 use Rattle.std.specs.Map.{keys_of}
 use Rattle.fisca_inputs.specs.Places.{number_of, numbered_from}
-use Rattle.fisca_inputs.specs.declared.key.Key.{Key}
+use Rattle.fisca_model.specs.declared.key.Key.{Key}
 use Rattle.fisca_inputs.proofs.table.renumber_all.Given as goal
 
 -- keys of the entries before this one have their numbers, and those behind have some

@@ -1,6 +1,6 @@
 use Rattle.std.proofs.Common.{Some, None, refl}
-use Rattle.fisca_nodes.specs.Views.{node}
-use Rattle.fisca_tables.specs.Known.{tables as known}
+use Rattle.fisca_ir.specs.Views.{node}
+use Rattle.fisca_symbols.specs.Known.{tables as known}
 use Rattle.fisca_machine.proofs.Boxed.{arithmetic_seen}
 use Rattle.fisca_machine.proofs.Planned.{operand_has_plan, step_more}
 use Rattle.fisca_machine.specs.Running.{point}

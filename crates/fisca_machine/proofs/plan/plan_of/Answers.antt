@@ -1,6 +1,6 @@
 use Rattle.std.proofs.Common.{None, length, sym, ◌∙◌}
-use Rattle.fisca_tables.specs.Known.{tables as known}
-use Rattle.fisca_values.specs.Casts.{cast}
+use Rattle.fisca_symbols.specs.Known.{tables as known}
+use Rattle.fisca_ops.specs.Casts.{cast}
 use Rattle.fisca_machine.proofs.Formulas.{formula_on}
 use Rattle.fisca_machine.specs.Running.{point, says_below}
 use Rattle.fisca_machine.proofs.plan.plan_of.Goals as goal

@@ -1,5 +1,5 @@
 use Rattle.std.proofs.Common.{◌≡◌, ◌++◌, drop, map}
-use Rattle.fisca_tables.specs.KnownEntities.{entities}
+use Rattle.fisca_symbols.specs.KnownEntities.{entities}
 use Rattle.fisca_members.specs.Members.{none_yet}
 use Rattle.fisca_members.proofs.members.all_none_yet.Given as goal
 

@@ -1,5 +1,5 @@
 use Rattle.std.proofs.Common.{◌≡◌, drop}
-use Rattle.fisca_tables.specs.KnownEntities.{entities}
+use Rattle.fisca_symbols.specs.KnownEntities.{entities}
 use Rattle.fisca_members.specs.Members.{owns_from}
 use Rattle.fisca_members.proofs.members.all_own.Given as goal
 

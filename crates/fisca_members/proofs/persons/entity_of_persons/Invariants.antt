@@ -1,7 +1,7 @@
 use Rattle.std.proofs.Common.{◌≡◌, drop}
 use Rattle.std.specs.List.{find}
-use Rattle.fisca_tables.specs.KnownEntities.{entities}
-use Rattle.fisca_typing.specs.Tables.{is_person}
+use Rattle.fisca_symbols.specs.KnownEntities.{entities}
+use Rattle.fisca_model.specs.Tables.{is_person}
 use Rattle.fisca_members.proofs.persons.entity_of_persons.Given as goal
 
 abbrev pub invariant-loop-entity : goal.invariant-loop-entity

@@ -1,6 +1,6 @@
 use Rattle.std.proofs.Common.{◌≡◌, drop, map}
 use Rattle.std.specs.List.{find}
-use Rattle.fisca_tables.specs.KnownEntities.{entities}
+use Rattle.fisca_symbols.specs.KnownEntities.{entities}
 use Rattle.fisca_members.specs.Persons.{is_person_at}
 use Rattle.fisca_members.specs.Views.{section}
 use Rattle.fisca_members.proofs.persons.section_of_persons.Given as goal

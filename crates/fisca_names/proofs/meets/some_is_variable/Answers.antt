@@ -4,7 +4,7 @@ use Rattle.indexmap.specs.IndexSet.{contains}
 use Rattle.fisca_names.proofs.Meet.{met_none, met_stop, met_then}
 use Rattle.fisca_names.proofs.Some.{left}
 use Rattle.fisca_names.specs.Seen.{NotesTitles, all_titles_within, same_within, titles_within}
-use Rattle.fisca_tables.specs.declared.role.Role.{Role}
+use Rattle.fisca_symbols.specs.declared.role.Role.{Role}
 use Rattle.fisca_names.proofs.meets.some_is_variable.Goals as goal
 
 pub returns-then-branch : goal.returns-then-branch

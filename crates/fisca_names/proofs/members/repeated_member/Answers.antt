@@ -5,7 +5,7 @@ use Rattle.fisca_names.proofs.Repeated.{Reached, member_new}
 use Rattle.fisca_names.proofs.Some.{left}
 use Rattle.fisca_names.specs.Clashes.{repeated_member}
 use Rattle.fisca_names.specs.Titles.{Adds}
-use Rattle.fisca_syntax.specs.declared.module.Member.{Member}
+use Rattle.fisca_ast.specs.declared.module.Member.{Member}
 use Rattle.fisca_names.proofs.members.repeated_member.Goals as goal
 
 pub loop-member-preserved : goal.loop-member-preserved

@@ -1,6 +1,6 @@
 use Rattle.std.proofs.Common.{◌≢◌, map, rules, subst}
-use Rattle.fisca_syntax.specs.Views.{statements}
-use Rattle.fisca_tokens.specs.declared.fault.Kind.TheVariants.{Memory}
+use Rattle.fisca_ast.specs.ModuleViews.{statements}
+use Rattle.fisca_ast.specs.declared.fault.FormulaKind.TheVariants.{Memory}
 use Rattle.fisca_rule_files.specs.Modules.{IsFaultOf}
 use Rattle.fisca_rule_files.proofs.Telling.{built_told}
 use Rattle.fisca_rule_files.proofs.modules.build.Goals as goal

@@ -1,6 +1,6 @@
 use Rattle.std.proofs.Common.{◌≡◌, ◌≢◌, Err, rules, subst}
-use Rattle.fisca_syntax.specs.Reading.{module_of}
-use Rattle.fisca_tokens.specs.declared.fault.Kind.TheVariants.{Memory}
+use Rattle.fisca_parser.specs.Reading.{module_of}
+use Rattle.fisca_ast.specs.declared.fault.FormulaKind.TheVariants.{Memory}
 use Rattle.fisca_rule_files.specs.Modules.{IsFaultOf}
 use Rattle.fisca_rule_files.proofs.Telling.{file_told}
 use Rattle.fisca_rule_files.proofs.modules.read_file.Goals as goal

@@ -1,6 +1,6 @@
 use Rattle.std.proofs.Common.{◌≡◌, [], map, drop}
 use Rattle.fisca_rules.proofs.Each.{all_behind}
-use Rattle.fisca_syntax.specs.Views.{statements}
+use Rattle.fisca_ast.specs.ModuleViews.{statements}
 use Rattle.fisca_rule_files.specs.Modules.{declared_in}
 use Rattle.fisca_rule_files.proofs.modules.read_modules.Given as goal
 

@@ -1,5 +1,5 @@
 use Rattle.std.proofs.Common.{◌≡◌, ◌++◌, drop, map}
-use Rattle.fisca_syntax.specs.Views.{statements}
+use Rattle.fisca_ast.specs.ModuleViews.{statements}
 use Rattle.fisca_rules.specs.Scans.{all_constants}
 use Rattle.fisca_rules.proofs.constants.constants_in.Given as goal
 

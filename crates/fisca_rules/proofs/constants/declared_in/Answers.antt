@@ -1,5 +1,5 @@
 use Rattle.std.proofs.Common.{◌∙◌, map}
-use Rattle.fisca_syntax.specs.Views.{statements}
+use Rattle.fisca_ast.specs.ModuleViews.{statements}
 use Rattle.fisca_rules.proofs.Scans.{constants_placed, enums_placed}
 use Rattle.fisca_rules.proofs.constants.declared_in.Goals as goal
 

@@ -1,5 +1,5 @@
 use Rattle.std.proofs.Common.{◌≡◌, ◌++◌, drop, map}
-use Rattle.fisca_syntax.specs.Views.{statement}
+use Rattle.fisca_ast.specs.ModuleViews.{statement}
 use Rattle.fisca_rules.specs.Scans.{constants_of}
 use Rattle.fisca_rules.proofs.constants.with_constants.Given as goal
 

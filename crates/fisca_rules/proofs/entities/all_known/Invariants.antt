@@ -1,5 +1,5 @@
 use Rattle.std.proofs.Common.{◌≡◌, map, drop}
-use Rattle.fisca_expressions.specs.Views.{argument_view}
+use Rattle.fisca_ast.specs.Views.{argument_view}
 use Rattle.fisca_rules.specs.Build.{all_known}
 use Rattle.fisca_rules.proofs.entities.all_known.Given as goal
 

@@ -1,5 +1,5 @@
 use Rattle.std.proofs.Common.{◌≡◌, ◌++◌, drop, map}
-use Rattle.fisca_syntax.specs.Views.{statements}
+use Rattle.fisca_ast.specs.ModuleViews.{statements}
 use Rattle.fisca_rules.specs.Scans.{all_enums}
 use Rattle.fisca_rules.proofs.enums.enums_in.Given as goal
 

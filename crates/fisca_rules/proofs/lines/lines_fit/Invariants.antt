@@ -1,7 +1,7 @@
 use Rattle.std.proofs.Common.{◌≡◌, drop, map}
-use Rattle.fisca_syntax.specs.Views.{item}
-use Rattle.fisca_variables.specs.Lines.{before, nothing_before}
-use Rattle.fisca_variables.specs.VariableForms.{may_have_formulas}
+use Rattle.fisca_ast.specs.ModuleViews.{item}
+use Rattle.fisca_declarations.specs.Lines.{before, nothing_before}
+use Rattle.fisca_declarations.specs.VariableForms.{may_have_formulas}
 use Rattle.fisca_rules.specs.Passes.{lines_fit}
 use Rattle.fisca_rules.proofs.lines.lines_fit.Given as goal
 

@@ -3,8 +3,8 @@ use Rattle.std.proofs.lemmas.Result.{err_from_is_err_and}
 use Rattle.std.specs.Prelude.{map}
 use Rattle.std.specs.Vec.Iter.{into_iter_items}
 use Rattle.fisca_names.specs.Names.{placed_in}
-use Rattle.fisca_syntax.specs.Views.{statement}
-use Rattle.fisca_syntax.specs.declared.module.Statement.{Statement}
+use Rattle.fisca_ast.specs.ModuleViews.{statement}
+use Rattle.fisca_ast.specs.declared.module.Statement.{Statement}
 use Rattle.fisca_rules.specs.Walk.{Reached}
 use Rattle.fisca_rules.proofs.Walk.{none_left}
 use Rattle.fisca_rules.proofs.statements.walk_module.Goals as goal

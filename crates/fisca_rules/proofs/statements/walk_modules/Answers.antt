@@ -3,8 +3,8 @@ use Rattle.std.proofs.lemmas.Result.{err_from_is_err_and}
 use Rattle.std.specs.Prelude.{map}
 use Rattle.std.specs.Vec.Iter.{into_iter_items}
 use Rattle.fisca_names.specs.Names.{names_from, placed_from}
-use Rattle.fisca_syntax.specs.Views.{statements}
-use Rattle.fisca_syntax.specs.declared.module.Module.{Module}
+use Rattle.fisca_ast.specs.ModuleViews.{statements}
+use Rattle.fisca_ast.specs.declared.module.Module.{Module}
 use Rattle.fisca_rules.specs.Build.{found_from, none_yet}
 use Rattle.fisca_rules.specs.Walk.{Reached}
 use Rattle.fisca_rules.proofs.statements.walk_modules.Goals as goal

@@ -2,14 +2,14 @@ use Rattle.std.proofs.Common.{ap}
 use Rattle.std.specs.Prelude.{Ok}
 use Rattle.fisca_params.specs.Results.{and_then}
 use Rattle.fisca_rules.specs.Rules.{dated_of, told_in}
-use Rattle.fisca_syntax.specs.Views.{formula_view}
+use Rattle.fisca_ast.specs.ModuleViews.{formula_view}
 use Rattle.fisca_rules.proofs.typed.dated_of.Goals as goal
 
 pub returns-in-Ok : goal.returns-in-Ok
 unfolding dated_of
-returns-in-Ok c = ap (λ o. and_then (told_in c.args.variable.now.module (formula_view c.args.formula.now) o) (λ g. Ok (record { start = c.args.formula.now.start; formula = g }))) c.in-Ok.ensures
+returns-in-Ok c = ap (λ o. and_then (told_in c.args.place (formula_view c.args.formula.now) o) (λ g. Ok (record { start = c.args.formula.now.start; formula = g }))) c.in-Ok.ensures
 
 pub returns-in-Err : goal.returns-in-Err
 unfolding dated_of
 returns-in-Err c = λ h. rw c.told.ensures
-    (ap (λ o. and_then (told_in c.args.variable.now.module (formula_view c.args.formula.now) o) (λ g. Ok (record { start = c.args.formula.now.start; formula = g }))) (c.in-Err.ensures (rw (← ap (λ f. f.kind) c.told.ensures) h)))
+    (ap (λ o. and_then (told_in c.args.place (formula_view c.args.formula.now) o) (λ g. Ok (record { start = c.args.formula.now.start; formula = g }))) (c.in-Err.ensures (rw (← ap (λ f. f.kind) c.told.ensures) h)))

@@ -5,16 +5,16 @@ use Rattle.fisca_rules.specs.Rules.{dated_of}
 use Rattle.fisca_rules.specs.Views.{dated}
 use Rattle.fisca_rules.proofs.Lined.{all_made, formulas, refused}
 use Rattle.fisca_rules.proofs.typed.formulas_by.Goals as goal
-use Rattle.fisca_syntax.specs.Views.{formula_view}
-use Rattle.fisca_tables.specs.Known.{tables as known}
+use Rattle.fisca_ast.specs.ModuleViews.{formula_view}
+use Rattle.fisca_symbols.specs.Known.{tables as known}
 
 pub returns : goal.returns
 returns c =
     let l = c.loop-line in
     let items = c.lines-line-items.result.now in
     let all : length items ≤ l.line-index = omega (arith, c.loop-line-test.false, l.auto.line-index-end) in
-    all_made (dated_of (known c.args.tables.now) c.args.variable.now.module c.args.variable.now.entity c.args.value_type)
-    (map dated l.made.items) (drop l.line-index items) (map formula_view c.args.variable.now.formulas) l.invariant (drop_of_length-le items all)
+    all_made (dated_of (known c.args.tables.now) c.args.declaration.now.module c.args.variable.now.entity c.args.value_type)
+    (map dated l.made.items) (drop l.line-index items) (map formula_view c.args.declaration.now.formulas) l.invariant (drop_of_length-le items all)
 
 pub returns-in_err-dated_of-in-Formula : goal.returns-in_err-dated_of-in-Formula
 returns-in_err-dated_of-in-Formula c =
@@ -23,6 +23,6 @@ returns-in_err-dated_of-in-Formula c =
     let told = err_from_is_err_and c.from_residual.result c.from_residual.ensures.1 in
     let inside : l.line-index < length items = omega (arith, c.loop-line-test.true, l.auto.line-index-end) in
     let cut = drop-cons items l.line-index c.line-item.result inside ∙ ap (λ a. a ∷ drop (suc l.line-index) items) (sym c.line-item.is ∙ c.in-Formula.is) in
-    rw (told.1, told.2) (λ h. refused (dated_of (known c.args.tables.now) c.args.variable.now.module c.args.variable.now.entity c.args.value_type) (map dated l.made.items) _
-    (formula_view c.deref.result.now) (drop l.line-index items) (drop (suc l.line-index) items) (map formula_view c.args.variable.now.formulas) l.invariant (ap formulas cut ∙ ap (λ g. formula_view g ∷ formulas (drop (suc l.line-index) items)) (sym c.deref.ensures))
+    rw (told.1, told.2) (λ h. refused (dated_of (known c.args.tables.now) c.args.declaration.now.module c.args.variable.now.entity c.args.value_type) (map dated l.made.items) _
+    (formula_view c.deref.result.now) (drop l.line-index items) (drop (suc l.line-index) items) (map formula_view c.args.declaration.now.formulas) l.invariant (ap formulas cut ∙ ap (λ g. formula_view g ∷ formulas (drop (suc l.line-index) items)) (sym c.deref.ensures))
     (c.in_err-dated_of-in-Formula.ensures h))

@@ -1,5 +1,5 @@
 use Rattle.std.proofs.Common.{◌≡◌, drop}
-use Rattle.fisca_run_file.specs.Moved.{put_all_in}
+use Rattle.fisca_situations.specs.AllAxes.{put_all_in}
 use Rattle.fisca_run_file.proofs.sharing.put_all_in.Given as goal
 
 abbrev pub invariant-loop-input : goal.invariant-loop-input

@@ -5,7 +5,7 @@ use Rattle.fisca_inputs.specs.Entries.{same_key}
 use Rattle.fisca_inputs.specs.Inputs.{key_given}
 use Rattle.fisca_situations.specs.GivenKeys.{is_key_of}
 use Rattle.fisca_inputs.specs.declared.given.Given.{Given}
-use Rattle.fisca_inputs.specs.declared.key.Key.{Key}
+use Rattle.fisca_model.specs.declared.key.Key.{Key}
 use Rattle.fisca_situations.proofs.GivenKeys.{noted_next}
 use Rattle.fisca_situations.proofs.given_inputs.note_all.Goals as goal
 

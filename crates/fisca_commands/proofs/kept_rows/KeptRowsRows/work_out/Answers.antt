@@ -1,6 +1,6 @@
 use Rattle.std.proofs.Common.{Some, refl, sym, subst, ◌∙◌}
-use Rattle.fisca_eval.specs.Told.{told_in}
-use Rattle.fisca_memo.specs.Evaluators.{marks_in, simulation_of}
+use Rattle.fisca_simulation.specs.Told.{told_in}
+use Rattle.fisca_evaluator.specs.Evaluators.{marks_in, simulation_of}
 use Rattle.fisca_commands.proofs.Going.{kept_there, many_slots, row_step, situated_there, stays, with_same}
 use Rattle.fisca_commands.specs.Asked.{keys_asked}
 use Rattle.fisca_commands.specs.Kept.{IsSituated}

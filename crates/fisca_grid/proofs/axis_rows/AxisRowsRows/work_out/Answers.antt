@@ -3,7 +3,7 @@ use Rattle.std.proofs.lemmas.Bool.Decides.{nat_tests}
 use Rattle.std.specs.Option.{ForSome}
 use Rattle.fisca_grid.specs.AxesRow.{line_of}
 use Rattle.fisca_grid.specs.Grid.{axes_at}
-use Rattle.fisca_lines.specs.Row.{Line}
+use Rattle.fisca_writer.specs.Row.{Line}
 use Rattle.fisca_grid.proofs.Groups.{length-axes_at}
 use Rattle.fisca_grid.proofs.Values.{kept_row, dropped_row}
 use Rattle.fisca_grid.proofs.Rest.{rest_stays}

@@ -1,6 +1,6 @@
 use Rattle.std.proofs.Common.{None}
 use Rattle.fisca_machine.specs.World.{tables, groups}
-use Rattle.fisca_values.specs.Casts.{cast}
+use Rattle.fisca_ops.specs.Casts.{cast}
 use Rattle.fisca_machine.proofs.Formulas.{formula_on}
 use Rattle.fisca_machine.proofs.machine.Machine.begin.Goals as goal
 

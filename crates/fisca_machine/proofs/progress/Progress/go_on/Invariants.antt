@@ -1,5 +1,5 @@
 use Rattle.std.proofs.Common.{◌≡◌, length}
-use Rattle.fisca_inputs.specs.Seen.{value_seen}
+use Rattle.fisca_model.specs.Seen.{value_seen}
 use Rattle.fisca_machine.specs.Plans.{behind_operand}
 use Rattle.fisca_machine.proofs.progress.Progress.go_on.Given as goal
 

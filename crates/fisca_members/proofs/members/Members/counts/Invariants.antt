@@ -1,5 +1,5 @@
 use Rattle.std.proofs.Common.{◌≡◌, ◌++◌, drop}
-use Rattle.fisca_rosters.specs.Lookup.{counts_of}
+use Rattle.fisca_groups.specs.Lookup.{counts_of}
 use Rattle.fisca_members.proofs.members.Members.counts.Given as goal
 
 abbrev pub invariant-loop-members : goal.invariant-loop-members

@@ -4,9 +4,9 @@ use Rattle.fisca_names.proofs.Clash.{clash_of_titles, entity_named_again, entity
 use Rattle.fisca_names.specs.Clashes.{names_of, titles, titles_clash}
 use Rattle.fisca_names.specs.Seen.{Notes, NotesNames, NotesTitles, all_titles_within, has_name, has_title, has_variable}
 use Rattle.fisca_names.specs.declared.seen.Seen.{Seen}
-use Rattle.fisca_syntax.specs.Modules.{Assigned, entity}
-use Rattle.fisca_syntax.specs.Views.{assigned}
-use Rattle.fisca_tables.specs.declared.role.Role.{Role}
+use Rattle.fisca_ast.specs.Modules.{Assigned, entity}
+use Rattle.fisca_ast.specs.ModuleViews.{assigned}
+use Rattle.fisca_symbols.specs.declared.role.Role.{Role}
 use Rattle.fisca_names.proofs.seen.Seen.entity_clashes.Goals as goal
 
 pub returns-then-branch : goal.returns-then-branch

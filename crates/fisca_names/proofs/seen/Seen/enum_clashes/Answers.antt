@@ -6,7 +6,7 @@ use Rattle.fisca_names.specs.Clashes.{repeated_member}
 use Rattle.fisca_names.specs.Seen.{TellsOne, has_name}
 use Rattle.fisca_names.specs.Titles.{Adds}
 use Rattle.fisca_names.specs.declared.seen.Seen.{Seen}
-use Rattle.fisca_syntax.specs.Modules.{choices}
+use Rattle.fisca_ast.specs.Modules.{choices}
 use Rattle.fisca_names.proofs.seen.Seen.enum_clashes.Goals as goal
 
 pub returns-then-branch : goal.returns-then-branch

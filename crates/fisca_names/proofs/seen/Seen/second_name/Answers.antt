@@ -1,8 +1,8 @@
 use Rattle.std.proofs.Common.{None, sym, ap, subst}
 use Rattle.fisca_names.proofs.Clash.{entities_tell}
 use Rattle.fisca_names.specs.Seen.{TellsOne}
-use Rattle.fisca_syntax.specs.Modules.{Statement}
-use Rattle.fisca_syntax.specs.Views.{assigned, statement}
+use Rattle.fisca_ast.specs.Modules.{Statement}
+use Rattle.fisca_ast.specs.ModuleViews.{assigned, statement}
 use Rattle.fisca_names.proofs.seen.Seen.second_name.Goals as goal
 
 pub returns-in-Entities : goal.returns-in-Entities

@@ -7,9 +7,9 @@ use Rattle.fisca_names.specs.Seen.{entity_named, has_name, has_title, has_variab
 use Rattle.fisca_names.specs.Titles.{Adds}
 use Rattle.fisca_names.specs.declared.seen.Seen.{Seen}
 use Rattle.fisca_names.specs.declared.within.Within.{Within}
-use Rattle.fisca_syntax.specs.Modules.{variable}
-use Rattle.fisca_syntax.specs.Views.{item}
-use Rattle.fisca_syntax.specs.declared.module.Item.{Item}
+use Rattle.fisca_ast.specs.Modules.{variable}
+use Rattle.fisca_ast.specs.ModuleViews.{item}
+use Rattle.fisca_ast.specs.declared.module.ClassLine.{ClassLine}
 use Rattle.fisca_names.proofs.seen.Seen.variable_clashes.Goals as goal
 
 pub returns-then-branch : goal.returns-then-branch
@@ -27,7 +27,7 @@ returns-in_default c =
     let new : Seen = record { names = c.comes_again.new.names; titles = old.titles; variables = old.variables } in
     let named = c.borrowed.ensures ∙ c.as_bytes-name.ensures in
     variable_notes old new class.line class.name (map item class.items.items) None false
-    (c.in_default.ensures ∙ ap (λ (xs : List Item). entity_named (map item xs)) c.as_slice.ensures.value)
+    (c.in_default.ensures ∙ ap (λ (xs : List ClassLine). entity_named (map item xs)) c.as_slice.ensures.value)
     (sym c.if-branch.false ∙ c.in_ok-comes_again.ensures.told ∙ ap (has_name old) named)
     (subst (λ (t : List ℕ). Adds bytes_eq (has_name old) (has_name new) (t ∷ [])) named c.in_ok-comes_again.ensures.noted)
     refl (λ e w. refl) (λ w. refl)
@@ -40,7 +40,7 @@ returns-then-contains c =
     let named = c.borrowed.ensures ∙ c.as_bytes-name.ensures in
     let named_2 = c.borrowed-2.ensures ∙ c.as_bytes-name.ensures in
     variable_met_here old mid _ class.line class.name c.in-Some.constant (map item class.items.items)
-    (c.in-Some.ensures ∙ ap (λ (xs : List Item). entity_named (map item xs)) c.as_slice.ensures.value)
+    (c.in-Some.ensures ∙ ap (λ (xs : List ClassLine). entity_named (map item xs)) c.as_slice.ensures.value)
     (sym c.if-branch.false ∙ c.in_ok-comes_again.ensures.told ∙ ap (has_name old) named)
     (subst (λ (t : List ℕ). Adds bytes_eq (has_name old) (has_name mid) (t ∷ [])) named c.in_ok-comes_again.ensures.noted)
     (sym c.if-contains.true ∙ c.contains.ensures ∙ ap (λ (t : List ℕ). has_title old (record { constant = c.in-Some.constant; name = t })) named_2)
@@ -54,7 +54,7 @@ returns c =
     let named_2 = c.borrowed-2.ensures ∙ c.as_bytes-name.ensures in
     let here : Within = record { constant = c.in-Some.constant; name = class.name } in
     variable_notes old new class.line class.name (map item class.items.items) (Some c.in-Some.constant) false
-    (c.in-Some.ensures ∙ ap (λ (xs : List Item). entity_named (map item xs)) c.as_slice.ensures.value)
+    (c.in-Some.ensures ∙ ap (λ (xs : List ClassLine). entity_named (map item xs)) c.as_slice.ensures.value)
     (sym c.if-branch.false ∙ c.in_ok-comes_again.ensures.told ∙ ap (has_name old) named)
     (subst (λ (t : List ℕ). Adds bytes_eq (has_name old) (has_name new) (t ∷ [])) named c.in_ok-comes_again.ensures.noted)
     (sym c.if-contains.false ∙ c.contains.ensures ∙ ap (λ (t : List ℕ). has_title old (record { constant = c.in-Some.constant; name = t })) named_2 ∙ sym (or_none (has_title old here)))

@@ -1,6 +1,6 @@
 use Rattle.std.proofs.Common.{◌≡◌, ◌∙◌, ap, map, option_map, rules}
 use Rattle.std.specs.Str.{bytes_eq}
-use Rattle.fisca_tables.specs.KnownVariables.{variable}
+use Rattle.fisca_symbols.specs.KnownVariables.{variable}
 use Rattle.fisca_rules.specs.Names.{variable_named}
 use Rattle.fisca_rules.specs.Views.{rule_set}
 use Rattle.fisca_rules.proofs.Named.{place_of_first, place_of_name}

@@ -1,5 +1,0 @@
-pub mod Answers
-pub mod Chains
-pub mod Inquiry
-pub mod Keys
-pub mod Stacks

@@ -1,0 +1,2 @@
+pub mod ContentPieces
+pub mod Inside

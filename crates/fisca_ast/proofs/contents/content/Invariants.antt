@@ -1,0 +1,6 @@
+use Rattle.std.proofs.Common.{◌≡◌, ◌-◌, ◌++◌, length}
+use Rattle.fisca_ast.specs.Contents.{said_within}
+use Rattle.fisca_ast.proofs.contents.content.Given as goal
+
+abbrev pub invariant-loop-turn : goal.invariant-loop-turn
+invariant-loop-turn l = said_within (length l.source) l.source ≡ l.said.items ++ said_within (l._turn-end - l._turn) l.rest

@@ -1,0 +1,11 @@
+pub mod ContentPieces
+pub mod Contents
+pub mod Faults
+pub mod Groups
+pub mod ModuleViews
+pub mod Modules
+pub mod Outcomes
+pub mod Strings
+pub mod Tree
+pub mod Views
+pub mod Words

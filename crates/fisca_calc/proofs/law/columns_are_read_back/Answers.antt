@@ -1,5 +1,0 @@
-use Rattle.fisca_calc.proofs.ReadBack.{read_back}
-use Rattle.fisca_calc.proofs.law.columns_are_read_back.Goals as goal
-
-pub returns : goal.returns
-returns c = read_back c.texts_read_as_their_periods.ensures

@@ -1,5 +1,0 @@
-use Rattle.fisca_calc.proofs.Readings.{written_once}
-use Rattle.fisca_calc.proofs.law.columns_are_written_in_one_way.Goals as goal
-
-pub returns : goal.returns
-returns c = written_once

@@ -1,7 +1,0 @@
--- How definitions see a file of `fisca calc`.
-use Rattle.fisca_calc.specs.Calc.{Calc}
-use Rattle.fisca_calc.specs.declared.calc_file.CalcFile.{CalcFile}
-use Rattle.fisca_situations.specs.Views.{situation}
-
-abbrev pub calc : CalcFile → Calc
-calc f = record { situation = situation f.situation; columns = f.columns }

@@ -1,0 +1,21 @@
+//! Typed formulas: what the expressions of a rule set's formulas stand for, or their first fault.
+#![tactic(auto)]
+
+mod asks;
+mod atoms;
+mod attributes;
+mod brackets;
+mod calls;
+mod formula;
+mod formulas;
+mod groups;
+mod methods;
+mod names;
+mod scope;
+mod subscripts;
+mod typing;
+
+pub use formula::{FormulaRefusal, TypedFormula};
+pub use formulas::formula_of;
+pub use scope::FormulaScope;
+pub use typing::thing_of;

@@ -1,0 +1,135 @@
+//! What the names in a formula stand for.
+ghost use Rattle.std.specs.Prelude.{◌≡◌, Option, option_map};
+ghost use Rattle.fisca_check.specs.Views.{names as names_of, other_name};
+ghost use Rattle.fisca_ast.specs.Outcomes.{Gives};
+ghost use Rattle.fisca_ir.specs.Views.{thing};
+ghost use Rattle.fisca_symbols.specs.Known.{tables as tables_of};
+ghost use Rattle.fisca_typing.specs.Names as spec;
+
+use crate::scope::FormulaScope;
+use fisca_ast::FormulaKind;
+use fisca_ir::{Node, Thing, Typed};
+use fisca_model::ValueType;
+use fisca_symbols::Tables;
+use fisca_typing::{Asking, Function, Level};
+use std::alloc::Global;
+
+/// What the name of an argument of the formula stands for.
+fn argument_named(alloc: Global, names: &FormulaScope, name: &[u8]) -> Option<Thing>
+    ensures { option_map thing result ≡ spec.argument_named (names_of names.now) name.now }
+{
+    if names.asker_name == name {
+        return Some(Thing::Asker);
+    }
+    if names.period_name == name {
+        return Some(Thing::Period(Vec::new(alloc)));
+    }
+    match names.reader_name {
+        Some(reader) if reader == name => Some(Thing::Reader),
+        _ => None,
+    }
+}
+
+/// `True` or `False`.
+fn constant_bool(truth: bool) -> Thing
+    ensures { thing result ≡ spec.constant_bool truth }
+{
+    Thing::Value(Typed {
+        value_type: ValueType::Bool,
+        level: Level::Constant,
+        node: Node::Truth(truth),
+    })
+}
+
+/// What a word of the language stands for.
+#[tactic(auto, unfolding(fisca_typing::specs::Names::known_word))]
+fn known_word(name: &[u8]) -> Option<Thing>
+    ensures { option_map thing result ≡ spec.known_word name.now }
+{
+    if name == b"True".as_slice() {
+        Some(constant_bool(true))
+    } else if name == b"False".as_slice() {
+        Some(constant_bool(false))
+    } else if name == b"where".as_slice() {
+        Some(Thing::Function(Function::Where))
+    } else if name == b"select".as_slice() {
+        Some(Thing::Function(Function::Select))
+    } else if name == b"min_".as_slice() {
+        Some(Thing::Function(Function::Min))
+    } else if name == b"max_".as_slice() {
+        Some(Thing::Function(Function::Max))
+    } else if name == b"not_".as_slice() {
+        Some(Thing::Function(Function::Not))
+    } else if name == b"np".as_slice() {
+        Some(Thing::Library)
+    } else if name == b"numpy".as_slice() {
+        Some(Thing::Library)
+    } else if name == b"ADD".as_slice() {
+        Some(Thing::Asking(Asking::Add))
+    } else if name == b"DIVIDE".as_slice() {
+        Some(Thing::Asking(Asking::Divide))
+    } else {
+        None
+    }
+}
+
+/// What a name behind `np` or `numpy` stands for, or `UnknownName`.
+#[tactic(auto, unfolding(fisca_typing::specs::Names::library_function))]
+pub fn library_function(name: &[u8]) -> Result<Thing, FormulaKind>
+    ensures { Gives thing (spec.library_function name.now) result }
+{
+    if name == b"where".as_slice() {
+        Ok(Thing::Function(Function::Where))
+    } else if name == b"select".as_slice() {
+        Ok(Thing::Function(Function::Select))
+    } else if name == b"minimum".as_slice() {
+        Ok(Thing::Function(Function::Min))
+    } else if name == b"maximum".as_slice() {
+        Ok(Thing::Function(Function::Max))
+    } else if name == b"logical_not".as_slice() {
+        Ok(Thing::Function(Function::Not))
+    } else {
+        Err(FormulaKind::UnknownName)
+    }
+}
+
+/// What the name of an Enum or of an entity stands for.
+fn declared(tables: &Tables, name: &[u8]) -> Option<Thing>
+    ensures { option_map thing result ≡ spec.declared (tables_of tables.now) name.now }
+{
+    match tables.enums.of_name(name) {
+        Some(place) => Some(Thing::Enumeration(place)),
+        None => match tables.entities.of_constant(name) {
+            Some(place) => Some(Thing::Entity(place)),
+            None => None,
+        },
+    }
+}
+
+/// What a name stands for that is no local's.
+fn other_named(alloc: Global, names: &FormulaScope, name: &[u8]) -> Option<Thing>
+    ensures { option_map thing result ≡ other_name (names_of names.now) name.now }
+{
+    match argument_named(alloc, names, name) {
+        Some(found) => Some(found),
+        None => match known_word(name) {
+            Some(found) => Some(found),
+            None => declared(names.tables, name),
+        },
+    }
+}
+
+/// What a name stands for, or `UnknownName`: the latest local, else an argument, else a word of the language, else an
+/// Enum or an entity.
+#[inline(never)]
+pub fn named(alloc: Global, names: &FormulaScope, name: &[u8]) -> Result<Thing, FormulaKind>
+    ensures { Gives thing (spec.named (names_of names.now) name.now) result }
+{
+    match names.locals.find(alloc, name)? {
+        Some(found) => Ok(found),
+        None => match other_named(alloc, names, name) {
+            Some(found) => Ok(found),
+            None => Err(FormulaKind::UnknownName),
+        },
+    }
+}

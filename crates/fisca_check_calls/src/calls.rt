@@ -1,0 +1,297 @@
+//! Calls of functions.
+ghost use Rattle.std.specs.Prelude.{◌≡◌, length, map, Ok, option_map};
+ghost use Rattle.fisca_check_calls.specs.Arguments.{default_given, positions as positions_view, reader_at};
+ghost use Rattle.fisca_ast.specs.Outcomes.{Gives};
+ghost use Rattle.fisca_ir.specs.Views.{listed, node, thing, typed};
+ghost use Rattle.fisca_typing.specs.Calls as spec;
+ghost use Rattle.fisca_typing.specs.Operations.{typed_all, operated, extreme as operation_extreme};
+ghost use Rattle.fisca_typing.specs.Things.{typed as typed_as};
+
+use crate::arguments::{Positions, alone, pair, triple};
+use crate::parameters::root_at;
+use fisca_ast::FormulaKind;
+use fisca_ir::{
+    Dyadic, Node, Thing, Typed, choose, common, common_all, higher, highest, instant_of, is_bool,
+    negated, numeric_of, offset_by, offset_by_unit, operated, scale_sum, text_of, things_of,
+    value_of, where_of,
+};
+use fisca_model::ValueType;
+use fisca_num::Fraction;
+use fisca_params::{NodeId, ParamTree};
+use fisca_typing::{Arithmetic, Function, Level, Move};
+use std::alloc::Global;
+
+/// The values that a list has, or `BadType`.
+fn values_of(alloc: Global, things: Vec<Thing>) -> Result<Vec<Typed>, FormulaKind>
+    ensures { Gives (λ vs. map typed vs.items) (typed_all (listed things.items)) result }
+{
+    let mut values = Vec::new(alloc);
+    for thing in things {
+        values.push(value_of(thing)?)?;
+    }
+    Ok(values)
+}
+
+/// Whether all values are bools.
+fn all_bools(values: &[Typed]) -> bool
+    ensures { result ≡ spec.all_bools (map typed values.now) }
+{
+    for value in values {
+        if !is_bool(value.value_type) {
+            return false;
+        }
+    }
+    true
+}
+
+/// The value of the first true condition, else the last one.
+fn selected(
+    alloc: Global,
+    conditions: Vec<Typed>,
+    values: Vec<Typed>,
+    otherwise: Node,
+) -> Result<Node, FormulaKind>
+    requires { length conditions.items ≡ length values.items }
+    ensures { Gives node (Ok (spec.selected (map typed conditions.items) (map typed values.items) (node otherwise))) result }
+{
+    let mut conditions = conditions;
+    let mut values = values;
+    let mut found = otherwise;
+    while let Some(condition) = conditions.pop() {
+        let Some(value) = values.pop() else {
+            return Ok(found);
+        };
+        found = choose(alloc, condition.node, value.node, found)?;
+    }
+    Ok(found)
+}
+
+/// What is selected without a default: 0, or `False` where all are bools; `BadType` for members of an Enum.
+fn nothing_selected(value_type: ValueType) -> Result<Node, FormulaKind>
+    ensures { Gives node (spec.nothing_selected value_type) result }
+{
+    match value_type {
+        ValueType::Number => Ok(Node::Literal(Fraction::zero())),
+        ValueType::Bool => Ok(Node::Truth(false)),
+        ValueType::Enum(_) => Err(FormulaKind::BadType),
+    }
+}
+
+/// The values of conditions, with the type of what is selected and what is selected otherwise.
+fn select_typed(
+    alloc: Global,
+    value_type: ValueType,
+    conditions: Vec<Typed>,
+    values: Vec<Typed>,
+    level: Level,
+    otherwise: Node,
+) -> Result<Thing, FormulaKind>
+    requires { length conditions.items ≡ length values.items }
+    ensures { Gives thing (typed_as value_type level (spec.selected (map typed conditions.items) (map typed values.items) (node otherwise))) result }
+{
+    Ok(Thing::Value(Typed {
+        value_type,
+        level,
+        node: selected(alloc, conditions, values, otherwise)?,
+    }))
+}
+
+/// `select` without or with a default.
+fn select_default(
+    alloc: Global,
+    value_type: ValueType,
+    conditions: Vec<Typed>,
+    values: Vec<Typed>,
+    default: Option<Typed>,
+) -> Result<Thing, FormulaKind>
+    requires { length conditions.items ≡ length values.items }
+    ensures { Gives thing (spec.select_default value_type (map typed conditions.items) (map typed values.items) (option_map typed default)) result }
+{
+    match default {
+        None => {
+            let rest = nothing_selected(value_type)?;
+            let upper = highest(Level::Constant, conditions.as_slice())?;
+            let level = highest(upper, values.as_slice())?;
+            select_typed(alloc, value_type, conditions, values, level, rest)
+        }
+        Some(last) => {
+            let common_type = common(value_type, last.value_type)?;
+            let upper = highest(Level::Constant, conditions.as_slice())?;
+            let lower = highest(upper, values.as_slice())?;
+            let level = higher(lower, last.level)?;
+            select_typed(alloc, common_type, conditions, values, level, last.node)
+        }
+    }
+}
+
+/// `select` of values: `BadType` where there is none, where a condition is no bool, where there are not as many
+/// conditions, or where the values have no common type.
+fn select_values(
+    alloc: Global,
+    conditions: Vec<Typed>,
+    values: Vec<Typed>,
+    default: Option<Typed>,
+) -> Result<Thing, FormulaKind>
+    ensures { Gives thing (spec.select_values (map typed conditions.items) (map typed values.items) (option_map typed default)) result }
+{
+    let [first, others @ ..] = values.as_slice() else {
+        return Err(FormulaKind::BadType);
+    };
+    if !all_bools(conditions.as_slice()) || conditions.len() != values.len() {
+        return Err(FormulaKind::BadType);
+    }
+    let value_type = common_all(first.value_type, others)?;
+    select_default(alloc, value_type, conditions, values, default)
+}
+
+/// A default, and the keyword that it stands behind.
+type Default<'t> = Option<(&'t [u8], Thing)>;
+
+/// The value of a default, or `BadType` where its keyword is another or it is no value.
+fn default_value(default: Default) -> Result<Option<Typed>, FormulaKind>
+    ensures { Gives (option_map typed) (default_given default.entry) result }
+{
+    let Some((keyword, thing)) = default else {
+        return Ok(None);
+    };
+    if keyword != b"default".as_slice() {
+        return Err(FormulaKind::BadType);
+    }
+    Ok(Some(value_of(thing)?))
+}
+
+/// `select([conditions], [values])`, perhaps with a default.
+fn select_of(
+    alloc: Global,
+    conditions: Thing,
+    values: Thing,
+    default: Default,
+) -> Result<Thing, FormulaKind>
+    ensures { Gives thing (spec.select_of (thing conditions) (thing values) (default_given default.entry)) result }
+{
+    let tested = values_of(alloc, things_of(conditions)?)?;
+    let given = values_of(alloc, things_of(values)?)?;
+    let last = default_value(default)?;
+    select_values(alloc, tested, given, last)
+}
+
+/// `where(condition, value, otherwise)`, or `BadType`.
+#[tactic(auto, using(crate::proofs::Shapes::where_triple))]
+fn where_by(alloc: Global, positions: Positions) -> Result<Thing, FormulaKind>
+    ensures { Gives thing (spec.where_by (positions_view positions.entry)) result }
+{
+    let Positions::ByPosition(arguments) = positions else {
+        return Err(FormulaKind::BadType);
+    };
+    let (condition, value, otherwise) = triple(arguments)?;
+    let tested = value_of(condition.thing)?;
+    let first = value_of(value.thing)?;
+    let second = value_of(otherwise.thing)?;
+    where_of(alloc, tested, first, second)
+}
+
+/// `select([conditions], [values])`, perhaps with `default=value` behind; or `BadType`.
+#[tactic(auto, using(crate::proofs::Shapes::select_pair, crate::proofs::Shapes::select_pair_keyword))]
+fn select_by(alloc: Global, positions: Positions) -> Result<Thing, FormulaKind>
+    ensures { Gives thing (spec.select_by (positions_view positions.entry)) result }
+{
+    match positions {
+        Positions::ByPosition(arguments) => {
+            let (conditions, values) = pair(arguments)?;
+            select_of(alloc, conditions.thing, values.thing, None)
+        }
+        Positions::AndKeyword(arguments, keyword, thing) => {
+            let (conditions, values) = pair(arguments)?;
+            select_of(
+                alloc,
+                conditions.thing,
+                values.thing,
+                Some((keyword, thing)),
+            )
+        }
+        Positions::MoreKeywords => Err(FormulaKind::BadType),
+    }
+}
+
+/// `min_(first, second)` or `max_(first, second)`, or `BadType`.
+#[tactic(auto, using(crate::proofs::Shapes::two_pair))]
+fn extreme_by(
+    alloc: Global,
+    extreme: Arithmetic,
+    positions: Positions,
+) -> Result<Thing, FormulaKind>
+    ensures { Gives thing (spec.two (positions_view positions.entry) (λ a b. operated (operation_extreme extreme) a.thing b.thing)) result }
+{
+    let Positions::ByPosition(arguments) = positions else {
+        return Err(FormulaKind::BadType);
+    };
+    let (first, second) = pair(arguments)?;
+    operated(alloc, Dyadic::Extreme(extreme), first.thing, second.thing)
+}
+
+/// A call of a function of the language: `BadType` where its arguments do not fit, else `BadLevel` where their levels do
+/// not.
+pub fn function_by(
+    alloc: Global,
+    function: Function,
+    positions: Positions,
+) -> Result<Thing, FormulaKind>
+    ensures { Gives thing (spec.function_by function (positions_view positions.entry)) result }
+{
+    match function {
+        Function::Where => where_by(alloc, positions),
+        Function::Select => select_by(alloc, positions),
+        Function::Min => extreme_by(alloc, Arithmetic::Min, positions),
+        Function::Max => extreme_by(alloc, Arithmetic::Max, positions),
+        Function::Not => {
+            let argument = alone(positions)?;
+            negated(alloc, value_of(argument.thing)?)
+        }
+    }
+}
+
+/// `period.offset(count)` or `period.offset(count, unit)`, or `BadType`.
+pub fn offset_of(moves: Vec<Move>, positions: Positions) -> Result<Thing, FormulaKind>
+    ensures { Gives thing (spec.offset_of moves.items (positions_view positions.entry)) result }
+{
+    let Positions::ByPosition(arguments) = positions else {
+        return Err(FormulaKind::BadType);
+    };
+    match arguments.as_slice() {
+        [] => Err(FormulaKind::BadType),
+        [count] => offset_by(moves, count.tree),
+        [count, unit] => offset_by_unit(moves, count.tree, text_of(&unit.thing)?),
+        [_, _, _, ..] => Err(FormulaKind::BadType),
+    }
+}
+
+/// `parameters(period)` or `parameters(period.start)`, or `BadType`.
+pub fn reader_by(
+    alloc: Global,
+    tree: &ParamTree,
+    positions: Positions,
+) -> Result<Thing, FormulaKind>
+    ensures { Gives thing (reader_at tree.now (positions_view positions.entry)) result }
+{
+    let argument = alone(positions)?;
+    let moves = instant_of(argument.thing)?;
+    root_at(alloc, tree, moves)
+}
+
+/// `scale.calc(base)`, or `BadType`.
+pub fn calculation_by(
+    alloc: Global,
+    place: NodeId,
+    moves: Vec<Move>,
+    positions: Positions,
+) -> Result<Thing, FormulaKind>
+    ensures { Gives thing (spec.calculation_by place moves.items (positions_view positions.entry)) result }
+{
+    let argument = alone(positions)?;
+    let base = numeric_of(argument.thing)?;
+    Ok(Thing::Value(Typed {
+        value_type: ValueType::Number,
+        level: base.level,
+        node: scale_sum(alloc, place, moves, base.node)?,
+    }))
+}

@@ -1,0 +1,88 @@
+//! What locals may stand for.
+ghost use Rattle.std.specs.Prelude.{◌≡◌, IfOk, Ok, map};
+ghost use Rattle.fisca_check_calls.specs.Locals.{held as held_thing, kept_view};
+ghost use Rattle.fisca_ast.specs.Outcomes.{Gives};
+ghost use Rattle.fisca_ir.specs.Views.{chosen as chosen_of, node, thing as thing_of, typed};
+ghost use Rattle.fisca_typing.specs.Formulas as spec;
+
+use crate::local::Held;
+use fisca_ast::FormulaKind;
+use fisca_ir::{Chosen, Node, Thing, Typed, copy_indices};
+use fisca_typing::Move;
+use std::alloc::{AllocError, Global};
+
+/// The same moves.
+fn copy_moves(alloc: Global, moves: &[Move]) -> Result<Vec<Move>, AllocError>
+    ensures { IfOk result (λ ms. ms.items ≡ moves.now) }
+{
+    moves.to_vec(alloc)
+}
+
+/// The same parameters.
+fn copy_chosen(alloc: Global, chosen: &Chosen) -> Result<Chosen, AllocError>
+    ensures { IfOk result (λ c. chosen_of c ≡ chosen_of chosen.now) }
+{
+    Ok(Chosen {
+        level: chosen.level,
+        indices: copy_indices(alloc, chosen.indices.as_slice())?,
+        places: chosen.places.as_slice().to_vec(alloc)?,
+        moves: copy_moves(alloc, chosen.moves.as_slice())?,
+    })
+}
+
+impl Held {
+    /// What the name of the local stands for.
+    pub fn thing(&self, alloc: Global) -> Result<Thing, AllocError>
+        ensures { IfOk result (λ x. thing_of x ≡ held_thing self.now) }
+    {
+        match self {
+            Held::Value(value_type, level, place) => Ok(Thing::Value(Typed {
+                value_type: *value_type,
+                level: *level,
+                node: Node::Local(*place),
+            })),
+            Held::Period(moves) => Ok(Thing::Period(copy_moves(alloc, moves.as_slice())?)),
+            Held::Nodes(chosen) => Ok(Thing::Nodes(Box::new(alloc, copy_chosen(alloc, chosen)?)?)),
+            Held::Scale(place, moves) => {
+                Ok(Thing::Scale(*place, copy_moves(alloc, moves.as_slice())?))
+            }
+        }
+    }
+}
+
+/// A value that a local keeps: its node comes behind those of the earlier locals.
+fn kept_value(value: Typed, values: &mut Vec<Node>) -> Result<Held, AllocError>
+    ensures { IfOk result (λ h. spec.kept_value (typed value) (map node values.old.items) ≡ Ok (kept_view values.new.items h)) }
+{
+    let place = values.len();
+    values.push(value.node)?;
+    Ok(Held::Value(value.value_type, value.level, place))
+}
+
+/// What the name of a local with this thing stands for, or `BadType` for what no local keeps. The nodes of locals with
+/// values come one behind the other.
+pub fn kept(thing: Thing, values: &mut Vec<Node>) -> Result<Held, FormulaKind>
+    ensures { Gives (kept_view values.new.items) (spec.kept (thing_of thing) (map node values.old.items)) result }
+{
+    match thing {
+        Thing::Value(value) => Ok(kept_value(value, values)?),
+        Thing::Period(moves) => Ok(Held::Period(moves)),
+        Thing::Nodes(chosen) => Ok(Held::Nodes(chosen)),
+        Thing::Scale(place, moves) => Ok(Held::Scale(place, moves)),
+        Thing::Start(_)
+        | Thing::Offset(_)
+        | Thing::Reader
+        | Thing::Calculation(..)
+        | Thing::Enumeration(_)
+        | Thing::Choices(_)
+        | Thing::Entity(_)
+        | Thing::Role(..)
+        | Thing::Asker
+        | Thing::Method(..)
+        | Thing::Library
+        | Thing::Function(_)
+        | Thing::Asking(_)
+        | Thing::Text(_)
+        | Thing::Listed(_) => Err(FormulaKind::BadType),
+    }
+}

@@ -1,0 +1,243 @@
+//! Parameters below `parameters(period)`.
+ghost use Rattle.std.specs.Prelude.{◌≡◌, ◌∷◌, [], map};
+ghost use Rattle.std.specs.List.{list_all};
+ghost use Rattle.fisca_check_calls.specs.Parameters.{all_are, chosen_by, scale_alone};
+ghost use Rattle.fisca_ast.specs.Outcomes.{Gives};
+ghost use Rattle.fisca_ir.specs.Views.{chosen as chosen_of, indices as indices_of, node, thing};
+ghost use Rattle.fisca_typing.specs.Parameters as spec;
+
+use fisca_ast::FormulaKind;
+use fisca_ir::{Chosen, Index, Node, Thing, Typed, parameter_node, push_index};
+use fisca_model::ValueType;
+use fisca_params::{NodeId, NodeKind, ParamTree};
+use fisca_typing::{Level, Move};
+use std::alloc::Global;
+
+/// What all of some nodes may be.
+#[derive(Clone, Copy, Debug, PartialEq, Eq)]
+pub enum Wanted {
+    Numbers,
+    Bools,
+    Nodes,
+}
+
+/// Whether a node is what is wanted.
+fn is_wanted(wanted: Wanted, kind: NodeKind) -> bool
+    ensures { result ≡ all_are wanted kind }
+{
+    match wanted {
+        Wanted::Numbers => matches!(kind, NodeKind::Number),
+        Wanted::Bools => matches!(kind, NodeKind::Bool),
+        Wanted::Nodes => matches!(kind, NodeKind::Node),
+    }
+}
+
+/// Whether all of these nodes are what is wanted.
+fn are_all(tree: &ParamTree, places: &[NodeId], wanted: Wanted) -> bool
+    ensures { result ≡ list_all (all_are wanted) (spec.kinds_at tree.now places.now) }
+{
+    for place in places {
+        if !is_wanted(wanted, tree.kind(*place)) {
+            return false;
+        }
+    }
+    true
+}
+
+/// The parameters that are chosen among, as a value.
+fn parameter_of(alloc: Global, value_type: ValueType, chosen: Chosen) -> Result<Thing, FormulaKind>
+    ensures { Gives thing (spec.parameter_of value_type (chosen_of chosen)) result }
+{
+    Ok(Thing::Value(Typed {
+        value_type,
+        level: chosen.level,
+        node: parameter_node(alloc, chosen.indices, chosen.places, chosen.moves)?,
+    }))
+}
+
+/// What nodes stand for, where none is a scale that no index chooses: `BadType` where they are not of one kind.
+fn of_one_kind(alloc: Global, tree: &ParamTree, chosen: Chosen) -> Result<Thing, FormulaKind>
+    ensures { Gives thing (spec.of_one_kind (chosen_of chosen) (spec.kinds_at tree.now chosen.places.items)) result }
+{
+    let places = chosen.places.as_slice();
+    if are_all(tree, places, Wanted::Numbers) {
+        parameter_of(alloc, ValueType::Number, chosen)
+    } else if are_all(tree, places, Wanted::Bools) {
+        parameter_of(alloc, ValueType::Bool, chosen)
+    } else if are_all(tree, places, Wanted::Nodes) {
+        Ok(Thing::Nodes(Box::new(alloc, chosen)?))
+    } else {
+        Err(FormulaKind::BadType)
+    }
+}
+
+/// The scale that no index chooses.
+fn lone_scale(tree: &ParamTree, indices: &[Index], places: &[NodeId]) -> Option<NodeId>
+    ensures { result ≡ scale_alone (indices_of indices.now) places.now (spec.kinds_at tree.now places.now) }
+{
+    if indices.iter().next().is_some() {
+        return None;
+    }
+    let mut items = places.iter();
+    let place = *items.next()?;
+    if items.next().is_some() {
+        return None;
+    }
+    match tree.kind(place) {
+        NodeKind::Scale => Some(place),
+        NodeKind::Node | NodeKind::Number | NodeKind::Bool | NodeKind::Unusable => None,
+    }
+}
+
+/// What nodes stand for: a scale, parameters of one type, or nodes with children; else `BadType`.
+#[tactic(auto, using(crate::proofs::Scales::scale_or_others))]
+fn thing_chosen(alloc: Global, tree: &ParamTree, chosen: Chosen) -> Result<Thing, FormulaKind>
+    ensures { Gives thing (spec.thing_chosen tree.now (chosen_of chosen)) result }
+{
+    match lone_scale(tree, chosen.indices.as_slice(), chosen.places.as_slice()) {
+        Some(place) => Ok(Thing::Scale(place, chosen.moves)),
+        None => of_one_kind(alloc, tree, chosen),
+    }
+}
+
+/// The children of these names below a node, or `UnknownParameter`.
+#[tactic(auto, using(crate::proofs::Rows::child_step, crate::proofs::Rows::child_fault))]
+fn children_named(
+    alloc: Global,
+    tree: &ParamTree,
+    place: NodeId,
+    names: &[&[u8]],
+) -> Result<Vec<NodeId>, FormulaKind>
+    ensures { Gives (λ found. found.items) (spec.children_named tree.now place (map (λ name. name.now) names.now)) result }
+{
+    let mut found = Vec::new(alloc);
+    for name in names {
+        let Some(child) = tree.child_by(place, name) else {
+            return Err(FormulaKind::UnknownParameter);
+        };
+        found.push(child)?;
+    }
+    Ok(found)
+}
+
+/// The children of these names below each of some nodes, or `UnknownParameter`.
+#[tactic(auto, using(crate::proofs::Rows::children_step, crate::proofs::Rows::children_fault))]
+fn children_below(
+    alloc: Global,
+    tree: &ParamTree,
+    places: &[NodeId],
+    names: &[&[u8]],
+) -> Result<Vec<NodeId>, FormulaKind>
+    ensures { Gives (λ found. found.items) (spec.children_below tree.now places.now (map (λ name. name.now) names.now)) result }
+{
+    let mut found = Vec::new(alloc);
+    for place in places {
+        let children = children_named(alloc, tree, *place, names)?;
+        found.extend_from_slice(children.as_slice())?;
+    }
+    Ok(found)
+}
+
+/// `parameters(period)`: the root, at the start of a period.
+pub fn root_at(alloc: Global, tree: &ParamTree, moves: Vec<Move>) -> Result<Thing, FormulaKind>
+    ensures { Gives thing (spec.root_at tree.now moves.items) result }
+{
+    let mut places = Vec::new(alloc);
+    places.push(tree.root())?;
+    let chosen = Chosen {
+        level: Level::Constant,
+        indices: Vec::new(alloc),
+        places,
+        moves,
+    };
+    thing_chosen(alloc, tree, chosen)
+}
+
+/// The child of this name below a node alone, in the list that had the node; or `UnknownParameter`.
+fn child_alone(
+    tree: &ParamTree,
+    mut places: Vec<NodeId>,
+    place: NodeId,
+    name: &[u8],
+) -> Result<Vec<NodeId>, FormulaKind>
+    ensures { Gives (λ found. found.items) (spec.children_below tree.now (place ∷ []) (name.now ∷ [])) result }
+{
+    let Some(child) = tree.child_by(place, name) else {
+        return Err(FormulaKind::UnknownParameter);
+    };
+    places.clear();
+    places.push(child)?;
+    Ok(places)
+}
+
+/// The children of this name below each of some nodes, or `UnknownParameter`.
+fn children_named_so(
+    alloc: Global,
+    tree: &ParamTree,
+    places: Vec<NodeId>,
+    name: &[u8],
+) -> Result<Vec<NodeId>, FormulaKind>
+    ensures { Gives (λ found. found.items) (spec.children_below tree.now places.items (name.now ∷ [])) result }
+{
+    match places.as_slice() {
+        [place] => {
+            let alone = *place;
+            child_alone(tree, places, alone, name)
+        }
+        several => children_below(alloc, tree, several, &[name]),
+    }
+}
+
+/// A name behind nodes, or `UnknownParameter`.
+pub fn node_attribute(
+    alloc: Global,
+    tree: &ParamTree,
+    name: &[u8],
+    chosen: Chosen,
+) -> Result<Thing, FormulaKind>
+    ensures { Gives thing (spec.node_attribute tree.now name.now (chosen_of chosen)) result }
+{
+    let places = children_named_so(alloc, tree, chosen.places, name)?;
+    let below = Chosen {
+        level: chosen.level,
+        indices: chosen.indices,
+        places,
+        moves: chosen.moves,
+    };
+    thing_chosen(alloc, tree, below)
+}
+
+/// `scale.calc`, or `BadType`.
+pub fn scale_attribute(name: &[u8], place: NodeId, moves: Vec<Move>) -> Result<Thing, FormulaKind>
+    ensures { Gives thing (spec.scale_attribute name.now place moves.items) result }
+{
+    if name == b"calc".as_slice() {
+        Ok(Thing::Calculation(place, moves))
+    } else {
+        Err(FormulaKind::BadType)
+    }
+}
+
+/// Nodes with a member of an Enum behind them in brackets, at this level: a child for each member. `UnknownParameter`, or
+/// `BadType` where the children do not fit.
+pub fn chosen_below(
+    alloc: Global,
+    tree: &ParamTree,
+    chosen: Chosen,
+    level: Level,
+    member: Node,
+    names: &[&[u8]],
+) -> Result<Thing, FormulaKind>
+    ensures { Gives thing (chosen_by tree.now (chosen_of chosen) level (node member) (map (λ name. name.now) names.now)) result }
+{
+    let places = children_below(alloc, tree, chosen.places.as_slice(), names)?;
+    let mut indices = chosen.indices;
+    push_index(alloc, &mut indices, member, names.len())?;
+    let below = Chosen {
+        level,
+        indices,
+        places,
+        moves: chosen.moves,
+    };
+    thing_chosen(alloc, tree, below)
+}

@@ -1,0 +1,12 @@
+pub mod AskedColumns
+pub mod Calc
+pub mod ColumnViews
+pub mod Columns
+pub mod Faults
+pub mod Lines
+pub mod Outcomes
+pub mod Places
+pub mod Shown
+pub mod Texts
+pub mod Views
+pub mod Written

@@ -1,0 +1,4 @@
+pub mod Came
+pub mod DatedFormulas
+pub mod Named
+pub mod Steps

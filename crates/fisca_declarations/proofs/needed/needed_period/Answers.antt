@@ -1,0 +1,9 @@
+use Rattle.std.proofs.Common.{◌∙◌, ap, map}
+use Rattle.fisca_attributes.specs.AttributeForms as forms
+use Rattle.fisca_attributes.specs.Values.{needed}
+use Rattle.fisca_ast.specs.ModuleViews.{item}
+use Rattle.fisca_declarations.proofs.needed.needed_period.Goals as goal
+
+pub returns-in-Some : goal.returns-in-Some
+returns-in-Some c =
+    c.period_value.ensures ∙ ap (needed forms.period_value) (c.in-Some.ensures ∙ ap (λ t. forms.value_at t (map item c.args.items.now)) c.as_slice.ensures)

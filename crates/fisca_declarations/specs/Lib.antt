@@ -1,0 +1,3 @@
+pub mod FormulaLines
+pub mod Lines
+pub mod VariableForms

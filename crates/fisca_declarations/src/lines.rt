@@ -1,0 +1,99 @@
+//! The lines of a variable from top to bottom.
+
+ghost use Rattle.std.specs.List.{list_any};
+ghost use Rattle.std.specs.Prelude.{◌≡◌, map};
+ghost use Rattle.std.specs.Str.{bytes_eq};
+ghost use Rattle.fisca_ast.specs.Outcomes.{Gives};
+ghost use Rattle.fisca_ast.specs.ModuleViews.{assigned, formula_view, item};
+ghost use Rattle.fisca_declarations.specs.Lines as spec;
+
+use crate::before::Before;
+use crate::days::with_day;
+use crate::declared::Declared;
+use crate::fits::attribute_fits;
+use fisca_ast::{Assignment, ClassLine, Formula, FormulaKind, Slice};
+use std::alloc::Global;
+
+impl<'a> Before<'a> {
+    ghost use Rattle.std.specs.Prelude.{◌≡◌};
+    ghost use Rattle.fisca_declarations.specs.Lines.{before, nothing_before};
+
+    /// Nothing came before.
+    pub fn new(alloc: Global) -> Before<'a>
+        ensures { before result ≡ nothing_before }
+    {
+        Before {
+            names: Vec::new(alloc),
+            days: None,
+        }
+    }
+}
+
+/// Whether a name is one of these.
+fn is_among(names: &[Slice<'_>], name: &[u8]) -> bool
+    ensures { result ≡ list_any (λ k. bytes_eq k name.now) names.now }
+{
+    names.iter().any(|known| known.as_bytes() == name)
+}
+
+/// What is known behind an attribute, which came for the first time and is right, or `BadAttribute` or `UnknownName`.
+fn behind_attribute<'a>(
+    alloc: Global,
+    declared: &Declared<'_>,
+    items: &[ClassLine<'a>],
+    before: Before<'a>,
+    attribute: &Assignment<'a>,
+) -> Result<Before<'a>, FormulaKind>
+    ensures { Gives spec.before (spec.behind_attribute declared.now (map item items.now) (spec.before before.entry) (assigned attribute.now)) result }
+{
+    let name = attribute.name.as_bytes();
+    if is_among(before.names.as_slice(), name) {
+        return Err(FormulaKind::BadAttribute);
+    }
+    attribute_fits(alloc, declared, items, name, &attribute.value)?;
+    let Before { mut names, days } = before;
+    names.push(Slice::new(name))?;
+    Ok(Before { names, days })
+}
+
+/// What is known behind a formula, where there may be one and none came before with the same start; or `BadAttribute`.
+#[tactic(auto, using(crate::proofs::Came::day_came, crate::proofs::Came::day_new))]
+fn behind_formula<'a>(
+    alloc: Global,
+    formulas: bool,
+    before: Before<'a>,
+    formula: &Formula<'a>,
+) -> Result<Before<'a>, FormulaKind>
+    ensures { Gives spec.before (spec.behind_formula formulas (spec.before before.entry) (formula_view formula.now)) result }
+{
+    if !formulas {
+        return Err(FormulaKind::BadAttribute);
+    }
+    let Before { names, days } = before;
+    match with_day(alloc, days, formula.start)? {
+        Some(found) => Ok(Before {
+            names,
+            days: Some(found),
+        }),
+        None => Err(FormulaKind::BadAttribute),
+    }
+}
+
+/// What is known behind a line of a variable with these lines, which may have formulas or not; or the fault of the line.
+pub fn behind_line<'a>(
+    alloc: Global,
+    declared: &Declared<'_>,
+    items: &[ClassLine<'a>],
+    formulas: bool,
+    before: Before<'a>,
+    line: &ClassLine<'a>,
+) -> Result<Before<'a>, FormulaKind>
+    ensures { Gives spec.before (spec.behind_line declared.now (map item items.now) formulas (spec.before before.entry) (item line.now)) result }
+{
+    match line {
+        ClassLine::Attribute(attribute) => {
+            behind_attribute(alloc, declared, items, before, attribute)
+        }
+        ClassLine::Formula(formula) => behind_formula(alloc, formulas, before, formula),
+    }
+}

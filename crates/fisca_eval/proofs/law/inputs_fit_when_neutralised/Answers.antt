@@ -1,5 +1,0 @@
-use Rattle.fisca_eval.proofs.Fitting.{fits_left}
-use Rattle.fisca_eval.proofs.law.inputs_fit_when_neutralised.Goals as goal
-
-pub returns : goal.returns
-returns c = fits_left

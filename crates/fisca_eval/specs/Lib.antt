@@ -1,8 +1,0 @@
-pub mod Evaluators
-pub mod Faults
-pub mod InForce
-pub mod Scenes
-pub mod Simulations
-pub mod Sound
-pub mod Told
-pub mod Views

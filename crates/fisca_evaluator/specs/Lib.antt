@@ -1,0 +1,9 @@
+pub mod Asked
+pub mod Counted
+pub mod Counting
+pub mod Evaluators
+pub mod Found
+pub mod Plans
+pub mod Recalled
+pub mod Scenes
+pub mod Stamps

@@ -1,6 +1,0 @@
-use Rattle.std.proofs.Common.{arith}
-use Rattle.fisca_formula.proofs.Shapes.{options_more}
-use Rattle.fisca_formula.proofs.asks.one_option.Goals as goal
-
-pub returns-in-len2-up : goal.returns-in-len2-up
-returns-in-len2-up c = λ _. options_more c.args.things.now (omega (arith, c.in-len2-up.len_at_least))

@@ -1,0 +1,5 @@
+pub mod Answers
+pub mod Meaning
+pub mod Questions
+pub mod Safe
+pub mod Wellformed

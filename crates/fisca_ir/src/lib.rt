@@ -1,0 +1,25 @@
+//! Typed formulas in memory: what their expressions work out and stand for.
+#![tactic(auto)]
+
+mod made;
+mod node;
+mod operations;
+mod parts;
+mod periods;
+mod thing;
+mod types;
+
+pub use made::{
+    arithmetic, ask, choose, comparison, copy_indices, count, date_part, has_role, logic, negative,
+    opposite, parameter_node, push_index, same, scale_sum, total,
+};
+pub use node::{Ask, Index, Node, Pair, Parameter, ScaleSum, Totalled};
+pub use operations::{
+    Dyadic, common_all, highest, negated, numeric_of, operated, prefixed_value, where_of,
+};
+pub use parts::{
+    instant_of, nodes_of, option_of, period_of, role_of, text_of, things_of, value_of,
+};
+pub use periods::{offset_by, offset_by_unit, period_attribute, start_attribute};
+pub use thing::{Chosen, Relation, Thing, Typed};
+pub use types::{common, higher, is_bool, is_numeric, is_of_members};

@@ -1,0 +1,243 @@
+//! Periods and parts of their start.
+ghost use Rattle.std.specs.Prelude.{◌≡◌, map, option_map};
+ghost use Rattle.fisca_num.specs.Literal.{number_of_literal};
+ghost use Rattle.fisca_ast.specs.Views.{argument_view, series_of, series_view, tree as tree_of};
+ghost use Rattle.fisca_ast.specs.Outcomes.{Gives};
+ghost use Rattle.fisca_ir.specs.Views.{thing};
+ghost use Rattle.fisca_typing.specs.Periods as spec;
+
+use crate::made;
+use crate::thing::{Thing, Typed};
+use fisca_ast::{Argument, Arguments, Bracket, Expr, FormulaKind, Prefix};
+use fisca_model::ValueType;
+use fisca_num::Fraction;
+use fisca_time::Unit;
+use fisca_typing::{DatePart, Level, Move};
+use std::alloc::Global;
+
+/// One move further.
+fn moved(mut moves: Vec<Move>, step: Move) -> Result<Thing, FormulaKind>
+    ensures { Gives thing (spec.moved moves.items step) result }
+{
+    moves.push(step)?;
+    Ok(Thing::Period(moves))
+}
+
+/// What a name behind a period stands for, or `UnknownName`.
+#[tactic(auto, unfolding(fisca_typing::specs::Periods::period_attribute))]
+pub fn period_attribute(name: &[u8], moves: Vec<Move>) -> Result<Thing, FormulaKind>
+    ensures { Gives thing (spec.period_attribute name.now moves.items) result }
+{
+    if name == b"this_year".as_slice() {
+        moved(moves, Move::ThisYear)
+    } else if name == b"first_month".as_slice() {
+        moved(moves, Move::FirstMonth)
+    } else if name == b"first_day".as_slice() {
+        moved(moves, Move::FirstDay)
+    } else if name == b"last_month".as_slice() {
+        moved(moves, Move::LastMonth)
+    } else if name == b"last_3_months".as_slice() {
+        moved(moves, Move::LastThreeMonths)
+    } else if name == b"last_year".as_slice() {
+        moved(moves, Move::LastYear)
+    } else if name == b"n_2".as_slice() {
+        moved(moves, Move::TwoYearsAgo)
+    } else if name == b"start".as_slice() {
+        Ok(Thing::Start(moves))
+    } else if name == b"offset".as_slice() {
+        Ok(Thing::Offset(moves))
+    } else {
+        Err(FormulaKind::UnknownName)
+    }
+}
+
+/// A part of the start of a period.
+fn part_of(alloc: Global, part: DatePart, moves: Vec<Move>) -> Result<Thing, FormulaKind>
+    ensures { Gives thing (spec.part_of part moves.items) result }
+{
+    Ok(Thing::Value(Typed {
+        value_type: ValueType::Number,
+        level: Level::Constant,
+        node: made::date_part(alloc, part, moves)?,
+    }))
+}
+
+/// What a name behind the start of a period stands for, or `UnknownName`.
+#[tactic(auto, unfolding(fisca_typing::specs::Periods::start_attribute))]
+pub fn start_attribute(alloc: Global, name: &[u8], moves: Vec<Move>) -> Result<Thing, FormulaKind>
+    ensures { Gives thing (spec.start_attribute name.now moves.items) result }
+{
+    if name == b"year".as_slice() {
+        part_of(alloc, DatePart::Year, moves)
+    } else if name == b"month".as_slice() {
+        part_of(alloc, DatePart::Month, moves)
+    } else if name == b"day".as_slice() {
+        part_of(alloc, DatePart::Day, moves)
+    } else {
+        Err(FormulaKind::UnknownName)
+    }
+}
+
+/// The whole number that digits say, if they do.
+fn whole_of(digits: &[u8]) -> Option<Fraction>
+    ensures { option_map (λ n. n.numerator) result ≡ spec.whole_of (number_of_literal digits.now) }
+{
+    match Fraction::from_literal(digits) {
+        Ok(number) if number.denominator() == 1 => Some(number),
+        _ => None,
+    }
+}
+
+/// A whole number as it is written, perhaps in parentheses.
+#[cycle(unsigned)]
+fn unsigned_whole(tree: &Expr) -> Option<Fraction>
+    ensures { option_map (λ n. n.numerator) result ≡ spec.unsigned_whole (tree_of tree.now) }
+{
+    match tree {
+        Expr::Number(digits) => whole_of(digits.as_bytes()),
+        Expr::Bracketed(bracket, inside) => unsigned_inside(inside, *bracket),
+        Expr::Name(_)
+        | Expr::Text(_)
+        | Expr::Attribute(..)
+        | Expr::Applied(..)
+        | Expr::Prefixed(..)
+        | Expr::Binary(..)
+        | Expr::Compare(..) => None,
+    }
+}
+
+/// A whole number alone in parentheses.
+#[cycle(unsigned)]
+fn unsigned_inside(inside: &Arguments, bracket: Bracket) -> Option<Fraction>
+    ensures { option_map (λ n. n.numerator) result ≡ spec.unsigned_alone bracket (series_view inside.now) }
+{
+    match inside {
+        Arguments::One(argument) => unsigned_in(argument, bracket),
+        Arguments::Several(items, comma) => unsigned_alone(items.as_slice(), bracket, *comma),
+    }
+}
+
+/// The same among some arguments.
+#[cycle(unsigned)]
+fn unsigned_alone(items: &[Argument], bracket: Bracket, comma: bool) -> Option<Fraction>
+    ensures { option_map (λ n. n.numerator) result ≡ spec.unsigned_alone bracket (series_of comma (map argument_view items.now)) }
+{
+    if comma {
+        return None;
+    }
+    if items.len() != 1 {
+        return None;
+    }
+    unsigned_in(&items[0], bracket)
+}
+
+/// A whole number as an argument in parentheses.
+#[cycle(unsigned)]
+fn unsigned_in(argument: &Argument, bracket: Bracket) -> Option<Fraction>
+    ensures { option_map (λ n. n.numerator) result ≡ spec.unsigned_in bracket (argument_view argument.now) }
+{
+    match bracket {
+        Bracket::Round => match argument {
+            Argument::Positional(number) => unsigned_whole(number),
+            Argument::Keyword(..) | Argument::Entry(..) => None,
+        },
+        Bracket::Square | Bracket::Curly => None,
+    }
+}
+
+/// A whole number as it is written, perhaps with a `-` before it, perhaps in parentheses.
+#[cycle(whole)]
+fn whole(tree: &Expr) -> Option<Fraction>
+    ensures { option_map (λ n. n.numerator) result ≡ spec.whole (tree_of tree.now) }
+{
+    match tree {
+        Expr::Number(digits) => whole_of(digits.as_bytes()),
+        Expr::Bracketed(bracket, inside) => whole_inside(inside, *bracket),
+        Expr::Prefixed(Prefix::Minus, inside) => Some(unsigned_whole(inside)?.neg()),
+        Expr::Prefixed(Prefix::Plus | Prefix::Not, _)
+        | Expr::Name(_)
+        | Expr::Text(_)
+        | Expr::Attribute(..)
+        | Expr::Applied(..)
+        | Expr::Binary(..)
+        | Expr::Compare(..) => None,
+    }
+}
+
+/// The same alone in parentheses.
+#[cycle(whole)]
+fn whole_inside(inside: &Arguments, bracket: Bracket) -> Option<Fraction>
+    ensures { option_map (λ n. n.numerator) result ≡ spec.whole_alone bracket (series_view inside.now) }
+{
+    match inside {
+        Arguments::One(argument) => whole_in(argument, bracket),
+        Arguments::Several(items, comma) => whole_alone(items.as_slice(), bracket, *comma),
+    }
+}
+
+/// The same among some arguments.
+#[cycle(whole)]
+fn whole_alone(items: &[Argument], bracket: Bracket, comma: bool) -> Option<Fraction>
+    ensures { option_map (λ n. n.numerator) result ≡ spec.whole_alone bracket (series_of comma (map argument_view items.now)) }
+{
+    if comma {
+        return None;
+    }
+    if items.len() != 1 {
+        return None;
+    }
+    whole_in(&items[0], bracket)
+}
+
+/// The same as an argument in parentheses.
+#[cycle(whole)]
+fn whole_in(argument: &Argument, bracket: Bracket) -> Option<Fraction>
+    ensures { option_map (λ n. n.numerator) result ≡ spec.whole_in bracket (argument_view argument.now) }
+{
+    match bracket {
+        Bracket::Round => match argument {
+            Argument::Positional(number) => whole(number),
+            Argument::Keyword(..) | Argument::Entry(..) => None,
+        },
+        Bracket::Square | Bracket::Curly => None,
+    }
+}
+
+/// The unit of a name.
+#[tactic(auto, unfolding(fisca_typing::specs::Periods::unit_named))]
+fn unit_named(name: &[u8]) -> Option<Unit>
+    ensures { result ≡ spec.unit_named name.now }
+{
+    if name == b"day".as_slice() {
+        Some(Unit::Day)
+    } else if name == b"month".as_slice() {
+        Some(Unit::Month)
+    } else if name == b"year".as_slice() {
+        Some(Unit::Year)
+    } else {
+        None
+    }
+}
+
+/// So many of a period's own unit further, or `BadType` where the number is not written as a whole one.
+pub fn offset_by(moves: Vec<Move>, count: &Expr) -> Result<Thing, FormulaKind>
+    ensures { Gives thing (spec.offset_by moves.items (tree_of count.now)) result }
+{
+    let Some(number) = whole(count) else {
+        return Err(FormulaKind::BadType);
+    };
+    moved(moves, Move::Offset(number.numerator()))
+}
+
+/// So many of a unit further, or `BadType` where the number is not written as a whole one or no unit has the name.
+pub fn offset_by_unit(moves: Vec<Move>, count: &Expr, unit: &[u8]) -> Result<Thing, FormulaKind>
+    ensures { Gives thing (spec.offset_by_unit moves.items (tree_of count.now) unit.now) result }
+{
+    let Some(number) = whole(count) else {
+        return Err(FormulaKind::BadType);
+    };
+    let Some(unit) = unit_named(unit) else {
+        return Err(FormulaKind::BadType);
+    };
+    moved(moves, Move::OffsetBy(number.numerator(), unit))
+}

@@ -1,9 +1,0 @@
-use Rattle.fisca_eval.specs.Simulations.{sources}
-use Rattle.fisca_memo.proofs.Memories.{turned_memory}
-use Rattle.fisca_memo.specs.Evaluators.{marks_in, simulation_of}
-use Rattle.fisca_memo.proofs.evaluator.Evaluator.turn_wheel.Goals as goal
-
-pub returns-clause-memory : goal.returns-clause-memory
-returns-clause-memory g c turned still memory =
-    let e = c.args.self.now in
-    turned_memory (marks_in e) c.args.wheel (sources (simulation_of e)) (sources turned) (g.R.Recall.find e.store.recall) _ e.store.counts.free still c.drop_moved.ensures memory

@@ -1,5 +1,0 @@
-use Rattle.fisca_memo.proofs.Risen.{counts_rise}
-use Rattle.fisca_memo.proofs.law.counts_rise_by_what_is_added.Goals as goal
-
-pub returns : goal.returns
-returns c = counts_rise

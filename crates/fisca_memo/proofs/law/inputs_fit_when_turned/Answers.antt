@@ -1,5 +1,0 @@
-use Rattle.fisca_memo.proofs.Fitting.{turned_fit}
-use Rattle.fisca_memo.proofs.law.inputs_fit_when_turned.Goals as goal
-
-pub returns : goal.returns
-returns c = turned_fit

@@ -1,8 +1,0 @@
-use Rattle.std.specs.Map.{lookup}
-use Rattle.fisca_inputs.specs.Entries.{same_key}
-use Rattle.fisca_memo.proofs.Finds.{found_put, on_ok}
-use Rattle.fisca_memo.proofs.list_recall.ListRecallRecall.keep.Goals as goal
-
-pub returns-clause-ok : goal.returns-clause-ok
-returns-clause-ok c =
-    on_ok _ _ c.put.result _ _ (λ put. found_put (λ k. lookup (same_key k) c.args.self.now.pairs.items) (λ k. lookup (same_key k) c.put.new.pairs.items) c.args.key c.args.known c.unit-unit.ensures.period put) c.put.ensures.ok

@@ -1,7 +1,0 @@
-use Rattle.std.proofs.Common.{◌≤◌}
-use Rattle.fisca_nodes.specs.declared.node.Node.{size-Node}
-use Rattle.fisca_nodes.proofs.+dropping.Given as goal
-
--- what is left is no deeper than the whole
-abbrev pub invariant-node::Node::drop-loop-self : goal.invariant-node::Node::drop-loop-self
-invariant-node::Node::drop-loop-self l = size-Node l.self ≤ size-Node l.initial.self

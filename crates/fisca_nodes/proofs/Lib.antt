@@ -1,3 +1,0 @@
-pub mod Indices
-pub mod Pieces
-pub mod Whole

@@ -1,6 +1,0 @@
-use Rattle.std.proofs.Common.{◌≡◌, ◌-◌, ◌++◌, length}
-use Rattle.fisca_typing.specs.Texts.{said_within}
-use Rattle.fisca_nodes.proofs.texts.content.Given as goal
-
-abbrev pub invariant-loop-turn : goal.invariant-loop-turn
-invariant-loop-turn l = said_within (length l.source) l.source ≡ l.said.items ++ said_within (l._turn-end - l._turn) l.rest

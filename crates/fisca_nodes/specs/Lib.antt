@@ -1,4 +1,0 @@
-pub mod Operations
-pub mod Outcomes
-pub mod Texts
-pub mod Views

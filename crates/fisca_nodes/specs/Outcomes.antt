@@ -1,9 +1,0 @@
--- What functions answer, where memory lasts.
-use Rattle.std.specs.Prelude.{◌≡◌, ◌≢◌, Result, Ok, Err}
-use Rattle.fisca_tokens.specs.declared.fault.Kind.{Kind}
-use Rattle.fisca_tokens.specs.declared.fault.Kind.TheVariants.{Memory}
-
--- what this outcome says, seen in this way, or its refusal; or else memory ran out
-abbrev pub Gives : {X Y : Type 0} → (X → Y) → Result Y Kind → Result X Kind → Type 0
-Gives view outcome (Ok x) = outcome ≡ Ok (view x)
-Gives view outcome (Err k) = k ≢ Memory → outcome ≡ Err k

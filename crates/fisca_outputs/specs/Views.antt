@@ -1,6 +1,0 @@
--- How definitions see what the code keeps while expected values are read.
-use Rattle.fisca_outputs.specs.declared.subject.Subject.{Subject}
-use Rattle.fisca_outputs.specs.Outputs as outputs
-
-abbrev pub subject : Subject → outputs.Subject
-subject x = record { variable = x.variable; declared = x.declared.now; whom = x.whom }

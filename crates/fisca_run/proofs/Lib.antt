@@ -1,0 +1,11 @@
+pub mod Files
+pub mod Grouped
+pub mod Marked
+pub mod Normal
+pub mod OfFiles
+pub mod OfPositions
+pub mod Positions
+pub mod Reading
+pub mod Said
+pub mod Situated
+pub mod Within

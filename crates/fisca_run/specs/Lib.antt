@@ -1,0 +1,4 @@
+pub mod Groups
+pub mod Marks
+pub mod Readings
+pub mod Slots

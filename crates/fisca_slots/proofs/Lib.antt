@@ -1,0 +1,12 @@
+pub mod Anew
+pub mod AnewAll
+pub mod Both
+pub mod Months
+pub mod Parts
+pub mod Placed
+pub mod SameWheels
+pub mod Shared
+pub mod Standing
+pub mod Steps
+pub mod Turned
+pub mod TurnedSlots

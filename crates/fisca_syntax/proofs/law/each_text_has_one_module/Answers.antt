@@ -1,5 +1,0 @@
-use Rattle.fisca_syntax.proofs.Laws.{one_module}
-use Rattle.fisca_syntax.proofs.law.each_text_has_one_module.Goals as goal
-
-pub returns : goal.returns
-returns c = one_module

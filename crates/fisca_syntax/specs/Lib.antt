@@ -1,9 +1,0 @@
-pub mod Forms
-pub mod Grammar
-pub mod Headings
-pub mod Lines
-pub mod Modules
-pub mod Reading
-pub mod Shapes
-pub mod Starts
-pub mod Views

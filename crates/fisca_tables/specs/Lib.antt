@@ -1,8 +1,0 @@
-pub mod FormulaLines
-pub mod Known
-pub mod KnownEntities
-pub mod KnownEnums
-pub mod KnownNames
-pub mod KnownRoles
-pub mod KnownVariables
-pub mod Spelling

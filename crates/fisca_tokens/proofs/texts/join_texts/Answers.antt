@@ -1,6 +1,0 @@
-use Rattle.std.proofs.Common.{rules}
-use Rattle.fisca_tokens.proofs.Beside.{joins_all}
-use Rattle.fisca_tokens.proofs.texts.join_texts.Goals as goal
-
-pub returns : goal.returns
-returns c = joins_all _ (λ f u t b g u' t' k. search rules) (λ f u t b g u' t' k. search rules) (λ f u t b g u' t' k. search rules) _ _ _ c.dedup_by.ensures.filtered

@@ -1,4 +1,0 @@
-pub mod Came
-pub mod Formulas
-pub mod Named
-pub mod Steps

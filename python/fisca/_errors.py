@@ -1,0 +1,90 @@
+"""What the program tells on standard error, as exceptions."""
+from __future__ import annotations
+
+import re
+from typing import Dict, Optional, Type
+
+REFUSED = re.compile(r"fisca: (?:(.*):(\d+): )?(\w+)", re.DOTALL)
+NO_VALUE = re.compile(r"fisca: (?:position (\d+): )?(\w+) (\S+) (.*) (\S+)", re.DOTALL)
+# the characters of a path that the program shows by their numbers
+CONTROL = re.compile("[\0-\x1f\x7f-\x9f]")
+FAILED = re.compile(r"fisca: (?:cannot list (.*)|(.*): cannot read)", re.DOTALL)
+
+
+class FiscaError(Exception):
+    """The program ended with neither a result nor one of the faults below, as on a wrong command line.
+
+    `text` is what it told on standard error, for a fault below its one line, and `status` its exit status, or below 0
+    the number of the signal that ended it.
+    """
+
+    def __init__(self, text: str, status: int, handed: Optional[str] = None) -> None:
+        # all arguments are kept, so that a pool of processes can pass the exception on
+        super().__init__(text, status, handed)
+        self.text = text
+        self.status = status
+
+    def __str__(self) -> str:
+        return self.text
+
+
+class Refused(FiscaError):
+    """A rule file, the file of the command, an axis, a condition or a position is refused (status 3).
+
+    `word` is the program's word, which docs/LANGUAGE.md explains. `path` is the file: a rule file by its path below
+    the folder of the rules, the file of the command as it was named, a control character as `\\x0a`. `line` counts
+    from 1. Both are None where no file is told, and of what was handed over as Python data, which is all on one line.
+    """
+
+    def __init__(self, text: str, status: int, handed: Optional[str] = None) -> None:
+        super().__init__(text, status, handed)
+        found = REFUSED.fullmatch(text)
+        is_told = found is not None and found[1] is not None and found[1] != shown(handed)
+        self.path: Optional[str] = found[1] if found and is_told else None
+        self.line: Optional[int] = int(found[2]) if found and is_told else None
+        self.word: str = found[3] if found else text
+
+
+class NoValue(FiscaError):
+    """A column or a condition has no value (status 4).
+
+    `word` is the program's word. `variable`, `member` and `period` are the key that it is told of, which need not be
+    the column's own. `position` is where a run met it, and None of `calc`.
+    """
+
+    def __init__(self, text: str, status: int, handed: Optional[str] = None) -> None:
+        super().__init__(text, status, handed)
+        found = NO_VALUE.fullmatch(text)
+        self.position: Optional[int] = int(found[1]) if found and found[1] else None
+        self.word: str = found[2] if found else text
+        self.variable: str = found[3] if found else ""
+        self.member: str = found[4] if found else ""
+        self.period: str = found[5] if found else ""
+
+
+class Failed(FiscaError):
+    """A file or folder could not be read, or the output not be written (status 5). `path` is the file or folder."""
+
+    def __init__(self, text: str, status: int, handed: Optional[str] = None) -> None:
+        super().__init__(text, status, handed)
+        found = FAILED.fullmatch(text)
+        self.path: Optional[str] = (found[1] or found[2]) if found else None
+
+
+class OutOfMemory(FiscaError):
+    """The program was given no memory (status 6)."""
+
+
+def shown(path: Optional[str]) -> Optional[str]:
+    """A path as the program shows it."""
+    return path and CONTROL.sub(lambda found: f"\\x{ord(found[0]):02x}", path)
+
+
+KINDS: Dict[int, Type[FiscaError]] = {3: Refused, 4: NoValue, 5: Failed, 6: OutOfMemory}
+
+
+def error_of(told: bytes, status: int, handed: Optional[str]) -> FiscaError:
+    """The exception of what was told and the exit status; `handed` is the file that Python data was written to."""
+    text = told.decode(errors="replace")
+    text = text[:-1] if text.endswith("\n") else text
+    return KINDS.get(status, FiscaError)(text or f"the program ended with status {status}", status, handed)

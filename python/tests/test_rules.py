@@ -1,0 +1,184 @@
+"""check, calc and test: what they give, over the repository's rules and small ones."""
+import datetime
+from decimal import Decimal
+from fractions import Fraction
+
+import pytest
+from conftest import TOP
+
+import fisca
+
+STORED = sorted(TOP.glob("examples/*/*.stdout")) + sorted(TOP.glob("tests/rules/*/*.stdout"))
+
+
+def texts(values):
+    """Values as the program writes them."""
+    return [str(it).lower() if isinstance(it, bool) else it if isinstance(it, str) else decimal(it) for it in values]
+
+
+def decimal(number):
+    """A number as the program writes it."""
+    below = number.denominator
+    for factor in (2, 5):
+        while below % factor == 0:
+            below //= factor
+    return str(number) if below > 1 else format(Decimal(number.numerator) / number.denominator, "f")
+
+
+TEXTS = ["0", "7", "-7", "0.5", "-0.5", "12.25", "1/3", "-22/7", "-0.000000000000000001", "9223372036854775807"]
+
+
+@pytest.mark.parametrize("text", TEXTS)
+def test_numbers_are_read(text):
+    found = fisca._values.value_of(text)
+    assert (found, type(found)) == (Fraction(text), Fraction)
+
+
+def test_other_values_are_read():
+    assert [fisca._values.value_of(it) for it in ("true", "false", "tenant", "_1")] == [True, False, "tenant", "_1"]
+
+
+def test_check(housing, small):
+    assert housing.check() == (2, 12, 11)
+    assert small.check() == fisca.Counts(entities=1, variables=4, parameters=0)
+
+
+@pytest.mark.parametrize("stored", [it for it in STORED if it.stem in ("family", "calc")], ids=str)
+def test_calc_gives_the_stored_lines(stored):
+    found = fisca.Rules(stored.parent).calc(stored.with_suffix(".yaml"))
+    lines = ["\t".join([it.variable, it.member, it.period, *texts([it.value])]) for it in found]
+    assert lines == stored.read_text().splitlines()
+
+
+@pytest.mark.parametrize("stored", [it for it in STORED if it.stem in ("grid", "run")], ids=str)
+def test_run_gives_the_stored_lines(stored):
+    run = fisca.Rules(stored.parent).run(stored.with_suffix(".yaml"))
+    lines = ["\t".join([str(it.position), *texts(it.axes), *texts(it.columns)]) for it in run]
+    assert [*lines, "end"] == stored.read_text().splitlines()
+    assert run.more is None
+
+
+@pytest.mark.parametrize("stored", [it for it in STORED if it.stem == "tests"], ids=str)
+def test_test_gives_the_stored_lines(stored):
+    found = fisca.Rules(stored.parent).test(stored.with_suffix(".yaml"))
+    lines = []
+    for it in found:
+        lines += [f"{'ok' if it.passed else 'failed'} {it.name}", *(f"  {detail}" for detail in it.details)]
+    passed = sum(it.passed for it in found)
+    assert [*lines, f"passed {passed}, failed {len(found) - passed}"] == stored.read_text().splitlines()
+
+
+def test_calc_of_a_dict(small):
+    said = {
+        "period": "2017-01",
+        "input": {"persons": {"Ann": {"salary": 3, "choice": "two"}, "Bob": {"salary": Decimal("0.10")}}},
+        "columns": ["share", "is_high", "choice", "share#1", "salary#1", "choice#1"],
+    }
+    found = small.calc(said)
+    assert found[0] == fisca.Amount("share", "Ann", "2017-01", Fraction(1, 3))
+    assert [it.value for it in found] == [Fraction(1, 3), True, "two", 10, Fraction(1, 10), "one"]
+    assert [type(it.value) for it in found[:3]] == [Fraction, bool, str]
+    assert {it.member for it in found} == {"Ann", "Bob"}
+
+
+def test_calc_of_one_column_and_of_none(small):
+    assert small.calc({"period": "2017-01", "columns": "salary"}) == [("salary", "person", "2017-01", 0)]
+    assert small.calc({}) == []
+
+
+@pytest.mark.parametrize("number", [1e-7, Fraction(1, 8), Decimal("1E+3"), 12345678901234, -0.1, 7])
+def test_numbers_are_handed_over_exactly(small, number):
+    said = {"period": "2017-01", "input": {"salary": number}, "columns": "salary"}
+    wanted = Fraction(repr(number)) if isinstance(number, float) else Fraction(number)
+    assert small.calc(said)[0].value == wanted
+
+
+@pytest.mark.parametrize("number", [Fraction(1, 3), float("nan"), float("inf"), Decimal("NaN")])
+def test_numbers_without_a_decimal_are_refused(small, number):
+    with pytest.raises(ValueError):
+        small.calc({"input": {"salary": number}})
+
+
+@pytest.mark.parametrize("data", [{1, 2}, b"text", 1j, object()])
+def test_other_data_is_refused(small, data):
+    with pytest.raises(TypeError):
+        small.calc({"input": {"salary": data}})
+    with pytest.raises(TypeError):
+        small.calc({"input": {(1, 2): 3}})
+
+
+NAMES = ["Zoë", "a b", 'a "b"', "a\\b", "a: b # c", "\U0001f600", "\b\f\x00\x7f", "a\tb", "\r\u2028\x85", ""]
+
+
+@pytest.mark.parametrize("name", NAMES)
+def test_names_of_members_come_back(small, name):
+    said = {"period": "2017-01", "input": {"persons": {name: {"salary": 1}}}, "columns": ["share", "salary"]}
+    if not name:
+        with pytest.raises(fisca.Refused):
+            small.calc(said)
+        return
+    assert [it.member for it in small.calc(said)] == [name, name]
+
+
+def test_a_name_with_a_line_break_is_never_read_wrongly(small):
+    name = "a\t2017-01\t1\nsalary\tb"
+    said = {"period": "2017-01", "input": {"persons": {name: {"salary": 1}}}, "columns": ["salary"]}
+    with pytest.raises(ValueError):
+        small.calc(said)
+
+
+def test_keys_may_be_years_and_days(housing):
+    said = {"input": {"savings": {2025: 20000}, "rent": {"2025-03": 500}}, "columns": "passes_means_test@2025-03"}
+    assert housing.calc(said)[0].value is True
+    with pytest.raises(fisca.Refused):
+        housing.calc({"input": {"savings": {datetime.date(2025, 1, 1): 1}}})
+
+
+def test_test_of_a_list(small):
+    found = small.test(
+        [
+            {"name": "right", "period": "2017-01", "input": {"salary": 4}, "output": {"share": 0.25}},
+            {"period": "2017-01", "input": {"salary": 4}, "output": {"share": 0.5, "is_high": False}},
+            {"name": "none", "period": "2017-01", "output": {"share": 1}},
+        ]
+    )
+    assert [(it.name, it.passed) for it in found] == [("right", True), ("test 2", False), ("none", False)]
+    assert found[0].details == ()
+    assert found[1].details == (
+        "share person 2017-01: expected 0.5, got 0.25",
+        "is_high person 2017-01: expected false, got true",
+    )
+    assert found[2].details == ("share person 2017-01: ZeroDivisor share person 2017-01",)
+    assert small.test([]) == []
+
+
+def test_names_of_tests_with_line_breaks(small):
+    test = {"period": "2017-01", "output": {"salary": 0}}
+    assert [it.name for it in small.test([{**test, "name": "a\nb"}, test])] == ["a\nb", "test 2"]
+    with pytest.raises(ValueError):
+        small.test([{**test, "name": "a\nok b"}])
+
+
+def test_a_folder_that_looks_like_an_option(small, tmp_path, monkeypatch):
+    monkeypatch.chdir(tmp_path)
+    (tmp_path / "small").rename(tmp_path / "--help")
+    assert fisca.Rules("--help").check().variables == 4
+
+
+def test_the_program_is_found(small, tmp_path, monkeypatch):
+    own = fisca.Rules(small.folder)
+    named = tmp_path / "bin" / "fisca"
+    named.parent.mkdir()
+    named.write_text("#!/bin/sh\necho entities 7, variables 8, parameters 9\n")
+    named.chmod(0o755)
+    monkeypatch.setenv("FISCA", str(named))
+    assert own.check().entities == 7
+    monkeypatch.delenv("FISCA")
+    monkeypatch.setenv("PATH", f"{named.parent}:/usr/bin:/bin")
+    assert own.check().entities == 7
+    monkeypatch.setenv("PATH", str(tmp_path / "nowhere"))
+    monkeypatch.setattr("fisca._program.CHECKOUT", tmp_path)
+    with pytest.raises(FileNotFoundError):
+        own.check()
+    (tmp_path / "crates.txt").touch()
+    assert own.check().parameters == 9

@@ -1,5 +1,5 @@
 #!/usr/bin/env python3
-"""bin/edits.py [NAME..]: tries the must-fail edits of these crates, or of all.
+"""bin/edits.py [NAME..]: tries the must-fail edits of these crates, or of all. bin/edits.py --stand: only looks whether they still stand.
 
 A must-fail edit, crates/NAME/must-fail/*.edit, puts a wrong body in place of a right one. The prover has to refuse the very function
 that the edit changes, by a clause of its own, and not because a name is gone. First these crates are checked as they stand, which
@@ -12,6 +12,10 @@ edit of a body, so whether another function is proved does not hang on it.
 Where such a check does not say of the very function that it is not proved, the edit is tried again with fewer beside it, and at last
 alone. An edit of a constant asks for the functions that name it, one of which has to be refused. A line tells of each edit, and the
 last one counts them.
+
+With --stand nothing is proved, and it takes seconds: an edit stands where each 'old:' text is in its file once and in a body, and where
+each name that it takes from another crate, as fisca_model::Value, is one that this crate's lib.rt hands out. The last line is 'N passed,
+M failed'.
 """
 import collections
 import concurrent.futures
@@ -38,6 +42,9 @@ REFUSED = re.compile(r": (not proved|no proof: expected answers in )")
 HEAD = re.compile(r"^( *)(?:pub(?:\(\w+\))? )?fn (\w+)", re.M)
 IMPL = re.compile(r"^impl(?:<([^>]*)>)? (?:(?:\w+::)*(\w+)(?:<(.*?)>)? for )?(?:\w+::)*(\w+)", re.M)
 NAME = re.compile(r"(?<![\w'])\w+(?!\w*::)")
+# a name of another crate, and those that a crate's lib.rt hands out
+FOREIGN = re.compile(r"\b(fisca_\w+)::(\w+)")
+HANDED_OUT = re.compile(r"^pub (?:use ([^;]+);|(?:struct|enum|trait|type|const|fn|mod) (\w+))", re.M)
 TYPE = re.compile(r"^(?:pub(?:\(\w+\))? )?(?:struct|enum) (\w+)", re.M)
 ATTRIBUTES = re.compile(r"(?:^ *#\[.*\]\n)*\Z", re.M)
 CYCLE = re.compile(r"#\[cycle\((\w+)\)\]")
@@ -336,6 +343,36 @@ def attempts(name, top, tell):
     return refused
 
 
+def handed_out(crate):
+    """The names that a crate's lib.rt hands out."""
+    found = HANDED_OUT.findall((TOP / "crates" / crate / "src" / "lib.rt").read_text())
+    return {name for used, own in found for name in [own, *re.findall(r"\w+", used)] if name}
+
+
+def fallen(edit, texts, types, known):
+    """Why an edit of a crate that has these texts and types does not stand. Nothing where it does."""
+    try:
+        changes(edit, texts, types)
+    except (OSError, ValueError) as error:
+        return str(error)
+    news = (line for line in edit.read_text().split("\n") if line.startswith("new:"))
+    gone = [f"{crate}::{name}" for line in news for crate, name in FOREIGN.findall(line) if crate not in known or name not in handed_out(crate)]
+    return f"no crate hands out {gone[0]}" if gone else ""
+
+
+def look(known):
+    """Tells of each edit that does not stand. Answers how many do, and how many do not."""
+    passed = failed = 0
+    for name in known:
+        texts, types = sources_of(TOP / "crates" / name) if edits_of(name) else ({}, {})
+        for edit in edits_of(name):
+            why = fallen(edit, texts, types, known)
+            passed, failed = passed + (not why), failed + bool(why)
+            if why:
+                print(f"must-fail {name}/{edit.name}: BAD EDIT: {why}")
+    return passed, failed
+
+
 def workers():
     """How many checks of edits fit side by side on this machine."""
     memory = os.sysconf("SC_PAGE_SIZE") * os.sysconf("SC_PHYS_PAGES")
@@ -368,6 +405,10 @@ def say(line):
 
 
 def main(words):
+    if words == ["--stand"]:
+        passed, failed = look(crates())
+        print(f"{passed} passed, {failed} failed")
+        return int(failed != 0)
     names = words or [name for name in crates() if edits_of(name)]
     unknown = [name for name in names if name not in crates()]
     if unknown:

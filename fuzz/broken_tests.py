@@ -128,7 +128,7 @@ def wrong_members(first, home):
 
 def wrong_outputs(test):
     """Outputs that the test may not have."""
-    persons, home = test.scene.members["persons"], quoted(test.scene.members["households"][0])
+    persons, home = test.drawn.members["persons"], quoted(test.drawn.members["households"][0])
     first, count = quoted(persons[0]), len(persons)
     wrong = WRONG_OUTPUTS + [
         ["output:", "  salary:", f"    2017-01: {MARK}[" + ", ".join(["1"] * (count + 1)) + "]"],

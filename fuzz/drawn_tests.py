@@ -77,7 +77,7 @@ FAMILIES = {
 }
 
 
-class Scene:
+class DrawnInput:
     """What is given: the lines of the input, and the names of the members of each kind."""
 
     def __init__(self, lines, persons, households):
@@ -104,7 +104,7 @@ def pairs(lot, variables):
 
 
 def family(lot, form):
-    """A scene of three persons in households."""
+    """An input of three persons in households."""
     names = lot.choice([["Ann", "Bob", "Cid"], ["Ann", '"B o b"', "Zoë"]])
     lines = ["input:", "  persons:"] + [f"    {name}: {{{', '.join(pairs(lot, PERSONAL))}}}" for name in names]
     names = [name.strip('"') for name in names]
@@ -120,23 +120,23 @@ def family(lot, form):
         split = lines.index("  households:")
         lines = lines[:1] + lines[split:] + lines[1:split]
     # who is named by no household has one of the same name behind those
-    return Scene(lines, names, homes + [names[place] for place in free])
+    return DrawnInput(lines, names, homes + [names[place] for place in free])
 
 
-def drawn_scene(lot):
-    """A scene of some form."""
+def drawn_input(lot):
+    """An input of some form."""
     form = lot.choice(["family", "family", "family", "alone", "alone", "nothing", "singular", "two homes", "twins"])
     if form == "nothing":
-        return Scene(lot.choice([[], ["input:"], ["input: ~"], ["input: {}"]]), ["person"], ["person"])
+        return DrawnInput(lot.choice([[], ["input:"], ["input: ~"], ["input: {}"]]), ["person"], ["person"])
     if form == "alone":
         said = pairs(lot, PERSONAL + SHARED)
         is_block = said and lot.random() < 0.5
         lines = ["input:", *(f"  {pair}" for pair in said)] if is_block else [f"input: {{{', '.join(said)}}}"]
-        return Scene(lines, ["person"], ["person"])
+        return DrawnInput(lines, ["person"], ["person"])
     if form == "singular":
         home = ", ".join(["parents: person", *pairs(lot, SHARED)])
         person = ", ".join(pairs(lot, PERSONAL))
-        return Scene(["input:", f"  person: {{{person}}}", f"  household: {{{home}}}"], ["person"], ["household"])
+        return DrawnInput(["input:", f"  person: {{{person}}}", f"  household: {{{home}}}"], ["person"], ["household"])
     return family(lot, form)
 
 
@@ -234,7 +234,7 @@ class Test:
 
     def __init__(self):
         self.sections, self.outputs, self.found = {}, [], []
-        self.margins, self.scene, self.period, self.name = (None, None), None, None, None
+        self.margins, self.drawn, self.period, self.name = (None, None), None, None, None
 
     def expects(self, lot, values, entity, variable, member, period):
         """One output; answers its scalar."""
@@ -289,7 +289,7 @@ def direct_lines(lot, test, values):
     """Outputs by variable: of all members a list, or one scalar."""
     lines = []
     for entity, variable in lot.sample([(e, v) for e in VARIABLES for v in VARIABLES[e]], lot.randint(0, 4)):
-        count, said = len(test.scene.members[entity]), []
+        count, said = len(test.drawn.members[entity]), []
         for written, plain in dated(lot, test, variable):
             if lot.random() < 0.5:
                 scalars = [test.expects(lot, values, entity, variable, member, plain) for member in range(count)]
@@ -309,7 +309,7 @@ def output_lines(lot, test, values):
         return below("output", direct_lines(lot, test, values), 0)
     lines = []
     for entity in lot.sample(["persons", "households"], lot.randint(1, 2)):
-        names = test.scene.members[entity]
+        names = test.drawn.members[entity]
         if len(names) == 1 and lot.random() < 0.5:
             lines += below(entity[:-1], member_lines(lot, test, values, entity, 0, 4), 2)
             continue
@@ -339,8 +339,8 @@ def drawn_sections(lot, test, values):
         sections["description"] = lot.choice(DESCRIPTIONS)
     if lot.random() < 0.2:
         sections["keywords"] = lot.choice(KEYWORDS)
-    if test.scene.lines:
-        sections["input"] = test.scene.lines
+    if test.drawn.lines:
+        sections["input"] = test.drawn.lines
     sections["output"] = output_lines(lot, test, values)
     return sections
 
@@ -348,10 +348,10 @@ def drawn_sections(lot, test, values):
 def drawn_test(fuzz):
     """A test, with the values of what it expects."""
     lot, test = fuzz.lot, Test()
-    test.scene = drawn_scene(lot)
+    test.drawn = drawn_input(lot)
     test.period = lot.choice([*MONTHS, *MONTHS, "2017", None])
     test.margins = tuple(lot.choice(MARGINS) if lot.random() < 0.4 else None for _margin in range(2))
-    values = Values(fuzz, ([f"period: {test.period}"] if test.period else []) + test.scene.lines)
+    values = Values(fuzz, ([f"period: {test.period}"] if test.period else []) + test.drawn.lines)
     sections = drawn_sections(lot, test, values)
     keys = list(sections)
     lot.shuffle(keys)
@@ -379,7 +379,7 @@ def report(tests):
         for output, found in zip(test.outputs, test.found):
             told = verdict(test.margins, output.expected, found)
             if told is not None:
-                member = test.scene.members[output.entity][output.member]
+                member = test.drawn.members[output.entity][output.member]
                 lines.append(f"  {output.variable} {member} {output.period}: {told}\n")
         passed += not lines
         text += ("failed " if lines else "ok ") + title(test.name, number) + "\n" + "".join(lines)

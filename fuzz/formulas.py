@@ -2,9 +2,10 @@
 fractions that stands here.
 
 Formulas have literals, inputs of other periods, persons and groups, parameters, a scale, totals over members and roles,
-`where` and `select`, comparisons, and sums and products that are too wide. Wanted is the line with the value, or the
-fault with its key.
+`where` and `select`, comparisons, rounding, and sums and products that are too wide. Wanted is the line with the value,
+or the fault with its key.
 """
+import math
 import operator
 from fractions import Fraction
 
@@ -380,6 +381,22 @@ class Maker:
             return reckoned(x, as_number(right(who, person)))
         return form.format(a, b), reckon
 
+    def of_one(self, one):
+        """A number of another expression."""
+        a, inside = one("number")
+        places = self.lot.randint(-9, 9)
+        form, reckoned = self.lot.choice((
+            ("(-{})", lambda x: -x),
+            ("(-{})", lambda x: -x),
+            ("abs_({})", abs),
+            ("floor({})", lambda x: Fraction(math.floor(x))),
+            ("np.ceil({})", lambda x: Fraction(math.ceil(x))),
+            ("round_({})", lambda x: Fraction(round(x))),
+            (f"round_({{}}, {places})", lambda x: fit(round(x, places))),
+            (f"np.clip({{}}, -{places * places}, 50)", lambda x: min(max(x, Fraction(-places * places)), Fraction(50))),
+        ))
+        return form.format(a), lambda who, person: reckoned(as_number(inside(who, person)))
+
     def of_bools(self, draw, one):
         """A truth of other expressions."""
         if draw < 0.5:
@@ -397,8 +414,7 @@ class Maker:
     def of_numbers(self, draw, one):
         """A number of other expressions."""
         if draw < 0.45:
-            a, inside = one("number")
-            return f"(-{a})", lambda who, person: -as_number(inside(who, person))
+            return self.of_one(one)
         if draw < 0.52:
             a, inside = one("number")
             return f"parameters(p).scale.calc({a})", lambda who, person: taxed(as_number(inside(who, person)))

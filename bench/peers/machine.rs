@@ -71,7 +71,7 @@ mod machine {
         stack: Vec<Pending<'a>>,
         kept: Vec<Kept>,
     }
-    struct World<'r, 's, I> {
+    struct Context<'r, 's, I> {
         rules: &'r Rules,
         situation: &'s Situation<I>,
     }
@@ -148,7 +148,7 @@ mod machine {
             self.stack.push(Pending::Right(op, &p.right, at));
             Ok(Control::Eval(&p.left, at))
         }
-        fn turn<I>(&mut self, w: &World<'_, '_, I>, total: Total, x: &'a Totalled, next: usize, sum: Value, at: At) -> Result<Control<'a>, Step> {
+        fn turn<I>(&mut self, w: &Context<'_, '_, I>, total: Total, x: &'a Totalled, next: usize, sum: Value, at: At) -> Result<Control<'a>, Step> {
             match next_person(w.situation, self.frame.member, x.role, next) {
                 None => {
                     self.value = sum;
@@ -174,7 +174,7 @@ mod machine {
                 }
             }
         }
-        fn parameter<I>(&mut self, w: &World<'_, '_, I>, place: usize, moves: &[Move]) -> Result<Control<'a>, Step> {
+        fn parameter<I>(&mut self, w: &Context<'_, '_, I>, place: usize, moves: &[Move]) -> Result<Control<'a>, Step> {
             let Some(day) = moved(moves, self.frame.period).ok().and_then(day_of) else { return Err(Step::Failed(Own::PeriodOutOfRange)) };
             let o = match w.rules.parameters.value_at(place, day) {
                 Some(params::Value::Number(n)) => Ok(Value::Number(n)),
@@ -183,7 +183,7 @@ mod machine {
             };
             self.ends(o)
         }
-        fn choose<I>(&mut self, w: &World<'_, '_, I>, x: &'a Chosen, next: usize, place: usize, at: At) -> Result<Control<'a>, Step> {
+        fn choose<I>(&mut self, w: &Context<'_, '_, I>, x: &'a Chosen, next: usize, place: usize, at: At) -> Result<Control<'a>, Step> {
             match x.indices.get(next) {
                 None => self.parameter(w, x.places[place], &x.moves),
                 Some(index) => {
@@ -193,7 +193,7 @@ mod machine {
                 }
             }
         }
-        fn ask<I>(&mut self, w: &World<'_, '_, I>, ask: &Ask, at: At) -> Result<Control<'a>, Step> {
+        fn ask<I>(&mut self, w: &Context<'_, '_, I>, ask: &Ask, at: At) -> Result<Control<'a>, Step> {
             let Ok(period) = moved(&ask.moves, self.frame.period) else { return Err(Step::Failed(Own::PeriodOutOfRange)) };
             let member = match ask.whom {
                 Whom::Own => self.frame.member,
@@ -233,7 +233,7 @@ mod machine {
                 }
             }
         }
-        fn descend<I>(&mut self, w: &World<'_, '_, I>, node: &'a Node, at: At) -> Result<Control<'a>, Step> {
+        fn descend<I>(&mut self, w: &Context<'_, '_, I>, node: &'a Node, at: At) -> Result<Control<'a>, Step> {
             match node {
                 Node::Literal(n) => self.ends(Ok(Value::Number(*n))),
                 Node::Truth(t) => self.ends(Ok(Value::Bool(*t))),
@@ -284,7 +284,7 @@ mod machine {
                 }
             }
         }
-        fn ascend<I>(&mut self, w: &World<'_, '_, I>) -> Result<Control<'a>, Step> {
+        fn ascend<I>(&mut self, w: &Context<'_, '_, I>) -> Result<Control<'a>, Step> {
             let value = self.value;
             match self.stack.pop() {
                 None => unreachable!(),
@@ -358,7 +358,7 @@ mod machine {
             self.frame = frame;
             Control::Eval(returned, At { person: None, visible: locals.len() })
         }
-        fn run<I>(&mut self, w: &World<'_, '_, I>, control: Control<'a>) -> Step {
+        fn run<I>(&mut self, w: &Context<'_, '_, I>, control: Control<'a>) -> Step {
             let mut now = control;
             loop {
                 let next = match now {
@@ -397,7 +397,7 @@ mod machine {
         }
         if keys.contains(key) { Err(Fault::Cycle(*key)) } else { Ok(None) }
     }
-    fn at_hand<I: Inputs, R: Recall>(w: &World<'_, '_, I>, keys: &[Key], key: &Key, value: Value) -> Result<Known, Fault> {
+    fn at_hand<I: Inputs, R: Recall>(w: &Context<'_, '_, I>, keys: &[Key], key: &Key, value: Value) -> Result<Known, Fault> {
         if keys.len() < MOST_KEYS {
             Ok(Known { value, height: 1, reads: w.situation.inputs.wheels(key.variable) })
         } else if R::REMEMBERS {
@@ -406,7 +406,7 @@ mod machine {
             Err(too_long(keys, *key))
         }
     }
-    fn below<'r, I: Inputs, R: Recall>(w: &World<'r, '_, I>, recall: &mut R, m: &mut Machine<'r>, keys: &mut Vec<Key>, key: &Key) -> Result<Known, Fault> {
+    fn below<'r, I: Inputs, R: Recall>(w: &Context<'r, '_, I>, recall: &mut R, m: &mut Machine<'r>, keys: &mut Vec<Key>, key: &Key) -> Result<Known, Fault> {
         let variable = match w.rules.variables.get(key.variable) {
             Some(v) if fits(v.unit, key.period) => v,
             _ => return Err(Fault::PeriodMismatch(*key)),
@@ -425,7 +425,7 @@ mod machine {
             None => at_hand::<I, R>(w, keys, key, variable.default),
         }
     }
-    fn by_formula<'r, I: Inputs, R: Recall>(w: &World<'r, '_, I>, recall: &mut R, m: &mut Machine<'r>, keys: &mut Vec<Key>, v: &Variable, f: &'r Formula, key: &Key) -> Result<Known, Fault> {
+    fn by_formula<'r, I: Inputs, R: Recall>(w: &Context<'r, '_, I>, recall: &mut R, m: &mut Machine<'r>, keys: &mut Vec<Key>, v: &Variable, f: &'r Formula, key: &Key) -> Result<Known, Fault> {
         if keys.len() >= MOST_KEYS {
             return Err(if R::REMEMBERS { Fault::TooDeep(keys[0]) } else { too_long(keys, *key) });
         }
@@ -434,7 +434,7 @@ mod machine {
         keys.pop();
         r
     }
-    fn work_out<'r, I: Inputs, R: Recall>(w: &World<'r, '_, I>, recall: &mut R, m: &mut Machine<'r>, keys: &mut Vec<Key>, v: &Variable, f: &'r Formula, key: &Key) -> Result<Known, Fault> {
+    fn work_out<'r, I: Inputs, R: Recall>(w: &Context<'r, '_, I>, recall: &mut R, m: &mut Machine<'r>, keys: &mut Vec<Key>, v: &Variable, f: &'r Formula, key: &Key) -> Result<Known, Fault> {
         let mut control = m.begin(&f.locals, &f.result, v.kind, Frame { member: key.member, period: key.period });
         let (mut tallest, mut reads) = (0, w.situation.inputs.wheels(key.variable));
         loop {
@@ -491,7 +491,7 @@ mod machine {
             machine.stack.clear();
             machine.kept.clear();
             keys.clear();
-            let w = World { rules: self.rules, situation: self.situation };
+            let w = Context { rules: self.rules, situation: self.situation };
             below(&w, &mut self.recall, machine, keys, &key).map(|known| known.value)
         }
     }

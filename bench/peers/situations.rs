@@ -352,6 +352,37 @@ fn inputs(situation: &Situation) -> u64 {
     sum
 }
 
+/// The sum of what the members of the second kind have of a variable that has no inputs.
+fn absent(situation: &Situation) -> u64 {
+    let years = Period::read("year:2010:8").unwrap();
+    let mut sum = 0u64;
+    for member in 0..situation.names[1].len() as u32 {
+        for i in 0..96 {
+            let key = Key { variable: 2, member, period: years.sub(Unit::Month, i) };
+            if let Some(Value::Number(number)) = situation.inputs.get(&key) {
+                sum = sum.wrapping_add(number.numerator as u64);
+            }
+        }
+    }
+    sum
+}
+
+/// How many of the inputs of one member for the months of a year, which are given this value, are true then.
+fn turned(situation: &mut Situation, value: bool) -> u64 {
+    let year = Period::read("2010").unwrap();
+    let mut sum = 0;
+    for i in 0..12 {
+        let key = Key { variable: 0, member: 0, period: year.sub(Unit::Month, i) };
+        if let Some(input) = situation.inputs.get_mut(&key) {
+            *input = Value::Bool(value);
+        }
+        if let Some(Value::Bool(true)) = situation.inputs.get(&key) {
+            sum += 1;
+        }
+    }
+    sum
+}
+
 fn main() {
     let words: Vec<String> = std::env::args().skip(1).collect();
     let text = std::fs::read_to_string(format!("bench/out/situations/{}", words[1])).unwrap();
@@ -367,10 +398,17 @@ fn main() {
             checksum = inputs(&read.unwrap());
         }
     } else {
-        let start = Instant::now();
-        let read = situation(&tables, &tree).unwrap();
-        for _ in 0..count {
-            checksum = inputs(&read);
+        let mut start = Instant::now();
+        let mut read = situation(&tables, &tree).unwrap();
+        if words[0] != "input" {
+            start = Instant::now();
+        }
+        for run in 0..count {
+            checksum = match words[0].as_str() {
+                "absent" => checksum + absent(&read),
+                "turn" => checksum + turned(&mut read, run % 2 == 0),
+                _ => inputs(&read),
+            };
         }
         nanoseconds = start.elapsed().as_nanos();
     }

@@ -2,8 +2,9 @@
 use Rattle.std.proofs.Common.{◌≡◌, ℕ, zero, suc, ◌++◌, List, [], ◌∷◌, drop, Bool, true, false, ◌==◌, if◌then◌else◌, Option, Some, None, refl, ◌∙◌, ap}
 use Rattle.std.specs.List.{prefix_len}
 use Rattle.fisca_ast.specs.Strings.{in_comment}
-use Rattle.fisca_ast.specs.Strings.{is_quote, string_len}
-use Rattle.fisca_ast.specs.Contents.{said_first, said_within}
+use Rattle.fisca_ast.specs.Strings.{is_quote}
+use Rattle.fisca_ast.specs.Steps.Strings.{string_len}
+use Rattle.fisca_ast.specs.Steps.Contents.{said_first, said_within}
 use Rattle.fisca_ast.specs.ContentPieces.{quoted, front}
 
 abbrev then_said : (List ℕ → List ℕ) → Option (List ℕ × List ℕ) → List ℕ

@@ -4,7 +4,7 @@ use Rattle.std.specs.Prelude.{map}
 use Rattle.fisca_ast.specs.Tree.{Argument}
 use Rattle.fisca_ast.specs.Views.{argument_view, series_of}
 use Rattle.fisca_ast.specs.declared.tree.Argument.{Argument as Given}
-use Rattle.fisca_ast.specs.Groups.{alone}
+use Rattle.fisca_ast.specs.Steps.Groups.{alone}
 
 with_comma : (xs : List Argument) → None ≡ alone (series_of true xs)
 with_comma [] = refl

@@ -2,8 +2,9 @@
 use Rattle.std.specs.Prelude.{ℕ, List, [], ◌∷◌, drop, take, ◌==◌, if◌then◌else◌, Option, Some, None}
 use Rattle.std.specs.List.{prefix_len}
 use Rattle.fisca_ast.specs.Strings.{in_comment}
-use Rattle.fisca_ast.specs.Strings.{is_quote, string_len}
-use Rattle.fisca_ast.specs.Contents.{between_quotes}
+use Rattle.fisca_ast.specs.Strings.{is_quote}
+use Rattle.fisca_ast.specs.Steps.Strings.{string_len}
+use Rattle.fisca_ast.specs.Steps.Contents.{between_quotes}
 
 abbrev pub quoted : List ℕ → Option ℕ → Option (List ℕ × List ℕ)
 quoted t (Some n) = Some (between_quotes (take n t), drop n t)

@@ -1,10 +1,9 @@
 pub mod ContentPieces
-pub mod Contents
 pub mod Faults
-pub mod Groups
 pub mod ModuleViews
 pub mod Modules
 pub mod Outcomes
+pub mod Steps
 pub mod Strings
 pub mod Tree
 pub mod Views

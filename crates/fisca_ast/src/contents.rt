@@ -3,7 +3,7 @@ ghost use Rattle.std.specs.List.{prefix_len};
 ghost use Rattle.std.specs.Prelude.{◌≡◌, ◌≤◌, IfOk, length, option_map};
 ghost use Rattle.fisca_ast.specs.Strings.{in_comment};
 ghost use Rattle.fisca_ast.specs.ContentPieces.{front};
-ghost use Rattle.fisca_ast.specs.Contents as spec;
+ghost use Rattle.fisca_ast.specs.Steps.Contents as spec;
 
 use crate::strings::string_len;
 use std::alloc::{AllocError, Global};

@@ -1,7 +1,7 @@
 //! Parentheses around one expression.
 
 ghost use Rattle.std.specs.Prelude.{◌≡◌, map, option_map};
-ghost use Rattle.fisca_ast.specs.Groups as spec;
+ghost use Rattle.fisca_ast.specs.Steps.Groups as spec;
 ghost use Rattle.fisca_ast.specs.Views.{tree, argument_view, series_of, series_view};
 
 use crate::tree::{Argument, Arguments, Bracket, Expr};

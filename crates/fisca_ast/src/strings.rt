@@ -1,7 +1,7 @@
 //! Texts in quotes, in front of a text.
 
 ghost use Rattle.std.specs.Prelude.{◌≡◌, ◌≤◌, ◌<◌, length, false, IfSome};
-ghost use Rattle.fisca_ast.specs.Strings as spec;
+ghost use Rattle.fisca_ast.specs.Steps.Strings as spec;
 
 /// Whether the text begins with this byte.
 pub fn begins(text: &[u8], byte: u8) -> bool

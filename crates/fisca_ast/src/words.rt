@@ -1,7 +1,7 @@
 //! Words of Python that are no names here.
 
 ghost use Rattle.std.specs.Prelude.{◌≡◌};
-ghost use Rattle.fisca_ast.specs.Words as spec;
+ghost use Rattle.fisca_ast.specs.Steps.Words as spec;
 
 /// Whether one of Python's keywords of two letters.
 fn of_two(word: &[u8]) -> bool
@@ -74,7 +74,7 @@ fn of_more(word: &[u8]) -> bool
 }
 
 /// Whether one of Python's keywords. `None` counts as a name.
-#[tactic(auto, unfolding(crate::specs::Words::is_keyword))]
+#[tactic(auto, unfolding(crate::specs::Steps::Words::is_keyword))]
 fn is_keyword(word: &[u8]) -> bool
     ensures { result ≡ spec.is_keyword word.now }
 {

@@ -1,4 +1,4 @@
-pub mod AttributeForms
 pub mod EntityForms
 pub mod Fields
+pub mod Steps
 pub mod Values

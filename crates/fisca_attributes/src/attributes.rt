@@ -4,7 +4,7 @@ ghost use Rattle.std.specs.Prelude.{◌≡◌, map, option_map};
 ghost use Rattle.fisca_ast.specs.Views.{tree};
 ghost use Rattle.fisca_ast.specs.ModuleViews.{item};
 ghost use Rattle.fisca_ast.specs.Outcomes.{Gives};
-ghost use Rattle.fisca_attributes.specs.AttributeForms as spec;
+ghost use Rattle.fisca_attributes.specs.Steps.AttributeForms as spec;
 
 use crate::values::name_value;
 use fisca_ast::{ClassLine, Expr, FormulaKind, bare};
@@ -28,7 +28,7 @@ pub enum TypeName {
     Enum,
 }
 
-#[tactic(auto, unfolding(crate::specs::AttributeForms::type_named))]
+#[tactic(auto, unfolding(crate::specs::Steps::AttributeForms::type_named))]
 fn type_named(name: &[u8]) -> Result<TypeName, FormulaKind>
     ensures { result ≡ spec.type_named name.now }
 {
@@ -60,7 +60,7 @@ pub fn type_value(value: &Expr<'_>) -> Result<TypeName, FormulaKind>
     type_named(name_value(value)?.as_bytes())
 }
 
-#[tactic(auto, unfolding(crate::specs::AttributeForms::period_named))]
+#[tactic(auto, unfolding(crate::specs::Steps::AttributeForms::period_named))]
 fn period_named(name: &[u8]) -> Result<Unit, FormulaKind>
     ensures { result ≡ spec.period_named name.now }
 {
@@ -112,7 +112,7 @@ pub fn period_value(value: &Expr<'_>) -> Result<Unit, FormulaKind>
     }
 }
 
-#[tactic(auto, unfolding(crate::specs::AttributeForms::sharing_named))]
+#[tactic(auto, unfolding(crate::specs::Steps::AttributeForms::sharing_named))]
 fn sharing_named(name: &[u8]) -> Result<SetInput, FormulaKind>
     ensures { result ≡ spec.sharing_named name.now }
 {

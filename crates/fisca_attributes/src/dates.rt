@@ -2,10 +2,11 @@
 
 ghost use Rattle.std.specs.Prelude.{◌≡◌, Some, map};
 ghost use Rattle.std.specs.Result.{result_ok};
-ghost use Rattle.fisca_ast.specs.Groups.{bare as bare_tree};
+ghost use Rattle.fisca_ast.specs.Steps.Groups.{bare as bare_tree};
 ghost use Rattle.fisca_ast.specs.Views.{tree, argument_view};
 ghost use Rattle.fisca_ast.specs.Outcomes.{Gives};
 ghost use Rattle.fisca_attributes.specs.Values as spec;
+ghost use Rattle.fisca_attributes.specs.Steps.Values as steps;
 ghost use Rattle.fisca_time.specs.Instant.{instant_of_text, instant_if_real};
 
 use crate::dotted::Dotted;
@@ -28,7 +29,7 @@ fn instant_of(text: &[u8]) -> Option<Instant>
 
 /// A text with an instant.
 pub fn instant_value(alloc: Global, value: &Expr<'_>) -> Result<Instant, FormulaKind>
-    ensures { Gives (λ d. d) (spec.instant_value (tree value.now)) result }
+    ensures { Gives (λ d. d) (steps.instant_value (tree value.now)) result }
 {
     let text = text_value(alloc, value)?;
     instant_of(text.as_bytes()).ok_or(FormulaKind::BadAttribute)
@@ -36,7 +37,7 @@ pub fn instant_value(alloc: Global, value: &Expr<'_>) -> Result<Instant, Formula
 
 /// Two names with a point between them.
 pub fn dotted_value<'a>(value: &Expr<'a>) -> Result<Dotted<'a>, FormulaKind>
-    ensures { Gives (λ d. d) (spec.dotted_value (tree value.now)) result }
+    ensures { Gives (λ d. d) (steps.dotted_value (tree value.now)) result }
 {
     match bare(value) {
         Expr::Attribute(access) => Ok(Dotted {
@@ -56,7 +57,7 @@ pub fn dotted_value<'a>(value: &Expr<'a>) -> Result<Dotted<'a>, FormulaKind>
 
 /// Whole numbers without sign.
 fn each_whole(alloc: Global, items: &[Argument<'_>]) -> Result<Vec<u64>, FormulaKind>
-    ensures { Gives (λ v. v.items) (spec.each spec.whole_value (map argument_view items.now)) result }
+    ensures { Gives (λ v. v.items) (spec.each steps.whole_value (map argument_view items.now)) result }
 {
     let mut found = Vec::new(alloc);
     for argument in items {
@@ -77,7 +78,7 @@ fn day_of(year: u64, month: u64, day: u64) -> Option<Instant>
 
 /// A year, a month and a day.
 fn date_of_numbers(numbers: &[u64]) -> Result<Instant, FormulaKind>
-    ensures { result ≡ spec.date_of_numbers numbers.now }
+    ensures { result ≡ steps.date_of_numbers numbers.now }
 {
     match numbers {
         [year, month, day] => day_of(*year, *month, *day).ok_or(FormulaKind::BadAttribute),
@@ -87,7 +88,7 @@ fn date_of_numbers(numbers: &[u64]) -> Result<Instant, FormulaKind>
 
 /// Whether a call is one of `date`.
 fn is_date(called: &Expr<'_>) -> bool
-    ensures { result ≡ spec.is_date (bare_tree (tree called.now)) }
+    ensures { result ≡ steps.is_date (bare_tree (tree called.now)) }
 {
     match bare(called) {
         Expr::Name(word) => word.as_bytes() == b"date".as_slice(),
@@ -104,7 +105,7 @@ fn is_date(called: &Expr<'_>) -> bool
 
 /// `date(n, n, n)`, a day of the calendar.
 pub fn date_value(alloc: Global, value: &Expr<'_>) -> Result<Instant, FormulaKind>
-    ensures { Gives (λ d. d) (spec.date_value (tree value.now)) result }
+    ensures { Gives (λ d. d) (steps.date_value (tree value.now)) result }
 {
     match bare(value) {
         Expr::Applied(Suffix::Call, call) => {

@@ -1,13 +1,15 @@
 //! Entities and their roles, as they are written.
 
 ghost use Rattle.std.specs.Prelude.{◌≡◌, ◌==◌, [], false, length, map, option_map};
-ghost use Rattle.fisca_ast.specs.Groups.{bare as bare_tree};
+ghost use Rattle.fisca_ast.specs.Steps.Groups.{bare as bare_tree};
 ghost use Rattle.fisca_ast.specs.Views.{tree, argument_view};
 ghost use Rattle.fisca_ast.specs.ModuleViews.{assigned};
 ghost use Rattle.fisca_attributes.specs.EntityForms as spec;
+ghost use Rattle.fisca_attributes.specs.Steps.EntityForms as steps;
 ghost use Rattle.fisca_attributes.specs.Fields.{field_view};
 ghost use Rattle.fisca_ast.specs.Outcomes.{Gives};
-ghost use Rattle.fisca_attributes.specs.Values.{each, needed, or_else, perhaps, text_value as text_said, truth_value as truth_said, count_value as count_said, texts_value as texts_said, list_value};
+ghost use Rattle.fisca_attributes.specs.Values.{each, needed, or_else, perhaps, list_value};
+ghost use Rattle.fisca_attributes.specs.Steps.Values.{text_value as text_said, truth_value as truth_said, count_value as count_said, texts_value as texts_said};
 
 use crate::fields::{Field, Form, read_fields, value_of};
 use crate::lists::{items_of, list_of, positional, texts_value};
@@ -27,7 +29,7 @@ fn needed_text<'a>(alloc: Global, value: Option<&Expr<'a>>) -> Result<SourceText
 }
 
 /// A text that may be there.
-pub fn perhaps_text<'a>(
+fn perhaps_text<'a>(
     alloc: Global,
     value: Option<&Expr<'a>>,
 ) -> Result<Option<SourceText<'a>>, FormulaKind>
@@ -71,7 +73,7 @@ fn person_value(value: Option<&Expr<'_>>) -> Result<bool, FormulaKind>
 
 /// A role, by its fields.
 fn role_of_fields<'a>(alloc: Global, fields: &[Field<'_, 'a>]) -> Result<Role<'a>, FormulaKind>
-    ensures { Gives (λ r. r) (spec.role_of_fields (map field_view fields.now)) result }
+    ensures { Gives (λ r. r) (steps.role_of_fields (map field_view fields.now)) result }
 {
     let key = needed_text(alloc, value_of(b"key".as_slice(), fields))?;
     let plural = perhaps_text(alloc, value_of(b"plural".as_slice(), fields))?;
@@ -90,7 +92,7 @@ fn role_of_fields<'a>(alloc: Global, fields: &[Field<'_, 'a>]) -> Result<Role<'a
 }
 
 /// What stands in curly brackets.
-fn map_of<'e, 'a>(value: &'e Expr<'a>) -> Result<&'e [Argument<'a>], FormulaKind>
+pub fn map_of<'e, 'a>(value: &'e Expr<'a>) -> Result<&'e [Argument<'a>], FormulaKind>
     ensures { Gives (λ xs. map argument_view xs.now) (spec.mapped (tree value.now)) result }
 {
     match bare(value) {
@@ -109,7 +111,7 @@ fn map_of<'e, 'a>(value: &'e Expr<'a>) -> Result<&'e [Argument<'a>], FormulaKind
 
 /// A role: a map `{"key": "..", ..}`.
 fn role_value<'a>(alloc: Global, value: &Expr<'a>) -> Result<Role<'a>, FormulaKind>
-    ensures { Gives (λ r. r) (spec.role_value (tree value.now)) result }
+    ensures { Gives (λ r. r) (steps.role_value (tree value.now)) result }
 {
     let found = read_fields(alloc, Form::Role, map_of(value)?)?;
     role_of_fields(alloc, found.as_slice())
@@ -117,7 +119,7 @@ fn role_value<'a>(alloc: Global, value: &Expr<'a>) -> Result<Role<'a>, FormulaKi
 
 /// Roles in order.
 fn each_role<'a>(alloc: Global, items: &[Argument<'a>]) -> Result<Vec<Role<'a>>, FormulaKind>
-    ensures { Gives (λ v. v.items) (each spec.role_value (map argument_view items.now)) result }
+    ensures { Gives (λ v. v.items) (each steps.role_value (map argument_view items.now)) result }
 {
     let mut roles = Vec::new(alloc);
     for argument in items {
@@ -128,7 +130,7 @@ fn each_role<'a>(alloc: Global, items: &[Argument<'a>]) -> Result<Vec<Role<'a>>,
 
 /// A list of roles, or none.
 fn roles_value<'a>(alloc: Global, value: Option<&Expr<'a>>) -> Result<Roles<'a>, FormulaKind>
-    ensures { Gives (λ r. r) (or_else [] (list_value spec.role_value) (option_map (λ e. tree e.now) value.entry)) result }
+    ensures { Gives (λ r. r) (or_else [] (list_value steps.role_value) (option_map (λ e. tree e.now) value.entry)) result }
 {
     let items = match value {
         Some(found) => each_role(alloc, list_of(found)?)?,
@@ -154,7 +156,7 @@ fn entity_of_fields<'a>(
     constant: SourceText<'a>,
     fields: &[Field<'_, 'a>],
 ) -> Result<Entity<'a>, FormulaKind>
-    ensures { Gives (λ e. e) (spec.entity_of_fields constant.entry (map field_view fields.now)) result }
+    ensures { Gives (λ e. e) (steps.entity_of_fields constant.entry (map field_view fields.now)) result }
 {
     let key = needed_text(alloc, value_of(b"key".as_slice(), fields))?;
     let plural = needed_text(alloc, value_of(b"plural".as_slice(), fields))?;
@@ -178,7 +180,7 @@ fn entity_of_fields<'a>(
 
 /// The arguments of a call, perhaps in parentheses.
 fn arguments_of<'e, 'a>(value: &'e Expr<'a>) -> &'e [Argument<'a>]
-    ensures { map argument_view result.now ≡ spec.arguments_of (bare_tree (tree value.now)) }
+    ensures { map argument_view result.now ≡ steps.arguments_of (bare_tree (tree value.now)) }
 {
     match bare(value) {
         Expr::Applied(_, call) => items_of(&call.behind),
@@ -195,7 +197,7 @@ fn arguments_of<'e, 'a>(value: &'e Expr<'a>) -> &'e [Argument<'a>]
 
 /// `NAME = build_entity(..)`
 pub fn entity_of<'a>(alloc: Global, written: &Assignment<'a>) -> Result<Entity<'a>, FormulaKind>
-    ensures { Gives (λ e. e) (spec.entity_of (assigned written.now)) result }
+    ensures { Gives (λ e. e) (steps.entity_of (assigned written.now)) result }
 {
     let found = read_fields(alloc, Form::Entity, arguments_of(&written.value))?;
     entity_of_fields(

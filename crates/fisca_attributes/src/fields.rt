@@ -5,6 +5,7 @@ ghost use Rattle.fisca_ast.specs.Views.{tree, argument_view};
 ghost use Rattle.fisca_attributes.specs.Fields.{labels, field_view};
 ghost use Rattle.fisca_ast.specs.Outcomes.{Gives};
 ghost use Rattle.fisca_attributes.specs.Values as spec;
+ghost use Rattle.fisca_attributes.specs.Steps.Values as steps;
 
 use crate::values::text_value;
 use fisca_ast::{Argument, Expr, FormulaKind};
@@ -46,7 +47,7 @@ fn is_label(form: Form, label: &[u8]) -> bool
 
 /// The field that an argument is.
 fn field_of<'e, 'a>(alloc: Global, argument: &'e Argument<'a>) -> Result<Field<'e, 'a>, FormulaKind>
-    ensures { Gives field_view (spec.field (argument_view argument.now)) result }
+    ensures { Gives field_view (steps.field (argument_view argument.now)) result }
 {
     match argument {
         Argument::Positional(_) => Err(FormulaKind::BadAttribute),
@@ -63,7 +64,7 @@ fn field_of<'e, 'a>(alloc: Global, argument: &'e Argument<'a>) -> Result<Field<'
 
 /// Whether one of these has this label.
 fn is_labelled(label: &[u8], fields: &[Field<'_, '_>]) -> bool
-    ensures { result ≡ spec.is_labelled label.now (map field_view fields.now) }
+    ensures { result ≡ steps.is_labelled label.now (map field_view fields.now) }
 {
     for field in fields {
         if field.label.as_bytes() == label {
@@ -79,7 +80,7 @@ fn if_new<'e, 'a>(
     earlier: &[Field<'e, 'a>],
     field: Field<'e, 'a>,
 ) -> Result<Field<'e, 'a>, FormulaKind>
-    ensures { Gives field_view (spec.if_new (labels form) (map field_view earlier.now) (field_view field.entry)) result }
+    ensures { Gives field_view (steps.if_new (labels form) (map field_view earlier.now) (field_view field.entry)) result }
 {
     let known = is_label(form, field.label.as_bytes());
     if !known || is_labelled(field.label.as_bytes(), earlier) {
@@ -94,7 +95,7 @@ pub(crate) fn read_fields<'e, 'a>(
     form: Form,
     items: &'e [Argument<'a>],
 ) -> Result<Vec<Field<'e, 'a>>, FormulaKind>
-    ensures { Gives (λ v. map field_view v.items) (spec.fields_from (labels form) [] (map argument_view items.now)) result }
+    ensures { Gives (λ v. map field_view v.items) (steps.fields_from (labels form) [] (map argument_view items.now)) result }
 {
     let mut found = Vec::new(alloc);
     for argument in items {
@@ -106,7 +107,7 @@ pub(crate) fn read_fields<'e, 'a>(
 
 /// The value behind a label.
 pub(crate) fn value_of<'e, 'a>(label: &[u8], fields: &[Field<'e, 'a>]) -> Option<&'e Expr<'a>>
-    ensures { option_map (λ e. tree e.now) result ≡ spec.value_of label.now (map field_view fields.now) }
+    ensures { option_map (λ e. tree e.now) result ≡ steps.value_of label.now (map field_view fields.now) }
 {
     for field in fields {
         if field.label.as_bytes() == label {

@@ -12,6 +12,6 @@ mod values;
 pub use attributes::{TypeName, period_value, sharing_value, type_value, value_at};
 pub use dates::{date_value, dotted_value, instant_value};
 pub use dotted::Dotted;
-pub use entity_forms::{entity_of, perhaps_text};
+pub use entity_forms::{entity_of, map_of};
 pub use lists::{items_of, list_of, positional, references_value};
-pub use values::{name_value, number_value, text_value, truth_value};
+pub use values::{name_value, number_value, text_value, truth_value, whole_value};

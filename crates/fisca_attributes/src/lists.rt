@@ -4,6 +4,7 @@ ghost use Rattle.std.specs.Prelude.{◌≡◌, map};
 ghost use Rattle.fisca_ast.specs.Views.{tree, argument_view, series_of, series_view};
 ghost use Rattle.fisca_ast.specs.Outcomes.{Gives};
 ghost use Rattle.fisca_attributes.specs.Values as spec;
+ghost use Rattle.fisca_attributes.specs.Steps.Values as steps;
 
 use crate::values::text_value;
 use fisca_ast::{Argument, Arguments, Bracket, Expr, FormulaKind, bare};
@@ -38,7 +39,7 @@ pub fn positional<'e, 'a>(argument: &'e Argument<'a>) -> Result<&'e Expr<'a>, Fo
 
 /// Texts in quotes.
 fn each_text<'a>(alloc: Global, items: &[Argument<'a>]) -> Result<Vec<SourceText<'a>>, FormulaKind>
-    ensures { Gives (λ v. v.items) (spec.each spec.text_value (map argument_view items.now)) result }
+    ensures { Gives (λ v. v.items) (spec.each steps.text_value (map argument_view items.now)) result }
 {
     let mut texts = Vec::new(alloc);
     for argument in items {
@@ -67,7 +68,7 @@ pub fn list_of<'e, 'a>(value: &'e Expr<'a>) -> Result<&'e [Argument<'a>], Formul
 
 /// At least one text, in square brackets.
 pub fn texts_value<'a>(alloc: Global, value: &Expr<'a>) -> Result<Texts<'a>, FormulaKind>
-    ensures { Gives (λ t. t) (spec.texts_value (tree value.now)) result }
+    ensures { Gives (λ t. t) (steps.texts_value (tree value.now)) result }
 {
     let texts = each_text(alloc, list_of(value)?)?;
     if texts.is_empty() {
@@ -78,7 +79,7 @@ pub fn texts_value<'a>(alloc: Global, value: &Expr<'a>) -> Result<Texts<'a>, For
 
 /// A text, or a list or tuple of texts.
 pub fn references_value<'a>(alloc: Global, value: &Expr<'a>) -> Result<Texts<'a>, FormulaKind>
-    ensures { Gives (λ t. t) (spec.references_value (tree value.now)) result }
+    ensures { Gives (λ t. t) (steps.references_value (tree value.now)) result }
 {
     match bare(value) {
         Expr::Text(_) => {

@@ -3,7 +3,7 @@
 ghost use Rattle.std.specs.Prelude.{◌≡◌, Ok, map, option_map};
 ghost use Rattle.fisca_ast.specs.Views.{tree, argument_view, series_of};
 ghost use Rattle.fisca_ast.specs.Outcomes.{Gives};
-ghost use Rattle.fisca_attributes.specs.Values as spec;
+ghost use Rattle.fisca_attributes.specs.Steps.Values as spec;
 
 use fisca_ast::{Argument, Bracket, Expr, FormulaKind, Prefix, bare, content, is_name};
 use fisca_num::{Fraction, NumFault};
@@ -27,7 +27,7 @@ pub fn text_value<'a>(alloc: Global, value: &Expr<'a>) -> Result<SourceText<'a>,
     }
 }
 
-#[tactic(auto, unfolding(crate::specs::Values::truth_of))]
+#[tactic(auto, unfolding(crate::specs::Steps::Values::truth_of))]
 fn truth_of(word: &[u8]) -> Result<bool, FormulaKind>
     ensures { result ≡ spec.truth_of word.now }
 {
@@ -146,7 +146,7 @@ fn natural(number: Fraction) -> Result<u64, FormulaKind>
 }
 
 /// A whole number without sign.
-pub(crate) fn whole_value(value: &Expr<'_>) -> Result<u64, FormulaKind>
+pub fn whole_value(value: &Expr<'_>) -> Result<u64, FormulaKind>
     ensures { result ≡ spec.whole_value (tree value.now) }
 {
     natural(unsigned_value(value)?)

@@ -3,12 +3,12 @@ ghost use Rattle.std.specs.Prelude.{◌≡◌};
 ghost use Rattle.fisca_simulation.specs.Evaluators.{simulation_of};
 ghost use Rattle.fisca_evaluator.specs.Evaluators.{IsMemoryOf, marks_in, simulation_of as remembering_in};
 ghost use Rattle.fisca_rules.specs.Views.{rule_set};
-ghost use Rattle.fisca_situations.specs.Views.{situation as situation_view};
+ghost use Rattle.fisca_situations.specs.Steps.Views.{situation as situation_view};
 ghost use Rattle.fisca_simulation.specs.Sound.{InputsFit, IsSafeRules};
 
 use crate::params::{files_of, mixed};
 use crate::rules::rules_of;
-use crate::{Measured, list, show};
+use crate::{Measurement, list, show};
 use fisca_columns::CalcFile;
 use fisca_commands::calc_inputs_fit;
 use fisca_evaluator::{IndexRecall, PlainEvaluator as Remembering, Recall};
@@ -78,7 +78,7 @@ fn of_texts(
     files: &[SourceFile],
     text: &str,
     work: Work,
-) -> io::Result<Option<Measured>> {
+) -> io::Result<Option<Measurement>> {
     match rules_of(alloc, files) {
         Some(rules) => of_text(rt, alloc, &rules, text, work),
         None => Ok(None),
@@ -92,7 +92,7 @@ fn of_text(
     rules: &RuleSet<'_>,
     text: &str,
     work: Work,
-) -> io::Result<Option<Measured>>
+) -> io::Result<Option<Measurement>>
     requires { IsSafeRules (rule_set rules.now) }
 {
     match fisca_yaml::read(alloc, text) {
@@ -108,7 +108,7 @@ fn of_tree(
     rules: &RuleSet<'_>,
     tree: &Tree<'_>,
     work: Work,
-) -> io::Result<Option<Measured>>
+) -> io::Result<Option<Measurement>>
     requires { IsSafeRules (rule_set rules.now) }
 {
     calc_inputs_fit();
@@ -133,7 +133,7 @@ fn measured(
     situation: Situation,
     columns: &[Key],
     work: Work,
-) -> io::Result<Measured>
+) -> io::Result<Measurement>
     requires safe { IsSafeRules (rule_set rules.now) }
     requires fit { InputsFit (rule_set rules.now) (situation_view situation) }
 {
@@ -145,7 +145,7 @@ fn measured(
         forgotten(alloc, rules, situation, columns, rounds)
     };
     let nanoseconds = start.elapsed(rt)?.as_nanos();
-    Ok(Measured {
+    Ok(Measurement {
         nanoseconds,
         checksum,
     })

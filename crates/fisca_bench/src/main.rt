@@ -16,7 +16,7 @@ use std::alloc::Global;
 use std::{env, io};
 
 /// What a run of a benchmark gives: its time, and a checksum of its answers.
-pub struct Measured {
+pub struct Measurement {
     pub nanoseconds: u128,
     pub checksum: u64,
 }
@@ -75,8 +75,8 @@ fn list(rt: &impl Print) -> io::Result<()> {
 }
 
 /// Prints what was measured.
-fn show(rt: &impl Print, measured: Measured) -> io::Result<()> {
-    let Measured {
+fn show(rt: &impl Print, measured: Measurement) -> io::Result<()> {
+    let Measurement {
         nanoseconds,
         checksum,
     } = measured;

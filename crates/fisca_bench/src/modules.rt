@@ -1,5 +1,5 @@
 //! Reading of modules, which `bench/texts/modules` and `fuzz/run modules` write.
-use crate::{Measured, list, show};
+use crate::{Measurement, list, show};
 use fisca_ast::{
     Argument, Arguments, Assignment, ClassLine, Expr, Formula, Member, Slice, Statement,
 };
@@ -51,7 +51,7 @@ fn line_of(alloc: Global, text: &str) -> Result<String, AllocError> {
 }
 
 /// Reads a text so often. The checksum is of what the module has, with lines and lengths.
-fn measure(rt: &impl Clock, alloc: Global, text: &str, count: u64) -> io::Result<Measured> {
+fn measure(rt: &impl Clock, alloc: Global, text: &str, count: u64) -> io::Result<Measurement> {
     let mut checksum = 0;
     let start = Instant::now(rt)?;
     for _run in 0..count {
@@ -61,7 +61,7 @@ fn measure(rt: &impl Clock, alloc: Global, text: &str, count: u64) -> io::Result
         };
     }
     let nanoseconds = start.elapsed(rt)?.as_nanos();
-    Ok(Measured {
+    Ok(Measurement {
         nanoseconds,
         checksum,
     })

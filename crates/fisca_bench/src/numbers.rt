@@ -1,5 +1,5 @@
 //! Arithmetic, order and texts of fractions, on a table of operands that is gone over again and again.
-use crate::{Measured, list, show};
+use crate::{Measurement, list, show};
 use fisca_num::Fraction;
 use std::alloc::{AllocError, Global};
 use std::io;
@@ -60,7 +60,7 @@ fn measure(
     operation: &str,
     mix: Mix,
     rounds: u64,
-) -> io::Result<Option<Measured>> {
+) -> io::Result<Option<Measurement>> {
     let operands = Operands {
         pairs: pairs_of(alloc, mix)?,
         texts: texts_of(alloc, mix)?,
@@ -68,7 +68,7 @@ fn measure(
     let mut line = String::new(alloc);
     let start = Instant::now(rt)?;
     match gone_over(&operands, operation, rounds, &mut line) {
-        Some(checksum) => Ok(Some(Measured {
+        Some(checksum) => Ok(Some(Measurement {
             nanoseconds: start.elapsed(rt)?.as_nanos(),
             checksum,
         })),

@@ -3,7 +3,7 @@ ghost use Rattle.std.specs.Prelude.{◌<◌, length, IfSome, IsSome};
 ghost use Rattle.fisca_params.specs.Lookup.{scale_in};
 ghost use Rattle.fisca_params.specs.Tree.{content_at};
 
-use crate::{Measured, list, show};
+use crate::{Measurement, list, show};
 use fisca_num::Fraction;
 use fisca_params::{NodeId, NodeKind, ParamTree, ParamValue, SourceFile};
 use std::alloc::{AllocError, Global};
@@ -53,7 +53,7 @@ pub fn run(
     let checksum = checksum ^ told(&tree, files.as_slice());
     show(
         rt,
-        Measured {
+        Measurement {
             nanoseconds,
             checksum,
         },

@@ -1,6 +1,6 @@
 //! Reading, writing, moving, dividing, comparing and hashing periods, on a table of periods that is gone over again
 //! and again.
-use crate::{Measured, list, show};
+use crate::{Measurement, list, show};
 use fisca_time::{Period, Unit};
 use std::alloc::{AllocError, Global};
 use std::hash::{FoldHasher, Hash, Hasher};
@@ -40,11 +40,11 @@ fn measure(
     alloc: Global,
     operation: &str,
     rounds: u64,
-) -> io::Result<Option<Measured>> {
+) -> io::Result<Option<Measurement>> {
     let operands = operands_of(alloc)?;
     let start = Instant::now(rt)?;
     match gone_over(alloc, &operands, operation, rounds) {
-        Some(checksum) => Ok(Some(Measured {
+        Some(checksum) => Ok(Some(Measurement {
             nanoseconds: start.elapsed(rt)?.as_nanos(),
             checksum,
         })),

@@ -4,7 +4,7 @@ ghost use Rattle.fisca_rules.specs.Views.{rule_set};
 ghost use Rattle.fisca_simulation.specs.Sound.{IsSafeRules};
 
 use crate::params::files_of;
-use crate::{Measured, list, show};
+use crate::{Measurement, list, show};
 use fisca_ast::Module;
 use fisca_params::{ParamTree, SourceFile};
 use fisca_parser::read_module;
@@ -67,7 +67,12 @@ pub(crate) fn modules<'a>(alloc: Global, files: &'a [SourceFile]) -> Vec<Module<
 }
 
 /// Reads the modules so often, each time dropped outside the time. The checksum is of their statements.
-fn read(rt: &impl Clock, alloc: Global, files: &[SourceFile], count: u64) -> io::Result<Measured> {
+fn read(
+    rt: &impl Clock,
+    alloc: Global,
+    files: &[SourceFile],
+    count: u64,
+) -> io::Result<Measurement> {
     let mut checksum = 0;
     let mut nanoseconds = 0u128;
     for _run in 0..count {
@@ -76,7 +81,7 @@ fn read(rt: &impl Clock, alloc: Global, files: &[SourceFile], count: u64) -> io:
         nanoseconds = nanoseconds.saturating_add(start.elapsed(rt)?.as_nanos());
         checksum = statements(read.as_slice());
     }
-    Ok(Measured {
+    Ok(Measurement {
         nanoseconds,
         checksum,
     })
@@ -92,7 +97,12 @@ fn statements(modules: &[Module<'_>]) -> u64 {
 
 /// Builds the rule set so often, each time of modules and parameters that were read before, and dropped outside the time. The
 /// checksum is of its variables.
-fn build(rt: &impl Clock, alloc: Global, files: &[SourceFile], count: u64) -> io::Result<Measured> {
+fn build(
+    rt: &impl Clock,
+    alloc: Global,
+    files: &[SourceFile],
+    count: u64,
+) -> io::Result<Measurement> {
     let mut checksum = 0;
     let mut nanoseconds = 0u128;
     for _run in 0..count {
@@ -105,7 +115,7 @@ fn build(rt: &impl Clock, alloc: Global, files: &[SourceFile], count: u64) -> io
         nanoseconds = nanoseconds.saturating_add(start.elapsed(rt)?.as_nanos());
         checksum = built(rules);
     }
-    Ok(Measured {
+    Ok(Measurement {
         nanoseconds,
         checksum,
     })

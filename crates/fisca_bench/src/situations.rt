@@ -1,7 +1,7 @@
 //! Reading the situations that `bench/texts/situations` writes, and looking their inputs up.
 use crate::params::files_of;
 use crate::rules::rules_of;
-use crate::{Measured, list, show};
+use crate::{Measurement, list, show};
 use fisca_model::{Key, Value};
 use fisca_params::SourceFile;
 use fisca_situations::Situation;
@@ -13,8 +13,8 @@ use std::rt::{Clock, Files};
 use std::time::Instant;
 use std::{fs, io};
 
-/// `situations read|input NAME COUNT`: the time of reading a situation so often from its YAML tree, or of looking each of its
-/// inputs up so often.
+/// `situations read|input|absent|turn NAME COUNT`: the time of reading a situation so often from its YAML tree, of looking each of its
+/// inputs up so often, of looking for inputs that are not there, or of giving a few of them other values, as axes do.
 pub fn run(
     rt: &(impl Print + Clock + Files + Alloc),
     alloc: Global,
@@ -45,7 +45,7 @@ fn of_files(
     text: &str,
     operation: &str,
     count: u64,
-) -> io::Result<Option<Measured>> {
+) -> io::Result<Option<Measurement>> {
     match rules_of(alloc, files) {
         Some(rules) => of_text(rt, alloc, &rules.tables, text, operation, count),
         None => Ok(None),
@@ -60,7 +60,7 @@ fn of_text(
     text: &str,
     operation: &str,
     count: u64,
-) -> io::Result<Option<Measured>> {
+) -> io::Result<Option<Measurement>> {
     match fisca_yaml::read(alloc, text) {
         Ok(tree) => of_tree(rt, alloc, tables, &tree, operation, count),
         Err(_) => Ok(None),
@@ -75,10 +75,12 @@ fn of_tree(
     tree: &Tree<'_>,
     operation: &str,
     count: u64,
-) -> io::Result<Option<Measured>> {
+) -> io::Result<Option<Measurement>> {
     match operation {
         "read" => Ok(Some(read(rt, alloc, tables, tree, count)?)),
         "input" => Ok(Some(input(rt, alloc, tables, tree, count)?)),
+        "absent" => Ok(Some(absent(rt, alloc, tables, tree, count)?)),
+        "turn" => Ok(Some(turn(rt, alloc, tables, tree, count)?)),
         _ => Ok(None),
     }
 }
@@ -90,7 +92,7 @@ fn read(
     tables: &Tables<'_>,
     tree: &Tree<'_>,
     count: u64,
-) -> io::Result<Measured> {
+) -> io::Result<Measurement> {
     let mut checksum = 0;
     let mut nanoseconds = 0u128;
     for _run in 0..count {
@@ -101,7 +103,7 @@ fn read(
             checksum = inputs(&situation);
         }
     }
-    Ok(Measured {
+    Ok(Measurement {
         nanoseconds,
         checksum,
     })
@@ -114,7 +116,7 @@ fn input(
     tables: &Tables<'_>,
     tree: &Tree<'_>,
     count: u64,
-) -> io::Result<Measured> {
+) -> io::Result<Measurement> {
     let mut checksum = 0;
     let start = Instant::now(rt)?;
     if let Ok(situation) = Situation::read(alloc, tables, None, 1, tree) {
@@ -123,10 +125,90 @@ fn input(
         }
     }
     let nanoseconds = start.elapsed(rt)?.as_nanos();
-    Ok(Measured {
+    Ok(Measurement {
         nanoseconds,
         checksum,
     })
+}
+
+/// Looks so often for inputs of a variable that has none, behind the reading. The checksum is of what is found.
+fn absent(
+    rt: &impl Clock,
+    alloc: Global,
+    tables: &Tables<'_>,
+    tree: &Tree<'_>,
+    count: u64,
+) -> io::Result<Measurement> {
+    let (mut checksum, mut nanoseconds) = (0u64, 0u128);
+    if let Ok(situation) = Situation::read(alloc, tables, None, 1, tree) {
+        let start = Instant::now(rt)?;
+        for _run in 0..count {
+            checksum = checksum.wrapping_add(inputs_of(&situation, 2));
+        }
+        nanoseconds = start.elapsed(rt)?.as_nanos();
+    }
+    Ok(Measurement {
+        nanoseconds,
+        checksum,
+    })
+}
+
+/// The sum of what the members of the second kind have of a variable for the months of 2010 to 2017.
+fn inputs_of(situation: &Situation, variable: usize) -> u64 {
+    let mut sum = 0u64;
+    let Ok(years) = Period::read("year:2010:8") else {
+        return sum;
+    };
+    for member in 0..situation.members(1) {
+        sum = sum.wrapping_add(of_member(situation, years, variable, member));
+    }
+    sum
+}
+
+/// Gives the inputs of one member for the months of a year one value after another so often, and looks each up. The checksum counts those that are
+/// true.
+fn turn(
+    rt: &impl Clock,
+    alloc: Global,
+    tables: &Tables<'_>,
+    tree: &Tree<'_>,
+    count: u64,
+) -> io::Result<Measurement> {
+    let (mut checksum, mut nanoseconds) = (0u64, 0u128);
+    if let Ok(mut situation) = Situation::read(alloc, tables, None, 1, tree) {
+        let start = Instant::now(rt)?;
+        for run in 0..count {
+            checksum = checksum.wrapping_add(turned(&mut situation, run % 2 == 0));
+        }
+        nanoseconds = start.elapsed(rt)?.as_nanos();
+    }
+    Ok(Measurement {
+        nanoseconds,
+        checksum,
+    })
+}
+
+/// How many of the inputs that are given this value are true then.
+fn turned(situation: &mut Situation, value: bool) -> u64 {
+    let mut sum = 0u64;
+    let Ok(year) = Period::read("2010") else {
+        return sum;
+    };
+    let Ok(count) = year.sub_count(Unit::Month) else {
+        return sum;
+    };
+    for i in 0..count {
+        let key = Key {
+            variable: 0,
+            member: 0,
+            period: year.sub(Unit::Month, i),
+        };
+        situation.inputs.set(&key, Value::Bool(value));
+        if let Some(Value::Bool(true)) = situation.input(&key) {
+            sum = sum.wrapping_add(1);
+        }
+    }
+    sum
 }
 
 /// The sum of what the members of both kinds have for the months of 2010 to 2017: of both variables, which are declared in this order.

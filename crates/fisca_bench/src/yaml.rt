@@ -1,5 +1,5 @@
 //! Reading of YAML texts, which `bench/texts/yaml` writes.
-use crate::{Measured, list, show};
+use crate::{Measurement, list, show};
 use fisca_yaml::{Entry, Item, Tree, read};
 use std::alloc::Global;
 use std::rt::{Clock, Files};
@@ -24,7 +24,7 @@ pub fn run(
 }
 
 /// Reads a text so often. The checksum counts its scalars and keys.
-fn measure(rt: &impl Clock, alloc: Global, text: &str, count: u64) -> io::Result<Measured> {
+fn measure(rt: &impl Clock, alloc: Global, text: &str, count: u64) -> io::Result<Measurement> {
     let mut checksum = 0;
     let start = Instant::now(rt)?;
     for _run in 0..count {
@@ -34,7 +34,7 @@ fn measure(rt: &impl Clock, alloc: Global, text: &str, count: u64) -> io::Result
         };
     }
     let nanoseconds = start.elapsed(rt)?.as_nanos();
-    Ok(Measured {
+    Ok(Measurement {
         nanoseconds,
         checksum,
     })

@@ -1,18 +1,17 @@
 //! Axes put into situations.
 
-ghost use Rattle.fisca_commands.specs.Runs.{IsAsked};
-ghost use Rattle.fisca_run_file.specs.Views.{run_file as run_file_view};
-ghost use Rattle.fisca_yaml.specs.Views.{node};
+ghost use Rattle.fisca_rules.specs.Views.{rule_set};
+ghost use Rattle.fisca_simulation.specs.Sound.{IsSafeRules};
 
-use crate::fault::{Fault, malformed};
+use crate::fault::{CaseFault, malformed};
+use crate::runs::read_run;
 use crate::situations::{push_input, read_period, situation};
 use fisca_cases_base::{Written, number};
-use fisca_commands::start;
 use fisca_inputs::{Given, SituationFault};
 use fisca_model::Key;
 use fisca_num::Fraction;
 use fisca_rules::RuleSet;
-use fisca_run_file::RunFile;
+use fisca_run_file::{RunFile, RunRequest};
 use fisca_situations::{Situation, Slot, reading_of};
 use fisca_time::Period;
 use fisca_yaml::{Tree, read};
@@ -20,7 +19,7 @@ use std::alloc::Global;
 
 /// What an axis of `VARIABLE MEMBER PERIOD` moves in the situation of a default period and an input, which are the last two words: how many inputs are given
 /// then, and each period with what stands there, before and after the slot is turned to `VALUE`.
-pub fn axis(alloc: Global, rules: &RuleSet<'_>, words: &[String]) -> Result<String, Fault> {
+pub fn axis(alloc: Global, rules: &RuleSet<'_>, words: &[String]) -> Result<String, CaseFault> {
     let [variable, member, period, value, default, text] = words else {
         return Err(malformed());
     };
@@ -48,7 +47,7 @@ fn given_in(
     rules: &RuleSet<'_>,
     default: &str,
     text: &str,
-) -> Result<Vec<Given>, Fault> {
+) -> Result<Vec<Given>, CaseFault> {
     let tree = read(alloc, text)?;
     let reading = reading_of(alloc, &rules.tables, read_period(default)?, 1, &tree)?;
     let mut given = Vec::new(alloc);
@@ -62,7 +61,7 @@ fn push_inputs(
     shown: &mut Written,
     slot: &Slot,
     found: &Situation,
-) -> Result<(), Fault> {
+) -> Result<(), CaseFault> {
     for period in slot.periods.as_slice() {
         shown.push(", ");
         shown.push(period.text(alloc)?.as_str());
@@ -81,24 +80,21 @@ fn key_at(slot: &Slot, period: Period) -> Key {
 }
 
 /// Whether the axes of a file, put into its situation one after another, move what its slots move, and leave the inputs with which a run begins.
-pub fn are_put_in(alloc: Global, rules: &RuleSet<'_>, tree: &Tree<'_>, run: &RunFile) -> bool
-    requires { IsAsked rules.now (node tree.now) (run_file_view run.now) }
+pub fn are_put_in(alloc: Global, rules: &RuleSet<'_>, tree: &Tree<'_>) -> Result<bool, CaseFault>
+    requires { IsSafeRules (rule_set rules.now) }
 {
-    let Ok(begun) = start(alloc, rules, tree, run) else {
-        return false;
-    };
-    let Ok(mut again) = start(alloc, rules, tree, run) else {
-        return false;
-    };
+    let begun = read_run(alloc, rules, tree)?.start(alloc, &rules.tables)?;
+    let RunFile { situation, request } = read_run(alloc, rules, tree)?;
     let slots = begun.slots.as_slice();
-    match put_in(alloc, rules, run, slots, &mut again.situation) {
-        Ok(is_same) => {
+    let mut again = situation;
+    match put_in(alloc, rules, &request, slots, &mut again) {
+        Ok(is_same) => Ok(
             is_same
                 && slots
                     .iter()
-                    .all(|slot| have_same(slot, &begun.situation, &again.situation))
-        }
-        Err(_) => false,
+                    .all(|slot| have_same(slot, &begun.situation, &again)),
+        ),
+        Err(_) => Ok(false),
     }
 }
 
@@ -106,20 +102,20 @@ pub fn are_put_in(alloc: Global, rules: &RuleSet<'_>, tree: &Tree<'_>, run: &Run
 fn put_in(
     alloc: Global,
     rules: &RuleSet<'_>,
-    run: &RunFile,
+    request: &RunRequest,
     slots: &[Slot],
     situation: &mut Situation,
 ) -> Result<bool, SituationFault> {
     let mut given = Vec::new(alloc);
-    given.extend_from_slice(run.given.as_slice())?;
-    let mut is_same = slots.len() == run.moved.as_slice().len();
-    for (slot, input) in slots.iter().zip(run.moved.as_slice()) {
+    given.extend_from_slice(request.given.as_slice())?;
+    let mut is_same = slots.len() == request.moved.as_slice().len();
+    for (slot, input) in slots.iter().zip(request.moved.as_slice()) {
         let key = Key {
             variable: input.variable,
             member: input.member,
             period: input.period,
         };
-        let neutral = run.neutral.as_slice();
+        let neutral = request.neutral.as_slice();
         let made = situation.axis(alloc, &rules.tables, neutral, &mut given, &key, slot.wheel)?;
         is_same = is_same && are_same(&made, slot);
     }

@@ -5,7 +5,7 @@ ghost use Rattle.fisca_model.specs.Values as meaning;
 ghost use Rattle.fisca_rules.specs.Views.{rule_set};
 ghost use Rattle.fisca_simulation.specs.Sound.{IsSafeRules};
 
-use crate::fault::{Fault, malformed, no_memory};
+use crate::fault::{CaseFault, malformed, no_memory};
 use crate::situations::{key_of, situation};
 use fisca_cases_base::{Written, number};
 use fisca_columns::{CalcFile, key_text, read_column, value_text, write_columns};
@@ -28,7 +28,7 @@ pub fn answer(
     operation: &str,
     rules: &RuleSet<'_>,
     words: &[String],
-) -> Result<String, Fault> {
+) -> Result<String, CaseFault> {
     match operation {
         "read" => column(alloc, rules, words),
         "key" => key(alloc, rules, words),
@@ -38,7 +38,7 @@ pub fn answer(
 }
 
 /// The place of the variable, the member and the period of the key that a column names.
-fn column(alloc: Global, rules: &RuleSet<'_>, words: &[String]) -> Result<String, Fault> {
+fn column(alloc: Global, rules: &RuleSet<'_>, words: &[String]) -> Result<String, CaseFault> {
     let [text, default, input] = words else {
         return Err(malformed());
     };
@@ -58,7 +58,7 @@ fn column(alloc: Global, rules: &RuleSet<'_>, words: &[String]) -> Result<String
 }
 
 /// The text of the key `VARIABLE MEMBER PERIOD`.
-fn key(alloc: Global, rules: &RuleSet<'_>, words: &[String]) -> Result<String, Fault> {
+fn key(alloc: Global, rules: &RuleSet<'_>, words: &[String]) -> Result<String, CaseFault> {
     let [variable, member, period, default, input] = words else {
         return Err(malformed());
     };
@@ -68,7 +68,7 @@ fn key(alloc: Global, rules: &RuleSet<'_>, words: &[String]) -> Result<String, F
 }
 
 /// The text of a value of a variable: `true`, `false`, `member PLACE` or a number.
-fn value(alloc: Global, rules: &RuleSet<'_>, words: &[String]) -> Result<String, Fault> {
+fn value(alloc: Global, rules: &RuleSet<'_>, words: &[String]) -> Result<String, CaseFault> {
     let [variable, rest @ ..] = words else {
         return Err(malformed());
     };
@@ -79,7 +79,7 @@ fn value(alloc: Global, rules: &RuleSet<'_>, words: &[String]) -> Result<String,
     Ok(value_text(alloc, &rules.tables, variable, value)?)
 }
 
-fn said(words: &[String]) -> Result<Value, Fault> {
+fn said(words: &[String]) -> Result<Value, CaseFault> {
     match words {
         [word] => match word.as_str() {
             "true" => Ok(Value::Bool(true)),
@@ -98,7 +98,7 @@ pub fn calc(
     operation: &str,
     rules: &RuleSet<'_>,
     words: &[String],
-) -> Result<String, Fault>
+) -> Result<String, CaseFault>
     requires { IsSafeRules (rule_set rules.now) }
 {
     match words {
@@ -110,7 +110,7 @@ pub fn calc(
     }
 }
 
-fn file(alloc: Global, rules: &RuleSet<'_>, text: &str) -> Result<String, Fault> {
+fn file(alloc: Global, rules: &RuleSet<'_>, text: &str) -> Result<String, CaseFault> {
     let tree = read(alloc, text)?;
     let found = CalcFile::read(alloc, &rules.tables, &tree)?;
     let mut shown = Written::new(alloc);
@@ -129,7 +129,7 @@ fn file(alloc: Global, rules: &RuleSet<'_>, text: &str) -> Result<String, Fault>
 
 /// The lines of the columns of a file, and behind them, where one has no value, the fault and its key: worked out without a memory of values. Where an
 /// evaluator that remembers answers anything else, that is told.
-fn values(alloc: Global, rules: &RuleSet<'_>, text: &str) -> Result<String, Fault>
+fn values(alloc: Global, rules: &RuleSet<'_>, text: &str) -> Result<String, CaseFault>
     requires { IsSafeRules (rule_set rules.now) }
 {
     let plain = plain_values(alloc, rules, text)?;
@@ -145,7 +145,7 @@ fn values(alloc: Global, rules: &RuleSet<'_>, text: &str) -> Result<String, Faul
 }
 
 /// How many formulas are worked out for the columns of a file by an evaluator that remembers: as many with a list as with a hash table.
-fn counts(alloc: Global, rules: &RuleSet<'_>, text: &str) -> Result<String, Fault>
+fn counts(alloc: Global, rules: &RuleSet<'_>, text: &str) -> Result<String, CaseFault>
     requires { IsSafeRules (rule_set rules.now) }
 {
     let (_, list) = remembered_values(alloc, rules, text, ListRecall::new(alloc))?;
@@ -159,7 +159,7 @@ fn counts(alloc: Global, rules: &RuleSet<'_>, text: &str) -> Result<String, Faul
 
 /// The lines of the columns of a file by an evaluator that remembers in a list, below them by one with a hash table: where memory was refused, the same
 /// evaluator is asked for all of them once more.
-fn again(alloc: Global, rules: &RuleSet<'_>, text: &str) -> Result<String, Fault>
+fn again(alloc: Global, rules: &RuleSet<'_>, text: &str) -> Result<String, CaseFault>
     requires { IsSafeRules (rule_set rules.now) }
 {
     let mut shown = Written::new(alloc);
@@ -172,7 +172,7 @@ fn again(alloc: Global, rules: &RuleSet<'_>, text: &str) -> Result<String, Fault
 }
 
 /// The lines and what follows them, by an evaluator that remembers nothing.
-fn plain_values(alloc: Global, rules: &RuleSet<'_>, text: &str) -> Result<String, Fault>
+fn plain_values(alloc: Global, rules: &RuleSet<'_>, text: &str) -> Result<String, CaseFault>
     requires { IsSafeRules (rule_set rules.now) }
 {
     calc_inputs_fit();
@@ -190,7 +190,7 @@ fn remembered_values<R: Recall + Drop>(
     rules: &RuleSet<'_>,
     text: &str,
     recall: R,
-) -> Result<(String, Counts), Fault>
+) -> Result<(String, Counts), CaseFault>
     requires safe { IsSafeRules (rule_set rules.now) }
     requires empty { (k : meaning.Key) → R.find recall k ≡ None }
 {
@@ -210,7 +210,7 @@ fn shown<A: Answers<Fault = EvalFault> + Drop>(
     rules: &RuleSet<'_>,
     columns: &[Key],
     evaluator: A,
-) -> Result<(A, String), Fault>
+) -> Result<(A, String), CaseFault>
     requires { A.ready evaluator }
 {
     let mut shown = Written::new(alloc);
@@ -260,7 +260,7 @@ fn push_answer(
     situation: &Situation,
     lines: &[u8],
     end: Result<RunEnd, RunFault<EvalFault>>,
-) -> Result<(), Fault> {
+) -> Result<(), CaseFault> {
     let lines = str::from_utf8(lines).unwrap_or("no text\n");
     match end {
         Ok(_) => shown.push(lines.strip_suffix("\n").unwrap_or(lines)),
@@ -279,7 +279,7 @@ fn push_fault(
     rules: &RuleSet<'_>,
     situation: &Situation,
     fault: RunFault<EvalFault>,
-) -> Result<(), Fault> {
+) -> Result<(), CaseFault> {
     match fault {
         RunFault::Eval { fault, .. } => {
             shown.push("fault ");

@@ -1,6 +1,6 @@
 //! Calls of commands over sinks: once more where memory was refused, and into sinks that fail.
 
-use crate::fault::{Fault, malformed};
+use crate::fault::{CaseFault, malformed};
 use crate::narrow::Narrow;
 use fisca_cases_base::{Written, limit, number};
 use fisca_commands::{Refusal, axes_words, calc_rules, check_rules, run_rules, test_rules};
@@ -15,7 +15,7 @@ pub fn again(
     command: &str,
     files: &[SourceFile],
     words: &[String],
-) -> Result<String, Fault> {
+) -> Result<String, CaseFault> {
     let mut shown = Written::new(alloc);
     let end = push_call(alloc, &mut shown, command, files, words, 0)?;
     if let Some(position) = stop_of(&end) {
@@ -33,7 +33,7 @@ fn push_call(
     files: &[SourceFile],
     words: &[String],
     from: u64,
-) -> Result<Option<Refusal>, Fault> {
+) -> Result<Option<Refusal>, CaseFault> {
     let mut sink = MemorySink::new(alloc);
     let end = call(alloc, command, files, words, from, &mut sink)?;
     shown.push(str::from_utf8(sink.bytes()).unwrap_or("no text\n"));
@@ -48,7 +48,7 @@ pub fn failing(
     command: &str,
     files: &[SourceFile],
     words: &[String],
-) -> Result<String, Fault> {
+) -> Result<String, CaseFault> {
     let [how, piece, first, last, words @ ..] = words else {
         return Err(malformed());
     };
@@ -79,7 +79,7 @@ fn call<S: RowSink>(
     words: &[String],
     from: u64,
     sink: &mut S,
-) -> Result<Option<Refusal>, Fault> {
+) -> Result<Option<Refusal>, CaseFault> {
     match words {
         [keep, rows, axes @ ..] if command == "axes" => {
             let rows = limit(rows.as_str())?;
@@ -121,7 +121,7 @@ fn push_end(
     shown: &mut Written,
     end: &Option<Refusal>,
     failures: u64,
-) -> Result<(), Fault> {
+) -> Result<(), CaseFault> {
     match end {
         None => shown.push("end"),
         Some(refusal) => {

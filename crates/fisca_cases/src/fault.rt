@@ -1,7 +1,7 @@
 //! What is told in place of an answer.
 
 use fisca_ast::FormulaFault;
-use fisca_cases_base::{Fault as LayerFault, Written};
+use fisca_cases_base::{BaseFault, Written};
 use fisca_columns::RunFileFault;
 use fisca_inputs::SituationFault;
 use fisca_names::BuildFault;
@@ -14,9 +14,9 @@ use thiserror::Error;
 
 /// Why a case has no answer: the fault that the call gave, or that it is no case.
 #[derive(Debug, Drop, Error)]
-pub enum Fault {
+pub enum CaseFault {
     #[error("{0}")]
-    Layer(#[from] LayerFault),
+    Layer(#[from] BaseFault),
     #[error("{0}")]
     Build(#[from] BuildFault),
     #[error("{0}")]
@@ -25,70 +25,70 @@ pub enum Fault {
     RunFile(#[from] RunFileFault),
 }
 
-impl From<AllocError> for Fault {
-    fn from(error: AllocError) -> Fault {
-        Fault::Layer(LayerFault::from(error))
+impl From<AllocError> for CaseFault {
+    fn from(error: AllocError) -> CaseFault {
+        CaseFault::Layer(BaseFault::from(error))
     }
 }
 
-impl<T: Drop> From<AllocFailed<T>> for Fault {
-    fn from(_error: AllocFailed<T>) -> Fault {
-        Fault::Layer(LayerFault::Memory)
+impl<T: Drop> From<AllocFailed<T>> for CaseFault {
+    fn from(_error: AllocFailed<T>) -> CaseFault {
+        CaseFault::Layer(BaseFault::Memory)
     }
 }
 
-impl From<NumFault> for Fault {
-    fn from(fault: NumFault) -> Fault {
-        Fault::Layer(LayerFault::from(fault))
+impl From<NumFault> for CaseFault {
+    fn from(fault: NumFault) -> CaseFault {
+        CaseFault::Layer(BaseFault::from(fault))
     }
 }
 
-impl From<TimeFault> for Fault {
-    fn from(fault: TimeFault) -> Fault {
-        Fault::Layer(LayerFault::from(fault))
+impl From<TimeFault> for CaseFault {
+    fn from(fault: TimeFault) -> CaseFault {
+        CaseFault::Layer(BaseFault::from(fault))
     }
 }
 
-impl From<YamlFault> for Fault {
-    fn from(fault: YamlFault) -> Fault {
-        Fault::Layer(LayerFault::from(fault))
+impl From<YamlFault> for CaseFault {
+    fn from(fault: YamlFault) -> CaseFault {
+        CaseFault::Layer(BaseFault::from(fault))
     }
 }
 
-impl From<FormulaFault> for Fault {
-    fn from(fault: FormulaFault) -> Fault {
-        Fault::Layer(LayerFault::from(fault))
+impl From<FormulaFault> for CaseFault {
+    fn from(fault: FormulaFault) -> CaseFault {
+        CaseFault::Layer(BaseFault::from(fault))
     }
 }
 
-impl From<ParamFault> for Fault {
-    fn from(fault: ParamFault) -> Fault {
-        Fault::Layer(LayerFault::from(fault))
+impl From<ParamFault> for CaseFault {
+    fn from(fault: ParamFault) -> CaseFault {
+        CaseFault::Layer(BaseFault::from(fault))
     }
 }
 
 /// It is no case.
-pub fn malformed() -> Fault {
-    Fault::Layer(LayerFault::Malformed)
+pub fn malformed() -> CaseFault {
+    CaseFault::Layer(BaseFault::Malformed)
 }
 
 /// There was no memory.
-pub fn no_memory() -> Fault {
-    Fault::Layer(LayerFault::Memory)
+pub fn no_memory() -> CaseFault {
+    CaseFault::Layer(BaseFault::Memory)
 }
 
-impl Fault {
+impl CaseFault {
     /// The fault as its number, its name and the line where it stands.
     pub fn told(&self, alloc: Global) -> Result<String, AllocError> {
         let mut told = Written::new(alloc);
         match self {
-            Fault::Layer(fault) => return fault.told(alloc),
-            Fault::Build(fault) => push_build(&mut told, *fault),
-            Fault::Situation(fault) => {
+            CaseFault::Layer(fault) => return fault.told(alloc),
+            CaseFault::Build(fault) => push_build(&mut told, *fault),
+            CaseFault::Situation(fault) => {
                 told.push_fault(fault.kind.number(), &fault.kind);
                 told.push_line(fault.line);
             }
-            Fault::RunFile(fault) => {
+            CaseFault::RunFile(fault) => {
                 told.push_fault(fault.kind.number(), &fault.kind);
                 told.push_line(fault.line);
             }

@@ -20,7 +20,7 @@ mod rule_sets;
 mod runs;
 mod situations;
 
-use fault::{Fault, malformed};
+use fault::{CaseFault, malformed};
 use fisca_cases_base::{Case, two};
 use fisca_params::SourceFile;
 use fisca_rules::RuleSet;
@@ -70,7 +70,11 @@ fn close(rt: &HostRuntime, files: &mut Vec<SourceFile>, open: Option<Case>) -> i
 }
 
 /// What the call of a case answers.
-fn answer(alloc: Global, files: &mut Vec<SourceFile>, words: &[String]) -> Result<String, Fault> {
+fn answer(
+    alloc: Global,
+    files: &mut Vec<SourceFile>,
+    words: &[String],
+) -> Result<String, CaseFault> {
     match words {
         [] => Err(malformed()),
         [first, rest @ ..] => match first.as_str() {
@@ -82,13 +86,13 @@ fn answer(alloc: Global, files: &mut Vec<SourceFile>, words: &[String]) -> Resul
 }
 
 /// Begins a new rule set.
-fn begin(alloc: Global, files: &mut Vec<SourceFile>) -> Result<String, Fault> {
+fn begin(alloc: Global, files: &mut Vec<SourceFile>) -> Result<String, CaseFault> {
     files.clear();
     Ok(String::from_str(alloc, "no files")?)
 }
 
 /// Adds the file `PATH TEXT` to the rule set, and answers its place.
-fn add(alloc: Global, files: &mut Vec<SourceFile>, words: &[String]) -> Result<String, Fault> {
+fn add(alloc: Global, files: &mut Vec<SourceFile>, words: &[String]) -> Result<String, CaseFault> {
     let (path, text) = two(words)?;
     let place = files.len();
     let path = String::from_str(alloc, path)?;
@@ -103,7 +107,7 @@ fn ask(
     layer: &str,
     files: &[SourceFile],
     words: &[String],
-) -> Result<String, Fault> {
+) -> Result<String, CaseFault> {
     match words {
         [] => Err(malformed()),
         [operation, rest @ ..] => match layer {
@@ -129,7 +133,7 @@ fn ask_rules(
     operation: &str,
     rules: &RuleSet<'_>,
     words: &[String],
-) -> Result<String, Fault>
+) -> Result<String, CaseFault>
     requires { IsSafeRules (rule_set rules.now) }
 {
     match layer {

@@ -1,6 +1,6 @@
 //! Refusals of commands.
 
-use crate::fault::{Fault, malformed};
+use crate::fault::{CaseFault, malformed};
 use fisca_cases_base::{Written, one};
 use fisca_grid::AxesFault;
 use fisca_model::{EvalFault, Key};
@@ -10,14 +10,14 @@ use fisca_writer::RunFault;
 use std::alloc::{AllocError, Global};
 
 /// The answer to a case of refusals: the one of this name, of those to which no text leads and of values that cannot be worked out.
-pub fn answer(alloc: Global, operation: &str, words: &[String]) -> Result<String, Fault> {
+pub fn answer(alloc: Global, operation: &str, words: &[String]) -> Result<String, CaseFault> {
     match operation {
         "told" => told(alloc, &named(alloc, one(words)?)?),
         _ => Err(malformed()),
     }
 }
 
-fn named(alloc: Global, name: &str) -> Result<Refusal, Fault> {
+fn named(alloc: Global, name: &str) -> Result<Refusal, CaseFault> {
     match name {
         "memory" => Ok(Refusal::Memory),
         "memory_of_axes" => Ok(Refusal::Axes(AxesFault::Memory)),
@@ -46,7 +46,7 @@ fn unanswered(alloc: Global) -> Result<Unanswered, AllocError> {
 }
 
 /// The number of a refusal, its status and its line for standard error.
-fn told(alloc: Global, refusal: &Refusal) -> Result<String, Fault> {
+fn told(alloc: Global, refusal: &Refusal) -> Result<String, CaseFault> {
     let mut told = Written::new(alloc);
     told.push("refusal ");
     told.push_number(u64::from(refusal.number()));

@@ -4,7 +4,7 @@ ghost use Rattle.std.specs.Prelude.{IfOk};
 ghost use Rattle.fisca_rules.specs.Views.{rule_set};
 ghost use Rattle.fisca_simulation.specs.Sound.{IsSafeRules};
 
-use crate::fault::{Fault, malformed};
+use crate::fault::{CaseFault, malformed};
 use fisca_ast::Module;
 use fisca_params::{ParamTree, SourceFile};
 use fisca_parser::read_module;
@@ -13,7 +13,7 @@ use fisca_simulation::rule_sets_are_safe;
 use std::alloc::Global;
 
 /// The answer to a case of rule sets: what the call of this name gives of this one.
-pub fn answer(alloc: Global, operation: &str, rules: &RuleSet<'_>) -> Result<String, Fault> {
+pub fn answer(alloc: Global, operation: &str, rules: &RuleSet<'_>) -> Result<String, CaseFault> {
     match operation {
         "build" => build(alloc, rules),
         _ => Err(malformed()),
@@ -21,7 +21,7 @@ pub fn answer(alloc: Global, operation: &str, rules: &RuleSet<'_>) -> Result<Str
 }
 
 /// The modules among the files, as they stand there.
-fn modules<'a>(alloc: Global, files: &'a [SourceFile]) -> Result<Vec<Module<'a>>, Fault> {
+fn modules<'a>(alloc: Global, files: &'a [SourceFile]) -> Result<Vec<Module<'a>>, CaseFault> {
     let mut modules = Vec::new(alloc);
     for file in files {
         if file.path().ends_with(".py") {
@@ -32,7 +32,7 @@ fn modules<'a>(alloc: Global, files: &'a [SourceFile]) -> Result<Vec<Module<'a>>
 }
 
 /// The rule set of the files.
-pub fn rules_of<'a>(alloc: Global, files: &'a [SourceFile]) -> Result<RuleSet<'a>, Fault>
+pub fn rules_of<'a>(alloc: Global, files: &'a [SourceFile]) -> Result<RuleSet<'a>, CaseFault>
     ensures { IfOk result (λ rules. IsSafeRules (rule_set rules)) }
 {
     rule_sets_are_safe();
@@ -40,12 +40,12 @@ pub fn rules_of<'a>(alloc: Global, files: &'a [SourceFile]) -> Result<RuleSet<'a
     let modules = modules(alloc, files)?;
     match RuleSet::build(alloc, parameters, modules) {
         Ok(rules) => Ok(rules),
-        Err(fault) => Err(Fault::Build(fault)),
+        Err(fault) => Err(CaseFault::Build(fault)),
     }
 }
 
 /// How many entities, variables and parameters the rule set of the files has.
-fn build(alloc: Global, rules: &RuleSet<'_>) -> Result<String, Fault> {
+fn build(alloc: Global, rules: &RuleSet<'_>) -> Result<String, CaseFault> {
     let entities = rules.tables.entities.as_slice().len();
     let variables = rules.tables.variables.as_slice().len();
     let parameters = rules.tables.parameters.count();

@@ -1,28 +1,23 @@
 //! Runs: how many formulas gave values in one, and whether what is remembered changes any.
 
-ghost use Rattle.std.specs.Prelude.{◌≡◌, IfOk, None, Ok, length};
+ghost use Rattle.std.specs.Prelude.{IfOk, None};
 ghost use Rattle.fisca_simulation.specs.Sound.{IsSafeRules};
 ghost use Rattle.fisca_evaluator.specs.Evaluators.{marks_in, simulation_of};
+ghost use Rattle.fisca_commands.specs.Begun.{IsBegun, file_in};
 ghost use Rattle.fisca_commands.specs.Kept.{IsKept, IsRunFile};
-ghost use Rattle.fisca_commands.specs.Runs.{IsAsked};
 ghost use Rattle.fisca_rules.specs.Views.{rule_set};
-ghost use Rattle.fisca_run_file.specs.Positions.{situation_with};
-ghost use Rattle.fisca_run_file.specs.RunFiles.{run_file_of};
-ghost use Rattle.fisca_run_file.specs.Views.{run_file as run_file_view};
-ghost use Rattle.fisca_situations.specs.Views.{situation as situation_view};
-ghost use Rattle.fisca_run.specs.Marks.{wheels_of};
-ghost use Rattle.fisca_run.specs.Slots.{slots_of};
-ghost use Rattle.fisca_situations.specs.Views.{slot_list};
-ghost use Rattle.fisca_yaml.specs.Views.{node};
+ghost use Rattle.fisca_run_file.specs.Positions.{IsBeginning};
+ghost use Rattle.fisca_run_file.specs.Views.{run_file as run_file_view, run_start as run_start_view};
+ghost use Rattle.fisca_situations.specs.Steps.Views.{situation as situation_view};
 
 use crate::axes::are_put_in;
-use crate::fault::{Fault, malformed, no_memory};
+use crate::fault::{CaseFault, malformed, no_memory};
 use fisca_cases_base::{Written, limit, number, three};
-use fisca_commands::{RunStart, evaluator_of, run_anew, run_grid, run_with, start};
+use fisca_commands::{evaluator_of, run_anew, run_grid, run_with};
 use fisca_evaluator::{Counts, Evaluator, ListRecall, Recall};
 use fisca_model::EvalFault;
 use fisca_rules::RuleSet;
-use fisca_run_file::RunFile;
+use fisca_run_file::{RunFile, RunRequest, RunStart};
 use fisca_situations::Slot;
 use fisca_writer::{MemorySink, RunEnd, RunFault};
 use fisca_yaml::{Tree, read};
@@ -35,16 +30,15 @@ pub fn answer(
     operation: &str,
     rules: &RuleSet<'_>,
     words: &[String],
-) -> Result<String, Fault>
+) -> Result<String, CaseFault>
     requires { IsSafeRules (rule_set rules.now) }
 {
     let (from, rows, text) = three(words)?;
     let (from, rows) = (number(from)?, limit(rows)?);
     let tree = read(alloc, text)?;
-    let run = read_run(alloc, rules, &tree)?;
     match operation {
-        "anew" => anew(alloc, rules, &tree, &run, from, rows),
-        "counts" => counts(alloc, rules, &tree, &run, from, rows),
+        "anew" => anew(alloc, rules, &tree, from, rows),
+        "counts" => counts(alloc, rules, &tree, from, rows),
         _ => Err(malformed()),
     }
 }
@@ -55,14 +49,12 @@ fn anew(
     alloc: Global,
     rules: &RuleSet<'_>,
     tree: &Tree<'_>,
-    run: &RunFile,
     from: u64,
     rows: Option<u64>,
-) -> Result<String, Fault>
-    requires { IsAsked rules.now (node tree.now) (run_file_view run.now) }
+) -> Result<String, CaseFault>
+    requires { IsSafeRules (rule_set rules.now) }
 {
-    let is_same = are_the_same(alloc, rules, tree, run, from, rows)
-        && are_put_in(alloc, rules, tree, run);
+    let is_same = are_the_same(alloc, rules, tree, from, rows)? && are_put_in(alloc, rules, tree)?;
     Ok(String::from_str(alloc, if is_same { "the same" } else { "differs" })?)
 }
 
@@ -71,15 +63,15 @@ fn counts(
     alloc: Global,
     rules: &RuleSet<'_>,
     tree: &Tree<'_>,
-    run: &RunFile,
     from: u64,
     rows: Option<u64>,
-) -> Result<String, Fault>
-    requires { IsAsked rules.now (node tree.now) (run_file_view run.now) }
+) -> Result<String, CaseFault>
+    requires { IsSafeRules (rule_set rules.now) }
 {
+    let run = read_run(alloc, rules, tree)?;
     let mut sink = MemorySink::new(alloc);
     let mut shown = Written::new(alloc);
-    match run_grid(alloc, rules, tree, run, from, rows, &mut sink) {
+    match run_grid(alloc, rules, run, from, rows, &mut sink) {
         Ok((end, counts)) => push_counts(&mut shown, end, counts),
         Err(RunFault::BadPosition) => shown.push("BadPosition"),
         Err(RunFault::Eval { position, fault }) => push_stop(&mut shown, position, fault),
@@ -110,12 +102,14 @@ fn push_count(shown: &mut Written, word: &str, count: u64) {
 }
 
 /// The run file that a tree says under a rule set.
-fn read_run(alloc: Global, rules: &RuleSet<'_>, tree: &Tree<'_>) -> Result<RunFile, Fault>
-    ensures { IfOk result (λ run. run_file_of rules.now.tables (node tree.now) ≡ Ok (run_file_view run)) }
+pub fn read_run(alloc: Global, rules: &RuleSet<'_>, tree: &Tree<'_>) -> Result<RunFile, CaseFault>
+    requires { IsSafeRules (rule_set rules.now) }
+    ensures accepted { IfOk result (λ run. IsRunFile rules.now (run_file_view run)) }
+    ensures begins { IfOk result (λ run. IsBeginning rules.now.tables (run_file_view run) (situation_view run.situation)) }
 {
     match RunFile::read(alloc, &rules.tables, tree) {
         Ok(run) => Ok(run),
-        Err(fault) => Err(Fault::RunFile(fault)),
+        Err(fault) => Err(CaseFault::RunFile(fault)),
     }
 }
 
@@ -124,19 +118,21 @@ fn are_the_same(
     alloc: Global,
     rules: &RuleSet<'_>,
     tree: &Tree<'_>,
-    run: &RunFile,
     from: u64,
     rows: Option<u64>,
-) -> bool
-    requires { IsAsked rules.now (node tree.now) (run_file_view run.now) }
+) -> Result<bool, CaseFault>
+    requires { IsSafeRules (rule_set rules.now) }
 {
     let mut kept = MemorySink::new(alloc);
     let mut anew = MemorySink::new(alloc);
-    let answer = run_grid(alloc, rules, tree, run, from, rows, &mut kept);
-    let expected = run_anew(alloc, rules, tree, run, from, rows, &mut anew);
-    without_counts(answer) == expected
-        && kept.bytes() == anew.bytes()
-        && is_the_same_twice(alloc, rules, tree, run, from, rows, &expected, anew.bytes())
+    let run = read_run(alloc, rules, tree)?;
+    let answer = run_grid(alloc, rules, run, from, rows, &mut kept);
+    let run = read_run(alloc, rules, tree)?;
+    let expected = run_anew(alloc, rules, run, from, rows, &mut anew);
+    if without_counts(answer) != expected || kept.bytes() != anew.bytes() {
+        return Ok(false);
+    }
+    is_the_same_twice(alloc, rules, tree, from, rows, &expected, anew.bytes())
 }
 
 /// Whether an evaluator that remembers in a list, handed in twice, writes and answers this both times.
@@ -144,17 +140,17 @@ fn is_the_same_twice(
     alloc: Global,
     rules: &RuleSet<'_>,
     tree: &Tree<'_>,
-    run: &RunFile,
     from: u64,
     rows: Option<u64>,
     expected: &Result<RunEnd, RunFault<EvalFault>>,
     lines: &[u8],
-) -> bool
-    requires { IsAsked rules.now (node tree.now) (run_file_view run.now) }
+) -> Result<bool, CaseFault>
+    requires { IsSafeRules (rule_set rules.now) }
 {
-    match start(alloc, rules, tree, run) {
-        Ok(begun) => are_the_same_twice(alloc, rules, run, begun, from, rows, expected, lines),
-        Err(_) => false,
+    let run = read_run(alloc, rules, tree)?;
+    match run.start(alloc, &rules.tables) {
+        Ok(begun) => Ok(are_the_same_twice(alloc, rules, begun, from, rows, expected, lines)),
+        Err(_) => Ok(false),
     }
 }
 
@@ -162,32 +158,29 @@ fn is_the_same_twice(
 fn are_the_same_twice(
     alloc: Global,
     rules: &RuleSet<'_>,
-    run: &RunFile,
     begun: RunStart,
     from: u64,
     rows: Option<u64>,
     expected: &Result<RunEnd, RunFault<EvalFault>>,
     lines: &[u8],
 ) -> bool
-    requires accepted { IsRunFile rules.now (run_file_view run.now) }
-    requires situation { situation_with rules.now.tables (run_file_view run.now) (run_file_view run.now).moved ≡ Ok (situation_view begun.situation) }
-    requires slots { slot_list begun.slots.items ≡ slots_of rules.now.tables (run_file_view run.now) }
-    requires wheels { begun.wheels.items ≡ wheels_of (length rules.now.tables.variables) (slots_of rules.now.tables (run_file_view run.now)) }
+    requires { IsBegun rules.now (run_start_view begun) begun }
 {
     let RunStart {
         situation,
         slots,
         wheels,
+        request,
     } = begun;
     let recall = ListRecall::new(alloc);
     let (slots, wheels) = (slots.as_slice(), wheels.as_slice());
-    let mut evaluator = evaluator_of(alloc, rules, run, slots, wheels, situation, recall);
+    let mut evaluator = evaluator_of(alloc, rules, &request, slots, wheels, situation, recall);
     runs_twice(
         alloc,
         rules,
         &mut evaluator,
         slots,
-        run,
+        &request,
         from,
         rows,
         expected,
@@ -201,22 +194,22 @@ fn runs_twice<'t, R: Recall>(
     rules: &RuleSet<'t>,
     evaluator: &mut Evaluator<'_, 't, R>,
     slots: &[Slot],
-    run: &RunFile,
+    request: &RunRequest,
     from: u64,
     rows: Option<u64>,
     expected: &Result<RunEnd, RunFault<EvalFault>>,
     lines: &[u8],
 ) -> bool
-    requires { IsKept rules.now (run_file_view run.now) slots.now None (marks_in evaluator.old) (simulation_of evaluator.old) (R.find evaluator.old.store.recall) evaluator.old.store.counts.free }
+    requires { IsKept rules.now (file_in (simulation_of evaluator.old) request.now) slots.now None (marks_in evaluator.old) (simulation_of evaluator.old) (R.find evaluator.old.store.recall) evaluator.old.store.counts.free }
 {
     let mut once = MemorySink::new(alloc);
     let mut twice = MemorySink::new(alloc);
     let first = run_with(
-        alloc, &*rules, evaluator, &*slots, &*run, from, rows, &mut once,
+        alloc, &*rules, evaluator, &*slots, &*request, from, rows, &mut once,
     );
     let free = evaluator.counts().free();
     let second = run_with(
-        alloc, &*rules, evaluator, &*slots, &*run, from, rows, &mut twice,
+        alloc, &*rules, evaluator, &*slots, &*request, from, rows, &mut twice,
     );
     first == *expected
         && second == *expected

@@ -1,7 +1,7 @@
 //! Situations.
 
 use crate::axes;
-use crate::fault::{Fault, malformed};
+use crate::fault::{CaseFault, malformed};
 use fisca_cases_base::{Written, number, two};
 use fisca_members::Home;
 use fisca_model::{Key, Value};
@@ -19,7 +19,7 @@ pub fn answer(
     operation: &str,
     rules: &RuleSet<'_>,
     words: &[String],
-) -> Result<String, Fault> {
+) -> Result<String, CaseFault> {
     match operation {
         "members" => members(alloc, rules, words),
         "input" => input(alloc, rules, words),
@@ -35,13 +35,13 @@ pub fn situation(
     rules: &RuleSet<'_>,
     default: &str,
     text: &str,
-) -> Result<Situation, Fault> {
+) -> Result<Situation, CaseFault> {
     let tree = read(alloc, text)?;
     Ok(Situation::read(alloc, &rules.tables, read_period(default)?, 1, &tree)?)
 }
 
 /// A default period, or `-` for none.
-pub fn read_period(default: &str) -> Result<Option<Period>, Fault> {
+pub fn read_period(default: &str) -> Result<Option<Period>, CaseFault> {
     match default {
         "-" => Ok(None),
         word => Ok(Some(Period::read(word)?)),
@@ -49,7 +49,7 @@ pub fn read_period(default: &str) -> Result<Option<Period>, Fault> {
 }
 
 /// A line for each entity: its members, and behind a bar for each person the group, and the role with its subrole.
-fn members(alloc: Global, rules: &RuleSet<'_>, words: &[String]) -> Result<String, Fault> {
+fn members(alloc: Global, rules: &RuleSet<'_>, words: &[String]) -> Result<String, CaseFault> {
     let (default, text) = two(words)?;
     let found = situation(alloc, rules, default, text)?;
     let mut shown = Written::new(alloc);
@@ -95,7 +95,7 @@ fn push_home(shown: &mut Written, person: u32, home: Home) {
 }
 
 /// The input of `VARIABLE MEMBER PERIOD`, after sharing.
-fn input(alloc: Global, rules: &RuleSet<'_>, words: &[String]) -> Result<String, Fault> {
+fn input(alloc: Global, rules: &RuleSet<'_>, words: &[String]) -> Result<String, CaseFault> {
     let [variable, member, period, default, text] = words else {
         return Err(malformed());
     };
@@ -105,7 +105,7 @@ fn input(alloc: Global, rules: &RuleSet<'_>, words: &[String]) -> Result<String,
 }
 
 /// The same where the first variable has been neutralised.
-fn neutralized(alloc: Global, rules: &RuleSet<'_>, words: &[String]) -> Result<String, Fault> {
+fn neutralized(alloc: Global, rules: &RuleSet<'_>, words: &[String]) -> Result<String, CaseFault> {
     let [neutral, variable, member, period, default, text] = words else {
         return Err(malformed());
     };
@@ -125,7 +125,7 @@ pub fn key_of(
     variable: &str,
     member: &str,
     period: &str,
-) -> Result<Key, Fault> {
+) -> Result<Key, CaseFault> {
     let Some(variable) = rules.variable(variable) else {
         return Err(malformed());
     };
@@ -141,12 +141,12 @@ pub fn push_input(
     alloc: Global,
     written: &mut Written,
     value: &Option<Value>,
-) -> Result<(), Fault> {
+) -> Result<(), CaseFault> {
     written.push(shown(alloc, value)?.as_str());
     Ok(())
 }
 
-fn shown(alloc: Global, value: &Option<Value>) -> Result<String, Fault> {
+fn shown(alloc: Global, value: &Option<Value>) -> Result<String, CaseFault> {
     match value {
         None => Ok(String::from_str(alloc, "none")?),
         Some(Value::Number(number)) => number_text(alloc, *number),
@@ -155,6 +155,6 @@ fn shown(alloc: Global, value: &Option<Value>) -> Result<String, Fault> {
     }
 }
 
-fn number_text(alloc: Global, number: Fraction) -> Result<String, Fault> {
+fn number_text(alloc: Global, number: Fraction) -> Result<String, CaseFault> {
     Ok(number.text(alloc)?)
 }

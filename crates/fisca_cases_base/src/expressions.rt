@@ -1,6 +1,6 @@
 //! Expressions of modules.
 
-use crate::fault::Fault;
+use crate::fault::BaseFault;
 use crate::words::one;
 use crate::written::Written;
 use fisca_ast::{Argument, Arguments, Bracket, Comparison, Expr, Operator, Prefix, Slice, Suffix};
@@ -12,16 +12,16 @@ use std::alloc::Global;
 const HEIGHT: usize = 120;
 
 /// The answer to a case of expressions: what the call of this name gives for these words.
-pub fn answer(alloc: Global, operation: &str, words: &[String]) -> Result<String, Fault> {
+pub fn answer(alloc: Global, operation: &str, words: &[String]) -> Result<String, BaseFault> {
     match operation {
         "formula" => read(alloc, one(words)?, Mode::Formula),
         "value" => read(alloc, one(words)?, Mode::Value),
-        _ => Err(Fault::Malformed),
+        _ => Err(BaseFault::Malformed),
     }
 }
 
 /// The expression that a text is.
-fn read(alloc: Global, source: &str, mode: Mode) -> Result<String, Fault> {
+fn read(alloc: Global, source: &str, mode: Mode) -> Result<String, BaseFault> {
     let mut found = tokens(alloc, source)?;
     join_texts(&mut found);
     let expr = read_expression(alloc, source, &found, mode, HEIGHT)?;

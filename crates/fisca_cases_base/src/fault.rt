@@ -12,7 +12,7 @@ use thiserror::Error;
 
 /// Why a case has no answer: the fault that the call gave, or that it is no case.
 #[derive(Debug, Drop, Error)]
-pub enum Fault {
+pub enum BaseFault {
     #[error("malformed")]
     Malformed,
     #[error("no memory")]
@@ -31,31 +31,31 @@ pub enum Fault {
     Axes(#[from] AxesFault),
 }
 
-impl From<AllocError> for Fault {
-    fn from(_error: AllocError) -> Fault {
-        Fault::Memory
+impl From<AllocError> for BaseFault {
+    fn from(_error: AllocError) -> BaseFault {
+        BaseFault::Memory
     }
 }
 
-impl<T: Drop> From<AllocFailed<T>> for Fault {
-    fn from(_error: AllocFailed<T>) -> Fault {
-        Fault::Memory
+impl<T: Drop> From<AllocFailed<T>> for BaseFault {
+    fn from(_error: AllocFailed<T>) -> BaseFault {
+        BaseFault::Memory
     }
 }
 
-impl Fault {
+impl BaseFault {
     /// The fault as its number, its name and the line where it stands.
     pub fn told(&self, alloc: Global) -> Result<String, AllocError> {
         let mut told = Written::new(alloc);
         match self {
-            Fault::Malformed => told.push("malformed"),
-            Fault::Memory => told.push("no memory"),
-            Fault::Num(fault) => told.push_fault(*fault as u8, fault),
-            Fault::Time(fault) => told.push_fault(*fault as u8, fault),
-            Fault::Yaml(fault) => push_yaml(&mut told, *fault),
-            Fault::Formula(fault) => push_formula(&mut told, *fault),
-            Fault::Param(fault) => push_param(&mut told, *fault),
-            Fault::Axes(fault) => told.push_fault(*fault as u8, fault),
+            BaseFault::Malformed => told.push("malformed"),
+            BaseFault::Memory => told.push("no memory"),
+            BaseFault::Num(fault) => told.push_fault(*fault as u8, fault),
+            BaseFault::Time(fault) => told.push_fault(*fault as u8, fault),
+            BaseFault::Yaml(fault) => push_yaml(&mut told, *fault),
+            BaseFault::Formula(fault) => push_formula(&mut told, *fault),
+            BaseFault::Param(fault) => push_param(&mut told, *fault),
+            BaseFault::Axes(fault) => told.push_fault(*fault as u8, fault),
         }
         told.finish()
     }

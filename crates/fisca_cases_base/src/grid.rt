@@ -1,6 +1,6 @@
 //! Axes: their limits, values and positions.
 
-use crate::fault::Fault;
+use crate::fault::BaseFault;
 use crate::words::{number, one, two};
 use crate::written::Written;
 use fisca_grid::{Axes, AxesFault, AxisSpec, GridCursor, read_axis};
@@ -9,7 +9,7 @@ use std::alloc::Global;
 use std::cmp::Ordering;
 
 /// The answer to a case of axes: what the call of this name gives for these words.
-pub fn answer(alloc: Global, operation: &str, words: &[String]) -> Result<String, Fault> {
+pub fn answer(alloc: Global, operation: &str, words: &[String]) -> Result<String, BaseFault> {
     match operation {
         "no_groups" => size(alloc, Axes::build(alloc, &[], &[])),
         "empty_group" => size(alloc, Axes::build(alloc, &[], &[0])),
@@ -19,12 +19,12 @@ pub fn answer(alloc: Global, operation: &str, words: &[String]) -> Result<String
                 let spec = axis(min.as_str(), max.as_str(), count.as_str())?;
                 of_axis(alloc, operation, spec, rest)
             }
-            _ => Err(Fault::Malformed),
+            _ => Err(BaseFault::Malformed),
         },
     }
 }
 
-fn axis(min: &str, max: &str, count: &str) -> Result<AxisSpec, Fault> {
+fn axis(min: &str, max: &str, count: &str) -> Result<AxisSpec, BaseFault> {
     Ok(AxisSpec {
         count: number(count)?,
         min: Fraction::from_decimal(min)?,
@@ -33,7 +33,7 @@ fn axis(min: &str, max: &str, count: &str) -> Result<AxisSpec, Fault> {
 }
 
 /// The values at a position of three axes, of which the first two are a group.
-fn pair(alloc: Global, words: &[String]) -> Result<String, Fault> {
+fn pair(alloc: Global, words: &[String]) -> Result<String, BaseFault> {
     match words {
         [position, first, second, third] => {
             let specs = [
@@ -44,22 +44,22 @@ fn pair(alloc: Global, words: &[String]) -> Result<String, Fault> {
             let axes = Axes::build(alloc, &specs, &[2, 1])?;
             values(alloc, &axes, number(position.as_str())?)
         }
-        _ => Err(Fault::Malformed),
+        _ => Err(BaseFault::Malformed),
     }
 }
 
 /// The axis that a word describes.
-fn described(word: &str) -> Result<AxisSpec, Fault> {
+fn described(word: &str) -> Result<AxisSpec, BaseFault> {
     match read_axis(word) {
         Some((_, spec)) => Ok(spec),
-        None => Err(Fault::Malformed),
+        None => Err(BaseFault::Malformed),
     }
 }
 
 /// The values of all axes at a position.
-fn values(alloc: Global, axes: &Axes, position: u64) -> Result<String, Fault> {
+fn values(alloc: Global, axes: &Axes, position: u64) -> Result<String, BaseFault> {
     if position >= axes.size() {
-        return Err(Fault::Malformed);
+        return Err(BaseFault::Malformed);
     }
     let mut shown = Written::new(alloc);
     for axis in 0..axes.count() {
@@ -75,39 +75,39 @@ fn of_axis(
     operation: &str,
     spec: AxisSpec,
     words: &[String],
-) -> Result<String, Fault> {
+) -> Result<String, BaseFault> {
     match operation {
         "size" => size(alloc, Axes::build(alloc, &[spec], &[1])),
         "step" => step(alloc, spec, words),
         "compare" => compare(alloc, spec, words),
         "cursor" => cursor(alloc, spec, words),
-        _ => Err(Fault::Malformed),
+        _ => Err(BaseFault::Malformed),
     }
 }
 
-fn size(alloc: Global, axes: Result<Axes, AxesFault>) -> Result<String, Fault> {
+fn size(alloc: Global, axes: Result<Axes, AxesFault>) -> Result<String, BaseFault> {
     let size = axes?.size();
     Ok(format!(in alloc; "{size}")?)
 }
 
 /// The value at a position.
-fn step(alloc: Global, spec: AxisSpec, words: &[String]) -> Result<String, Fault> {
+fn step(alloc: Global, spec: AxisSpec, words: &[String]) -> Result<String, BaseFault> {
     let position = number(one(words)?)?;
     let axes = Axes::build(alloc, &[spec], &[1])?;
     if axes.count() == 0 || position >= axes.size() {
-        return Err(Fault::Malformed);
+        return Err(BaseFault::Malformed);
     }
     Ok(axes.step(0, position).text(alloc)?)
 }
 
 /// How the value at a position stands to a number.
-fn compare(alloc: Global, spec: AxisSpec, words: &[String]) -> Result<String, Fault> {
+fn compare(alloc: Global, spec: AxisSpec, words: &[String]) -> Result<String, BaseFault> {
     let (position, with) = two(words)?;
     let position = number(position)?;
     let with = Fraction::from_decimal(with)?;
     let axes = Axes::build(alloc, &[spec], &[1])?;
     if axes.count() == 0 || position >= axes.size() {
-        return Err(Fault::Malformed);
+        return Err(BaseFault::Malformed);
     }
     let order = match axes.compare(0, position, with) {
         Ordering::Less => "less",
@@ -118,7 +118,7 @@ fn compare(alloc: Global, spec: AxisSpec, words: &[String]) -> Result<String, Fa
 }
 
 /// How many positions are left from a start on, which, what two further calls give, and how many are left then.
-fn cursor(alloc: Global, spec: AxisSpec, words: &[String]) -> Result<String, Fault> {
+fn cursor(alloc: Global, spec: AxisSpec, words: &[String]) -> Result<String, BaseFault> {
     let from = number(one(words)?)?;
     let axes = Axes::build(alloc, &[spec], &[1])?;
     let mut cursor = GridCursor::new(&axes, from);

@@ -1,6 +1,6 @@
 //! The layers below rule sets.
 
-use crate::fault::Fault;
+use crate::fault::BaseFault;
 use crate::{expressions, grid, num, params, time, tokens, yaml};
 use fisca_params::SourceFile;
 use std::alloc::Global;
@@ -12,7 +12,7 @@ pub fn answer(
     operation: &str,
     files: &[SourceFile],
     words: &[String],
-) -> Option<Result<String, Fault>> {
+) -> Option<Result<String, BaseFault>> {
     match layer {
         "num" => Some(num::answer(alloc, operation, words)),
         "time" => Some(time::answer(alloc, operation, words)),

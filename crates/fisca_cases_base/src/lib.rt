@@ -15,7 +15,7 @@ mod written;
 mod yaml;
 
 pub use case::Case;
-pub use fault::Fault;
+pub use fault::BaseFault;
 pub use layers::answer;
 pub use words::{limit, number, one, three, two};
 pub use written::Written;

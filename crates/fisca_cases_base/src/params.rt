@@ -1,7 +1,7 @@
 //! Parameter files, values and scales.
 ghost use Rattle.std.specs.Prelude.{◌<◌, length, IfSome};
 
-use crate::fault::Fault;
+use crate::fault::BaseFault;
 use crate::num::fraction;
 use crate::words::{three, two};
 use fisca_num::Fraction;
@@ -15,17 +15,17 @@ pub fn answer(
     operation: &str,
     files: &[SourceFile],
     words: &[String],
-) -> Result<String, Fault> {
+) -> Result<String, BaseFault> {
     let tree = ParamTree::read(alloc, files)?;
     match operation {
         "count" => count(alloc, &tree),
         "at" => at(alloc, &tree, words),
         "sum" => sum(alloc, &tree, words),
-        _ => Err(Fault::Malformed),
+        _ => Err(BaseFault::Malformed),
     }
 }
 
-fn count(alloc: Global, tree: &ParamTree) -> Result<String, Fault> {
+fn count(alloc: Global, tree: &ParamTree) -> Result<String, BaseFault> {
     let count = tree.count();
     Ok(format!(in alloc; "{count}")?)
 }
@@ -41,12 +41,12 @@ fn find(tree: &ParamTree, path: &str) -> Option<NodeId>
     Some(node)
 }
 
-fn no_node(alloc: Global) -> Result<String, Fault> {
+fn no_node(alloc: Global) -> Result<String, BaseFault> {
     Ok(String::from_str(alloc, "no node")?)
 }
 
 /// What stands at a path on a day: the kind and the value.
-fn at(alloc: Global, tree: &ParamTree, words: &[String]) -> Result<String, Fault> {
+fn at(alloc: Global, tree: &ParamTree, words: &[String]) -> Result<String, BaseFault> {
     let (path, date) = two(words)?;
     let day = Instant::read(date)?;
     let Some(node) = find(tree, path) else {
@@ -57,7 +57,7 @@ fn at(alloc: Global, tree: &ParamTree, words: &[String]) -> Result<String, Fault
     Ok(format!(in alloc; "{kind:?}, {value}")?)
 }
 
-fn shown(alloc: Global, value: &Option<ParamValue>) -> Result<String, Fault> {
+fn shown(alloc: Global, value: &Option<ParamValue>) -> Result<String, BaseFault> {
     match value {
         Some(ParamValue::Number(number)) => Ok(number.text(alloc)?),
         Some(ParamValue::Bool(value)) => Ok(format!(in alloc; "{value}")?),
@@ -66,7 +66,7 @@ fn shown(alloc: Global, value: &Option<ParamValue>) -> Result<String, Fault> {
 }
 
 /// The sum of the scale at a path on a day, for a base.
-fn sum(alloc: Global, tree: &ParamTree, words: &[String]) -> Result<String, Fault> {
+fn sum(alloc: Global, tree: &ParamTree, words: &[String]) -> Result<String, BaseFault> {
     let (path, date, base) = three(words)?;
     let day = Instant::read(date)?;
     let base = fraction(base)?;

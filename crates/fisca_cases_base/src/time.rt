@@ -1,13 +1,13 @@
 //! Instants and periods.
 
-use crate::fault::Fault;
+use crate::fault::BaseFault;
 use crate::words::{number, one, three, two};
 use crate::written::Written;
 use fisca_time::{Instant, Period, TimeFault, Unit};
 use std::alloc::Global;
 
 /// The answer to a case of periods and instants: what the call of this name gives for these words.
-pub fn answer(alloc: Global, operation: &str, words: &[String]) -> Result<String, Fault> {
+pub fn answer(alloc: Global, operation: &str, words: &[String]) -> Result<String, BaseFault> {
     match operation {
         "period" => shown(alloc, Period::read(one(words)?)),
         "offset" => offset(alloc, words),
@@ -22,21 +22,21 @@ pub fn answer(alloc: Global, operation: &str, words: &[String]) -> Result<String
     }
 }
 
-fn period(word: &str) -> Result<Period, Fault> {
+fn period(word: &str) -> Result<Period, BaseFault> {
     Ok(Period::read(word)?)
 }
 
-fn shown(alloc: Global, period: Result<Period, TimeFault>) -> Result<String, Fault> {
+fn shown(alloc: Global, period: Result<Period, TimeFault>) -> Result<String, BaseFault> {
     Ok(period?.text(alloc)?)
 }
 
 /// The period that a move by its name gives.
-fn named(alloc: Global, name: &str, words: &[String]) -> Result<String, Fault> {
+fn named(alloc: Global, name: &str, words: &[String]) -> Result<String, BaseFault> {
     shown(alloc, moved(name, period(one(words)?)?)?)
 }
 
 /// A move that has a name.
-fn moved(name: &str, period: Period) -> Result<Result<Period, TimeFault>, Fault> {
+fn moved(name: &str, period: Period) -> Result<Result<Period, TimeFault>, BaseFault> {
     match name {
         "this_year" => Ok(period.this_year()),
         "first_month" => Ok(period.first_month()),
@@ -45,32 +45,32 @@ fn moved(name: &str, period: Period) -> Result<Result<Period, TimeFault>, Fault>
         "last_year" => Ok(period.last_year()),
         "n_2" => Ok(period.n_2()),
         "last_3_months" => Ok(period.last_3_months()),
-        _ => Err(Fault::Malformed),
+        _ => Err(BaseFault::Malformed),
     }
 }
 
-fn unit(word: &str) -> Result<Unit, Fault> {
+fn unit(word: &str) -> Result<Unit, BaseFault> {
     match word {
         "day" => Ok(Unit::Day),
         "month" => Ok(Unit::Month),
         "year" => Ok(Unit::Year),
         "eternity" => Ok(Unit::Eternity),
-        _ => Err(Fault::Malformed),
+        _ => Err(BaseFault::Malformed),
     }
 }
 
-fn offset(alloc: Global, words: &[String]) -> Result<String, Fault> {
+fn offset(alloc: Global, words: &[String]) -> Result<String, BaseFault> {
     let (text, k) = two(words)?;
     shown(alloc, period(text)?.offset(number(k)?))
 }
 
-fn offset_by(alloc: Global, words: &[String]) -> Result<String, Fault> {
+fn offset_by(alloc: Global, words: &[String]) -> Result<String, BaseFault> {
     let (text, k, by) = three(words)?;
     shown(alloc, period(text)?.offset_by(number(k)?, unit(by)?))
 }
 
 /// How many there are, the first and the last.
-fn subperiods(alloc: Global, words: &[String]) -> Result<String, Fault> {
+fn subperiods(alloc: Global, words: &[String]) -> Result<String, BaseFault> {
     let (text, by) = two(words)?;
     let period = period(text)?;
     let unit = unit(by)?;
@@ -81,7 +81,7 @@ fn subperiods(alloc: Global, words: &[String]) -> Result<String, Fault> {
 }
 
 /// The unit, the start, the size, the months and the days of a period.
-fn parts(alloc: Global, words: &[String]) -> Result<String, Fault> {
+fn parts(alloc: Global, words: &[String]) -> Result<String, BaseFault> {
     let period = period(one(words)?)?;
     let mut shown = Written::new(alloc);
     push_unit(&mut shown, period.unit());
@@ -127,7 +127,7 @@ fn push_day(shown: &mut Written, instant: Instant) {
 }
 
 /// Whether two periods share a day, and how the first stands to the second by unit, start and size.
-fn compare(alloc: Global, words: &[String]) -> Result<String, Fault> {
+fn compare(alloc: Global, words: &[String]) -> Result<String, BaseFault> {
     let (left, right) = two(words)?;
     let left = period(left)?;
     let right = period(right)?;
@@ -145,17 +145,17 @@ fn compare(alloc: Global, words: &[String]) -> Result<String, Fault> {
     Ok(format!(in alloc; "{shared}, {order}")?)
 }
 
-fn day(alloc: Global, instant: Instant) -> Result<String, Fault> {
+fn day(alloc: Global, instant: Instant) -> Result<String, BaseFault> {
     let mut shown = Written::new(alloc);
     push_day(&mut shown, instant);
     Ok(shown.finish()?)
 }
 
-fn instant(alloc: Global, words: &[String]) -> Result<String, Fault> {
+fn instant(alloc: Global, words: &[String]) -> Result<String, BaseFault> {
     day(alloc, Instant::read(one(words)?)?)
 }
 
-fn date(alloc: Global, words: &[String]) -> Result<String, Fault> {
+fn date(alloc: Global, words: &[String]) -> Result<String, BaseFault> {
     let (year, month, of_month) = three(words)?;
     day(
         alloc,
@@ -164,7 +164,7 @@ fn date(alloc: Global, words: &[String]) -> Result<String, Fault> {
 }
 
 /// Whether the first instant is before the second.
-fn earlier(alloc: Global, words: &[String]) -> Result<String, Fault> {
+fn earlier(alloc: Global, words: &[String]) -> Result<String, BaseFault> {
     let (left, right) = two(words)?;
     let is_earlier = Instant::read(left)? < Instant::read(right)?;
     Ok(format!(in alloc; "{is_earlier}")?)

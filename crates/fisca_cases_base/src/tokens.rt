@@ -1,21 +1,21 @@
 //! Tokens of modules.
 
-use crate::fault::Fault;
+use crate::fault::BaseFault;
 use crate::words::one;
 use crate::written::Written;
 use fisca_lexer::{Token, tokens};
 use std::alloc::{AllocError, Global};
 
 /// The answer to a case of tokens: what the call of this name gives for these words.
-pub fn answer(alloc: Global, operation: &str, words: &[String]) -> Result<String, Fault> {
+pub fn answer(alloc: Global, operation: &str, words: &[String]) -> Result<String, BaseFault> {
     match operation {
         "list" => list(alloc, words),
-        _ => Err(Fault::Malformed),
+        _ => Err(BaseFault::Malformed),
     }
 }
 
 /// The tokens of a text: `text@line`, and `>column` behind the first of a line.
-fn list(alloc: Global, words: &[String]) -> Result<String, Fault> {
+fn list(alloc: Global, words: &[String]) -> Result<String, BaseFault> {
     let source = one(words)?;
     let found = tokens(alloc, source)?;
     Ok(show(alloc, source, found.as_slice())?)

@@ -1,6 +1,6 @@
 //! The words of a case's line.
 
-use crate::fault::Fault;
+use crate::fault::BaseFault;
 use std::alloc::{AllocError, Global};
 use std::mem;
 use std::str::FromStr;
@@ -82,42 +82,42 @@ fn escaped(c: char) -> char {
 }
 
 /// The only word.
-pub fn one(words: &[String]) -> Result<&str, Fault> {
+pub fn one(words: &[String]) -> Result<&str, BaseFault> {
     match words {
         [a] => Ok(a.as_str()),
-        _ => Err(Fault::Malformed),
+        _ => Err(BaseFault::Malformed),
     }
 }
 
 /// Just two words.
-pub fn two(words: &[String]) -> Result<(&str, &str), Fault> {
+pub fn two(words: &[String]) -> Result<(&str, &str), BaseFault> {
     match words {
         [a, b] => Ok((a.as_str(), b.as_str())),
-        _ => Err(Fault::Malformed),
+        _ => Err(BaseFault::Malformed),
     }
 }
 
 /// Just three words.
-pub fn three(words: &[String]) -> Result<(&str, &str, &str), Fault> {
+pub fn three(words: &[String]) -> Result<(&str, &str, &str), BaseFault> {
     match words {
         [a, b, c] => Ok((a.as_str(), b.as_str(), c.as_str())),
-        _ => Err(Fault::Malformed),
+        _ => Err(BaseFault::Malformed),
     }
 }
 
 /// A number that a library is called with.
-pub fn number<N: FromStr>(word: &str) -> Result<N, Fault>
+pub fn number<N: FromStr>(word: &str) -> Result<N, BaseFault>
 where
     N::Err: Drop,
 {
     match word.parse() {
         Ok(number) => Ok(number),
-        Err(_) => Err(Fault::Malformed),
+        Err(_) => Err(BaseFault::Malformed),
     }
 }
 
 /// A limit of lines, or none for `-`.
-pub fn limit(word: &str) -> Result<Option<u64>, Fault> {
+pub fn limit(word: &str) -> Result<Option<u64>, BaseFault> {
     if word == "-" {
         return Ok(None);
     }

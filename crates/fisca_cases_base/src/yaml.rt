@@ -1,23 +1,23 @@
 //! YAML texts and their trees.
 
-use crate::fault::Fault;
+use crate::fault::BaseFault;
 use crate::words::{one, two};
 use crate::written::Written;
 use fisca_yaml::{Entry, Item, Tree, read};
 use std::alloc::{AllocError, Global};
 
 /// The answer to a case of YAML texts: what the call of this name gives for these words.
-pub fn answer(alloc: Global, operation: &str, words: &[String]) -> Result<String, Fault> {
+pub fn answer(alloc: Global, operation: &str, words: &[String]) -> Result<String, BaseFault> {
     match operation {
         "tree" => tree(alloc, words),
         "text" => whole(alloc, words),
         "at" => at(alloc, words),
-        _ => Err(Fault::Malformed),
+        _ => Err(BaseFault::Malformed),
     }
 }
 
 /// The tree of a text.
-fn tree(alloc: Global, words: &[String]) -> Result<String, Fault> {
+fn tree(alloc: Global, words: &[String]) -> Result<String, BaseFault> {
     let tree = read(alloc, one(words)?)?;
     let mut shown = Written::new(alloc);
     show(&mut shown, &tree);
@@ -25,13 +25,13 @@ fn tree(alloc: Global, words: &[String]) -> Result<String, Fault> {
 }
 
 /// The tree of a text as a text.
-fn whole(alloc: Global, words: &[String]) -> Result<String, Fault> {
+fn whole(alloc: Global, words: &[String]) -> Result<String, BaseFault> {
     let tree = read(alloc, one(words)?)?;
     Ok(text(alloc, &tree)?)
 }
 
 /// What stands at the key `KEY` of the text `TEXT`: as a text, as a truth value and as a number.
-fn at(alloc: Global, words: &[String]) -> Result<String, Fault> {
+fn at(alloc: Global, words: &[String]) -> Result<String, BaseFault> {
     let (key, source) = two(words)?;
     let tree = read(alloc, source)?;
     match tree.get(key) {
@@ -40,7 +40,7 @@ fn at(alloc: Global, words: &[String]) -> Result<String, Fault> {
     }
 }
 
-fn values(alloc: Global, tree: &Tree<'_>) -> Result<String, Fault> {
+fn values(alloc: Global, tree: &Tree<'_>) -> Result<String, BaseFault> {
     let text = text(alloc, tree)?;
     let bool = bool(tree);
     let number = number(alloc, tree)?;
@@ -63,7 +63,7 @@ fn bool(tree: &Tree<'_>) -> &'static str {
     }
 }
 
-fn number(alloc: Global, tree: &Tree<'_>) -> Result<String, Fault> {
+fn number(alloc: Global, tree: &Tree<'_>) -> Result<String, BaseFault> {
     match tree.as_number() {
         Some(number) => Ok(number.text(alloc)?),
         None => Ok(String::from_str(alloc, "none")?),

@@ -8,7 +8,7 @@ use Rattle.fisca_ast.specs.declared.fault.FormulaKind.TheVariants as kind
 use Rattle.fisca_ast.specs.Tree.{Tree}
 use Rattle.fisca_params.specs.Results.{and_then}
 use Rattle.fisca_model.specs.declared.value_type.ValueType.{ValueType}
-use Rattle.fisca_typing.specs.Formulas.{Assigned, Formula, Refusal, Scope, at, behind_local, formula_from, if_small}
+use Rattle.fisca_typing.specs.Formulas.{Assigned, Formula, RefusedFormula, Scope, at, behind_local, formula_from, if_small}
 use Rattle.fisca_check.specs.Formulas.{Tells}
 use Rattle.fisca_check.specs.declared.formula.FormulaRefusal.{FormulaRefusal as Told}
 use Rattle.fisca_typing.specs.Sizes.{Size, is_small}
@@ -53,10 +53,10 @@ large_then {X} t x h = by (is_small t) h
 
 -- One local after another
 
-pub formula_next : (whole : Result Formula Refusal) (i : ℕ) (s u : Scope) (t : ValueType) (l : Assigned) (ls : List Assigned) (e : Tree) →
+pub formula_next : (whole : Result Formula RefusedFormula) (i : ℕ) (s u : Scope) (t : ValueType) (l : Assigned) (ls : List Assigned) (e : Tree) →
     whole ≡ formula_from i s t (l ∷ ls) e → at i (behind_local s l.name l.value) ≡ Ok u → whole ≡ formula_from (i + 1) u t ls e
-formula_next whole i s u t l ls e h f = rw add-one (h ∙ ap (λ (o : Result Scope Refusal). and_then o (λ v. formula_from (suc i) v t ls e)) f)
+formula_next whole i s u t l ls e h f = rw add-one (h ∙ ap (λ (o : Result Scope RefusedFormula). and_then o (λ v. formula_from (suc i) v t ls e)) f)
 
-pub tells_same : {X Y : Type 0} (view : X → Y) (o p : Result Y Refusal) (r : Result X Told) → Tells view o r → p ≡ o → Tells view p r
+pub tells_same : {X Y : Type 0} (view : X → Y) (o p : Result Y RefusedFormula) (r : Result X Told) → Tells view o r → p ≡ o → Tells view p r
 tells_same view o p (Ok x) g e = e ∙ g
 tells_same view o p (Err k) g e = λ h. e ∙ g h

@@ -8,7 +8,7 @@ use Rattle.fisca_ir.specs.Views.{all_things, thing}
 use Rattle.fisca_ir.specs.declared.thing.Thing.{Thing as Held}
 use Rattle.fisca_params.specs.Results.{and_then}
 use Rattle.fisca_ast.specs.declared.fault.FormulaKind.{FormulaKind}
-use Rattle.fisca_typing.specs.Calls.{Given}
+use Rattle.fisca_typing.specs.Calls.{CallArgument}
 use Rattle.fisca_typing.specs.Names.{Names}
 use Rattle.fisca_typing.specs.Things.{Thing, Things, listed, more}
 use Rattle.fisca_typing.specs.Types.{bad_type}
@@ -23,7 +23,7 @@ one-more : {X : Type 0} (rest : Result (List X) FormulaKind) (xs : List X) (x : 
 one-more (Ok ys) xs x = ap (λ zs. Ok zs) (sym (append_assoc xs (x ∷ []) ys))
 one-more (Err e) xs x = refl
 
-pub elements_step : (all : Result (List Thing) FormulaKind) (items rest : List Given) (g : Given) (x : Thing) (xs ys : List Thing) →
+pub elements_step : (all : Result (List Thing) FormulaKind) (items rest : List CallArgument) (g : CallArgument) (x : Thing) (xs ys : List Thing) →
     all ≡ and_then (all_elements items) (λ zs. Ok (xs ++ zs)) → items ≡ g ∷ rest → element_of g ≡ Ok x → ys ≡ xs ++ x ∷ [] → all ≡ and_then (all_elements rest) (λ zs. Ok (ys ++ zs))
 elements_step all items rest g x xs ys h e f k =
     h ∙ ap (λ gs. behind-these xs (all_elements gs)) e
@@ -31,7 +31,7 @@ elements_step all items rest g x xs ys h e f k =
     ∙ one-more (all_elements rest) xs x
     ∙ ap (λ zs. behind-these zs (all_elements rest)) (sym k)
 
-pub elements_end : (all : Result (List Thing) FormulaKind) (items : List Given) (xs : List Thing) → all ≡ and_then (all_elements items) (λ zs. Ok (xs ++ zs)) → items ≡ [] → all ≡ Ok xs
+pub elements_end : (all : Result (List Thing) FormulaKind) (items : List CallArgument) (xs : List Thing) → all ≡ and_then (all_elements items) (λ zs. Ok (xs ++ zs)) → items ≡ [] → all ≡ Ok xs
 elements_end all items xs h e = h ∙ ap (λ gs. behind-these xs (all_elements gs)) e ∙ ap (λ zs. Ok zs) (append-nil xs)
 
 -- as a list of things
@@ -44,7 +44,7 @@ first-then (Ok x) true (Err k) = refl
 first-then (Ok x) false rest = refl
 first-then (Err k) b rest = refl
 
-pub elements_are : (gs : List Given) → elements gs ≡ and_then (all_elements gs) (λ xs. Ok (all_things xs))
+pub elements_are : (gs : List CallArgument) → elements gs ≡ and_then (all_elements gs) (λ xs. Ok (all_things xs))
 elements_are [] = refl
 elements_are (g ∷ gs) =
     ap (λ (rest : Result Things FormulaKind). and_then g.thing (λ x. if is_positional g.keyword then and_then rest (λ xs. Ok (more x xs)) else bad_type)) (elements_are gs)
@@ -54,7 +54,7 @@ list-then : (o : Result (List Thing) FormulaKind) → and_then (and_then o (λ x
 list-then (Ok xs) = refl
 list-then (Err k) = refl
 
-pub in_square : (gs : List Given) (r : Result Held FormulaKind) → Gives thing (list_view gs) r → Gives thing (in_brackets bracket.Square gs) r
+pub in_square : (gs : List CallArgument) (r : Result Held FormulaKind) → Gives thing (list_view gs) r → Gives thing (in_brackets bracket.Square gs) r
 in_square gs r g = gives_same thing (list_view gs) (in_brackets bracket.Square gs) r g (ap (λ o. and_then o (λ xs. Ok (listed xs))) (elements_are gs) ∙ list-then (all_elements gs))
 
 -- Arguments, with a comma behind the last or without

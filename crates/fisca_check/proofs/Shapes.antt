@@ -1,7 +1,7 @@
 -- How many arguments there are.
 use Rattle.std.proofs.Common.{◌≡◌, ◌≤◌, ℕ, List, [], ◌∷◌, Some, None, Ok, Err, arith, length, refl}
-use Rattle.fisca_check_calls.specs.Arguments.{single}
-use Rattle.fisca_check.specs.Questions.{asked_by}
+use Rattle.fisca_check_calls.specs.Steps.Arguments.{single}
+use Rattle.fisca_check.specs.Steps.Questions.{asked_by}
 use Rattle.fisca_ir.specs.Views.{listed}
 use Rattle.fisca_ir.specs.declared.thing.Thing.{Thing as Held}
 use Rattle.fisca_params.specs.Results.{and_then}
@@ -9,7 +9,7 @@ use Rattle.fisca_ast.specs.declared.fault.FormulaKind.TheVariants as kind
 use Rattle.fisca_typing.specs.declared.kinds.Level.{Level}
 use Rattle.fisca_typing.specs.declared.operations.Total.{Total}
 use Rattle.fisca_typing.specs.Asks.{asked_with, one_option, role_by, total_by, total_of}
-use Rattle.fisca_typing.specs.Calls.{Given, Settled, by_position, and_keyword}
+use Rattle.fisca_typing.specs.Calls.{CallArgument, Settled, by_position, and_keyword}
 use Rattle.fisca_model.specs.Tables.{Tables}
 use Rattle.fisca_typing.specs.Things.{Thing, Relation}
 
@@ -23,10 +23,10 @@ total_role entity t [] k x = refl
 total_role entity t (a ∷ []) k x = refl
 total_role entity t (a ∷ b ∷ ss) k x = refl
 
-pub asked_two : (c : Tables) (r : Relation) (l : Level) (a b : Given) → asked_with c r l (a ∷ b ∷ []) ≡ asked_by c r l a b None
+pub asked_two : (c : Tables) (r : Relation) (l : Level) (a b : CallArgument) → asked_with c r l (a ∷ b ∷ []) ≡ asked_by c r l a b None
 asked_two c r l a b = refl
 
-pub asked_three : (c : Tables) (r : Relation) (l : Level) (a b d : Given) → asked_with c r l (a ∷ b ∷ d ∷ []) ≡ asked_by c r l a b (Some d)
+pub asked_three : (c : Tables) (r : Relation) (l : Level) (a b d : CallArgument) → asked_with c r l (a ∷ b ∷ d ∷ []) ≡ asked_by c r l a b (Some d)
 asked_three c r l a b d = refl
 
 pub options_more : (xs : List Held) → 2 ≤ length xs → one_option (listed xs) ≡ Err kind.BadType

@@ -25,11 +25,11 @@ assigned a = record { name = a.name; value = tree a.value }
 abbrev pub formula_view : TypedFormula → typing.Formula
 formula_view f = record { values = map node f.values.items; result = node f.result }
 
-abbrev pub refusal : FormulaRefusal → typing.Refusal
+abbrev pub refusal : FormulaRefusal → typing.RefusedFormula
 refusal r = record { place = r.place; kind = r.kind }
 
 -- what this outcome says, seen in this way, or its refusal; or else memory ran out
-abbrev pub Tells : {X Y : Type 0} → (X → Y) → Result Y typing.Refusal → Result X FormulaRefusal → Type 0
+abbrev pub Tells : {X Y : Type 0} → (X → Y) → Result Y typing.RefusedFormula → Result X FormulaRefusal → Type 0
 Tells view outcome (Ok x) = outcome ≡ Ok (view x)
 Tells view outcome (Err r) = r.kind ≢ Memory → outcome ≡ Err (refusal r)
 

@@ -1,4 +1,5 @@
 pub mod Elements
 pub mod Formulas
 pub mod Questions
+pub mod Steps
 pub mod Views

@@ -1,48 +1,27 @@
 -- Questions for variables, by their arguments.
 use Rattle.std.specs.Borrow.{Bor}
-use Rattle.std.specs.Prelude.{ℕ, List, Option, Some, None, option_map, Result, Ok, if◌then◌else◌}
+use Rattle.std.specs.Prelude.{List, Option, option_map, Result, Ok}
 use Rattle.fisca_check_calls.specs.Arguments.{given}
 use Rattle.fisca_check_calls.specs.declared.arguments.GivenArgument.{GivenArgument as Held}
-use Rattle.fisca_ir.specs.Views.{thing}
-use Rattle.fisca_ir.specs.declared.thing.Thing.{Thing as HeldThing}
 use Rattle.fisca_params.specs.Results.{and_then}
 use Rattle.fisca_ast.specs.declared.fault.FormulaKind.{FormulaKind}
 use Rattle.fisca_model.specs.declared.role_place.RolePlace.{RolePlace}
-use Rattle.fisca_typing.specs.declared.kinds.Level.{Level}
 use Rattle.fisca_typing.specs.declared.kinds.Level.TheVariants as level
 use Rattle.fisca_model.specs.declared.value_type.ValueType.TheVariants as vt
-use Rattle.fisca_typing.specs.Asks.{asked, is_options, is_positional, role_by}
-use Rattle.fisca_typing.specs.Calls.{Given, Positions, positions, settled}
+use Rattle.fisca_typing.specs.Calls.{CallArgument, Positions, positions, settled}
 use Rattle.fisca_typing.specs.Nodes.{count}
-use Rattle.fisca_model.specs.Tables.{Tables}
-use Rattle.fisca_typing.specs.Things.{Thing, Relation, typed}
-use Rattle.fisca_typing.specs.Types.{bad_type}
+use Rattle.fisca_typing.specs.Things.{Thing, typed}
 
-abbrev pub given_if : Option (Bor Held) → Option Given
+abbrev pub given_if : Option (Bor Held) → Option CallArgument
 given_if = option_map (λ g. given g.now)
 
 abbrev pub outcome_of : Option (Bor Held) → Option (Result Thing FormulaKind)
 outcome_of = option_map (λ g. (given g.now).thing)
 
--- options stand behind their keyword
-abbrev pub with_options : Tables → Relation → Level → Given → Given → Option Given → Result Thing FormulaKind
-with_options c r l v p None = asked c r l v p None
-with_options c r l v p (Some o) = if is_options o.keyword then asked c r l v p (Some o.thing) else bad_type
-
--- a variable and a period by position
-abbrev pub asked_by : Tables → Relation → Level → Given → Given → Option Given → Result Thing FormulaKind
-asked_by c r l v p o =
-    if is_positional v.keyword then (if is_positional p.keyword then with_options c r l v p o else bad_type) else bad_type
-
 -- the arguments of a call by position and by keyword
-abbrev pub settled_view : List Given → Result Positions FormulaKind
+abbrev pub settled_view : List CallArgument → Result Positions FormulaKind
 settled_view gs = and_then (settled gs) (λ ss. Ok (positions ss))
 
 -- how many persons a group has, or have a role
 abbrev pub count_of : Option RolePlace → Result Thing FormulaKind
 count_of r = typed vt.Number level.Own (count r)
-
--- a role, if there is one, behind its keyword
-abbrev pub role_given : ℕ → Option (Bor (List ℕ) × HeldThing) → Result (Option RolePlace) FormulaKind
-role_given entity None = Ok None
-role_given entity (Some r) = role_by entity r.0.now (thing r.1)

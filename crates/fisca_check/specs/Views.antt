@@ -19,4 +19,4 @@ names c = record {
 
 -- what a name stands for that is no local's
 abbrev pub other_name : typing.Names → List ℕ → Option Thing
-other_name c t = otherwise (typing.argument_named c t) (otherwise (typing.known_word t) (typing.declared c.tables t))
+other_name c t = otherwise (typing.argument_named c t) (otherwise (typing.known_word t) (otherwise (typing.declared c.tables t) (typing.added_word t)))

@@ -1,7 +1,8 @@
 //! What formulas ask for: the values of variables.
 ghost use Rattle.std.specs.Prelude.{◌≡◌, Some, Ok};
 ghost use Rattle.fisca_check_calls.specs.Arguments.{all_given, given as given_of, key, outcome};
-ghost use Rattle.fisca_check.specs.Questions.{asked_by as asked_view, given_if, outcome_of};
+ghost use Rattle.fisca_check.specs.Questions.{given_if, outcome_of};
+ghost use Rattle.fisca_check.specs.Steps.Questions.{asked_by as asked_view};
 ghost use Rattle.fisca_ast.specs.Outcomes.{Gives};
 ghost use Rattle.fisca_ir.specs.Views.{listed, relation as relation_of, thing as thing_of};
 ghost use Rattle.fisca_symbols.specs.Known.{tables as tables_of};

@@ -1,7 +1,8 @@
 //! Roles, and what the persons of a group come to.
 ghost use Rattle.std.specs.Prelude.{◌≡◌};
 ghost use Rattle.fisca_check_calls.specs.Arguments.{positions as positions_view};
-ghost use Rattle.fisca_check.specs.Questions.{count_of, role_given as role_view};
+ghost use Rattle.fisca_check.specs.Questions.{count_of};
+ghost use Rattle.fisca_check.specs.Steps.Questions.{role_given as role_view};
 ghost use Rattle.fisca_ast.specs.Outcomes.{Gives};
 ghost use Rattle.fisca_ir.specs.Views.{thing as thing_of};
 ghost use Rattle.fisca_typing.specs.Asks as spec;

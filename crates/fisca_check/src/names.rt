@@ -73,6 +73,52 @@ fn known_word(name: &[u8]) -> Option<Thing>
     }
 }
 
+/// What the name of a function stands for that this project adds.
+#[tactic(auto, unfolding(fisca_typing::specs::Names::added_word))]
+fn added_word(name: &[u8]) -> Option<Thing>
+    ensures { option_map thing result ≡ spec.added_word name.now }
+{
+    if name == b"round_".as_slice() {
+        Some(Thing::Function(Function::Round))
+    } else if name == b"floor".as_slice() {
+        Some(Thing::Function(Function::Floor))
+    } else if name == b"ceil".as_slice() {
+        Some(Thing::Function(Function::Ceil))
+    } else if name == b"abs_".as_slice() {
+        Some(Thing::Function(Function::Absolute))
+    } else if name == b"clip".as_slice() {
+        Some(Thing::Function(Function::Clip))
+    } else {
+        None
+    }
+}
+
+/// What a name behind `np` or `numpy` stands for that this project adds, or `UnknownName`.
+#[tactic(auto, unfolding(fisca_typing::specs::Names::added_function))]
+fn added_function(name: &[u8]) -> Result<Thing, FormulaKind>
+    ensures { Gives thing (spec.added_function name.now) result }
+{
+    if name == b"round".as_slice() {
+        Ok(Thing::Function(Function::Round))
+    } else if name == b"floor".as_slice() {
+        Ok(Thing::Function(Function::Floor))
+    } else if name == b"ceil".as_slice() {
+        Ok(Thing::Function(Function::Ceil))
+    } else if name == b"abs".as_slice() {
+        Ok(Thing::Function(Function::Absolute))
+    } else if name == b"absolute".as_slice() {
+        Ok(Thing::Function(Function::Absolute))
+    } else if name == b"clip".as_slice() {
+        Ok(Thing::Function(Function::Clip))
+    } else if name == b"logical_and".as_slice() {
+        Ok(Thing::Function(Function::And))
+    } else if name == b"logical_or".as_slice() {
+        Ok(Thing::Function(Function::Or))
+    } else {
+        Err(FormulaKind::UnknownName)
+    }
+}
+
 /// What a name behind `np` or `numpy` stands for, or `UnknownName`.
 #[tactic(auto, unfolding(fisca_typing::specs::Names::library_function))]
 pub fn library_function(name: &[u8]) -> Result<Thing, FormulaKind>
@@ -89,7 +135,7 @@ pub fn library_function(name: &[u8]) -> Result<Thing, FormulaKind>
     } else if name == b"logical_not".as_slice() {
         Ok(Thing::Function(Function::Not))
     } else {
-        Err(FormulaKind::UnknownName)
+        added_function(name)
     }
 }
 
@@ -114,13 +160,16 @@ fn other_named(alloc: Global, names: &FormulaScope, name: &[u8]) -> Option<Thing
         Some(found) => Some(found),
         None => match known_word(name) {
             Some(found) => Some(found),
-            None => declared(names.tables, name),
+            None => match declared(names.tables, name) {
+                Some(found) => Some(found),
+                None => added_word(name),
+            },
         },
     }
 }
 
 /// What a name stands for, or `UnknownName`: the latest local, else an argument, else a word of the language, else an
-/// Enum or an entity.
+/// Enum or an entity, else a function that this project adds, which hides no name so.
 #[inline(never)]
 pub fn named(alloc: Global, names: &FormulaScope, name: &[u8]) -> Result<Thing, FormulaKind>
     ensures { Gives thing (spec.named (names_of names.now) name.now) result }

@@ -7,8 +7,9 @@ use Rattle.fisca_params.specs.Results.{and_then}
 use Rattle.fisca_params.specs.Tree.{TreeNode, child_of}
 use Rattle.fisca_ast.specs.declared.fault.FormulaKind.{FormulaKind}
 use Rattle.fisca_ast.specs.declared.fault.FormulaKind.TheVariants as kind
-use Rattle.fisca_typing.specs.Calls.{Given, Settled, settled}
-use Rattle.fisca_typing.specs.Operations.{typed_all}
+use Rattle.fisca_typing.specs.declared.operations.Arithmetic.{Arithmetic}
+use Rattle.fisca_typing.specs.Calls.{CallArgument, Settled, extreme_all, settled}
+use Rattle.fisca_typing.specs.Operations.{extreme, operated, typed_all}
 use Rattle.fisca_typing.specs.Parameters.{children_named, children_below}
 use Rattle.fisca_typing.specs.Things.{Thing, Typed, value_of}
 
@@ -39,7 +40,7 @@ values_end all items xs h e = h ∙ ap (λ ts. behind_these xs (typed_all (liste
 
 -- arguments
 
-pub settled_step : (all : Result (List Settled) FormulaKind) (items : List Given) (g : Given) (rest : List Given) (x : Thing) (xs ys : List Settled) →
+pub settled_step : (all : Result (List Settled) FormulaKind) (items : List CallArgument) (g : CallArgument) (rest : List CallArgument) (x : Thing) (xs ys : List Settled) →
     all ≡ behind_these xs (settled items) → items ≡ g ∷ rest → g.thing ≡ Ok x → ys ≡ xs ++ record { keyword = g.keyword; tree = g.tree; thing = x } ∷ [] → all ≡ behind_these ys (settled rest)
 settled_step all items g rest x xs ys h i f e =
     h ∙ ap (λ gs. behind_these xs (settled gs)) i
@@ -47,8 +48,18 @@ settled_step all items g rest x xs ys h i f e =
     ∙ one_more (settled rest) xs (record { keyword = g.keyword; tree = g.tree; thing = x })
     ∙ ap (λ zs. behind_these zs (settled rest)) (sym e)
 
-pub settled_end : (all : Result (List Settled) FormulaKind) (items : List Given) (xs : List Settled) → all ≡ behind_these xs (settled items) → items ≡ [] → all ≡ Ok xs
+pub settled_end : (all : Result (List Settled) FormulaKind) (items : List CallArgument) (xs : List Settled) → all ≡ behind_these xs (settled items) → items ≡ [] → all ≡ Ok xs
 settled_end all items xs h i = h ∙ ap (λ gs. behind_these xs (settled gs)) i ∙ ap (λ zs. Ok zs) (append-nil xs)
+
+-- the lowest or the highest
+
+pub extreme_step : (o : Arithmetic) (all : Result Thing FormulaKind) (x : Thing) (items : List Settled) (s : Settled) (rest : List Settled) (y : Thing) →
+    all ≡ extreme_all o x items → items ≡ s ∷ rest → operated (extreme o) x s.thing ≡ Ok y → all ≡ extreme_all o y rest
+extreme_step o all x items s rest y h i f =
+    h ∙ ap (extreme_all o x) i ∙ ap (λ r. and_then r (λ z. extreme_all o z rest)) f
+
+pub extreme_end : (o : Arithmetic) (all : Result Thing FormulaKind) (x : Thing) (items : List Settled) → all ≡ extreme_all o x items → items ≡ [] → all ≡ Ok x
+extreme_end o all x items h i = h ∙ ap (extreme_all o x) i
 
 -- children
 

@@ -10,7 +10,6 @@ use Rattle.fisca_ast.specs.declared.fault.FormulaKind.{FormulaKind}
 use Rattle.fisca_typing.specs.Calls as typing
 use Rattle.fisca_typing.specs.Parameters.{root_at}
 use Rattle.fisca_typing.specs.Things as things
-use Rattle.fisca_typing.specs.Types.{bad_type}
 use Rattle.fisca_check_calls.specs.declared.arguments.GivenArgument.{GivenArgument}
 use Rattle.fisca_check_calls.specs.declared.arguments.Settled.{Settled}
 use Rattle.fisca_check_calls.specs.declared.arguments.Positions.{Positions}
@@ -23,10 +22,10 @@ abbrev pub outcome : Result Thing FormulaKind → Result things.Thing FormulaKin
 outcome (Ok x) = Ok (thing x)
 outcome (Err k) = Err k
 
-abbrev pub given : GivenArgument → typing.Given
+abbrev pub given : GivenArgument → typing.CallArgument
 given g = record { keyword = key g.keyword; tree = tree g.tree.now; thing = outcome g.thing }
 
-abbrev pub all_given : List GivenArgument → List typing.Given
+abbrev pub all_given : List GivenArgument → List typing.CallArgument
 all_given = map given
 
 abbrev pub settled : Settled → typing.Settled
@@ -43,20 +42,6 @@ positions position.MoreKeywords = typing.more_keywords
 abbrev pub any_keyword : List typing.Settled → Bool
 any_keyword [] = false
 any_keyword (s ∷ ss) = is_some s.keyword || any_keyword ss
-
--- one argument, two, and three
-
-abbrev pub single : List typing.Settled → Result typing.Settled FormulaKind
-single (a ∷ []) = Ok a
-single _ = bad_type
-
-abbrev pub pair : List typing.Settled → Result (typing.Settled × typing.Settled) FormulaKind
-pair (a ∷ b ∷ []) = Ok (a, b)
-pair _ = bad_type
-
-abbrev pub triple : List typing.Settled → Result (typing.Settled × typing.Settled × typing.Settled) FormulaKind
-triple (a ∷ b ∷ c ∷ []) = Ok (a, b, c)
-triple _ = bad_type
 
 -- the default of a selection, if there is one: its keyword and what it stands for
 abbrev pub default_given : Option (Bor (List ℕ) × Thing) → Result (Option things.Typed) FormulaKind

@@ -19,6 +19,7 @@ held (variant.Value t l i) = things.value (record { value_type = t; level = l; n
 held (variant.Period ms) = things.period ms.items
 held (variant.Nodes c) = things.nodes (chosen c.value)
 held (variant.Scale n ms) = things.scale n ms.items
+held (variant.Choices e) = things.choices e
 
 -- what a local stands for, beside what those with values work out
 abbrev pub kept_view : List Node → Held → Kept

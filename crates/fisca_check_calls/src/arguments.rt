@@ -1,6 +1,7 @@
 //! Arguments of calls.
 ghost use Rattle.std.specs.Prelude.{◌≡◌};
-ghost use Rattle.fisca_check_calls.specs.Arguments.{all_given, all_settled, any_keyword, pair as pair_of, positions as positions_view, settled as settled_of, single as single_of, triple as triple_of};
+ghost use Rattle.fisca_check_calls.specs.Arguments.{all_given, all_settled, any_keyword, positions as positions_view, settled as settled_of};
+ghost use Rattle.fisca_check_calls.specs.Steps.Arguments.{pair as pair_of, single as single_of, triple as triple_of};
 ghost use Rattle.fisca_ast.specs.Outcomes.{Gives};
 ghost use Rattle.fisca_typing.specs.Calls as spec;
 

@@ -1,24 +1,26 @@
 //! Calls of functions.
 ghost use Rattle.std.specs.Prelude.{◌≡◌, length, map, Ok, option_map};
-ghost use Rattle.fisca_check_calls.specs.Arguments.{default_given, positions as positions_view, reader_at};
+ghost use Rattle.fisca_check_calls.specs.Arguments.{all_settled, default_given, positions as positions_view, reader_at};
+ghost use Rattle.fisca_check_calls.specs.Steps.Arguments.{pair as pair_of};
+ghost use Rattle.fisca_params.specs.Results.{and_then};
 ghost use Rattle.fisca_ast.specs.Outcomes.{Gives};
 ghost use Rattle.fisca_ir.specs.Views.{listed, node, thing, typed};
 ghost use Rattle.fisca_typing.specs.Calls as spec;
-ghost use Rattle.fisca_typing.specs.Operations.{typed_all, operated, extreme as operation_extreme};
+ghost use Rattle.fisca_typing.specs.Operations.{typed_all};
 ghost use Rattle.fisca_typing.specs.Things.{typed as typed_as};
 
-use crate::arguments::{Positions, alone, pair, triple};
+use crate::arguments::{Positions, Settled, alone, pair, single, triple};
 use crate::parameters::root_at;
-use fisca_ast::FormulaKind;
+use fisca_ast::{FormulaKind, Operator};
 use fisca_ir::{
     Dyadic, Node, Thing, Typed, choose, common, common_all, higher, highest, instant_of, is_bool,
-    negated, numeric_of, offset_by, offset_by_unit, operated, scale_sum, text_of, things_of,
-    value_of, where_of,
+    numeric_of, offset_by, offset_by_unit, operated, places_of, scale_sum, text_of, things_of,
+    unary_of, value_of, where_of,
 };
 use fisca_model::ValueType;
 use fisca_num::Fraction;
 use fisca_params::{NodeId, ParamTree};
-use fisca_typing::{Arithmetic, Function, Level, Move};
+use fisca_typing::{Arithmetic, Function, Level, Move, Unary};
 use std::alloc::Global;
 
 /// The values that a list has, or `BadType`.
@@ -213,20 +215,105 @@ fn select_by(alloc: Global, positions: Positions) -> Result<Thing, FormulaKind>
     }
 }
 
-/// `min_(first, second)` or `max_(first, second)`, or `BadType`.
-#[tactic(auto, using(crate::proofs::Shapes::two_pair))]
+/// The lowest or the highest of a value and of more, from left to right.
+fn extreme_all(
+    alloc: Global,
+    extreme: Arithmetic,
+    first: Thing,
+    others: Vec<Settled>,
+) -> Result<Thing, FormulaKind>
+    ensures { Gives thing (spec.extreme_all extreme (thing first) (all_settled others.entry.items)) result }
+{
+    let mut found = first;
+    for other in others {
+        found = operated(alloc, Dyadic::Extreme(extreme), found, other.thing)?;
+    }
+    Ok(found)
+}
+
+/// `min_` or `max_` of two arguments or more, from left to right, or `BadType`.
 fn extreme_by(
     alloc: Global,
     extreme: Arithmetic,
     positions: Positions,
 ) -> Result<Thing, FormulaKind>
-    ensures { Gives thing (spec.two (positions_view positions.entry) (λ a b. operated (operation_extreme extreme) a.thing b.thing)) result }
+    ensures { Gives thing (spec.extreme_by extreme (positions_view positions.entry)) result }
+{
+    let Positions::ByPosition(mut arguments) = positions else {
+        return Err(FormulaKind::BadType);
+    };
+    if arguments.len() < 2 {
+        return Err(FormulaKind::BadType);
+    }
+    let first = arguments.remove(0);
+    extreme_all(alloc, extreme, first.thing, arguments)
+}
+
+/// An operator on two arguments, or `BadType`.
+#[tactic(auto, using(crate::proofs::Shapes::two_pair))]
+fn operator_by(
+    alloc: Global,
+    operator: Operator,
+    positions: Positions,
+) -> Result<Thing, FormulaKind>
+    ensures { Gives thing (spec.operator_by operator (positions_view positions.entry)) result }
 {
     let Positions::ByPosition(arguments) = positions else {
         return Err(FormulaKind::BadType);
     };
     let (first, second) = pair(arguments)?;
-    operated(alloc, Dyadic::Extreme(extreme), first.thing, second.thing)
+    operated(alloc, Dyadic::Operator(operator), first.thing, second.thing)
+}
+
+/// An operation on one argument, or `BadType`.
+fn unary_by(alloc: Global, operation: Unary, positions: Positions) -> Result<Thing, FormulaKind>
+    ensures { Gives thing (spec.unary_by operation (positions_view positions.entry)) result }
+{
+    let argument = alone(positions)?;
+    unary_of(alloc, operation, argument.thing)
+}
+
+/// `round_(number, places)`, or `BadType`.
+fn round_to(alloc: Global, arguments: Vec<Settled>) -> Result<Thing, FormulaKind>
+    ensures { Gives thing (and_then (pair_of (all_settled arguments.entry.items)) (λ p. and_then (spec.places_of p.1.tree) (spec.rounded p.0.thing))) result }
+{
+    let (number, places) = pair(arguments)?;
+    let places = places_of(places.tree)?;
+    unary_of(alloc, Unary::Round(places), number.thing)
+}
+
+/// `round_(number)` or `round_(number, places)`, or `BadType`.
+#[tactic(auto, using(crate::proofs::Shapes::round_single, crate::proofs::Shapes::round_pair))]
+fn round_by(alloc: Global, positions: Positions) -> Result<Thing, FormulaKind>
+    ensures { Gives thing (spec.round_by (positions_view positions.entry)) result }
+{
+    let Positions::ByPosition(arguments) = positions else {
+        return Err(FormulaKind::BadType);
+    };
+    if arguments.len() == 1 {
+        let number = single(arguments)?;
+        return unary_of(alloc, Unary::Round(0), number.thing);
+    }
+    round_to(alloc, arguments)
+}
+
+/// `clip(number, low, high)`, or `BadType`: the lower one of the higher bound and of the higher one of the number and the
+/// lower bound.
+#[tactic(auto, using(crate::proofs::Shapes::clip_triple))]
+fn clip_by(alloc: Global, positions: Positions) -> Result<Thing, FormulaKind>
+    ensures { Gives thing (spec.clip_by (positions_view positions.entry)) result }
+{
+    let Positions::ByPosition(arguments) = positions else {
+        return Err(FormulaKind::BadType);
+    };
+    let (number, low, high) = triple(arguments)?;
+    let raised = operated(
+        alloc,
+        Dyadic::Extreme(Arithmetic::Max),
+        number.thing,
+        low.thing,
+    )?;
+    operated(alloc, Dyadic::Extreme(Arithmetic::Min), raised, high.thing)
 }
 
 /// A call of a function of the language: `BadType` where its arguments do not fit, else `BadLevel` where their levels do
@@ -243,10 +330,14 @@ pub fn function_by(
         Function::Select => select_by(alloc, positions),
         Function::Min => extreme_by(alloc, Arithmetic::Min, positions),
         Function::Max => extreme_by(alloc, Arithmetic::Max, positions),
-        Function::Not => {
-            let argument = alone(positions)?;
-            negated(alloc, value_of(argument.thing)?)
-        }
+        Function::Clip => clip_by(alloc, positions),
+        Function::Not => unary_by(alloc, Unary::Not, positions),
+        Function::And => operator_by(alloc, Operator::And, positions),
+        Function::Or => operator_by(alloc, Operator::Or, positions),
+        Function::Floor => unary_by(alloc, Unary::Floor, positions),
+        Function::Ceil => unary_by(alloc, Unary::Ceil, positions),
+        Function::Round => round_by(alloc, positions),
+        Function::Absolute => unary_by(alloc, Unary::Absolute, positions),
     }
 }
 

@@ -46,6 +46,7 @@ impl Held {
             Held::Scale(place, moves) => {
                 Ok(Thing::Scale(*place, copy_moves(alloc, moves.as_slice())?))
             }
+            Held::Choices(place) => Ok(Thing::Choices(*place)),
         }
     }
 }
@@ -69,12 +70,12 @@ pub fn kept(thing: Thing, values: &mut Vec<Node>) -> Result<Held, FormulaKind>
         Thing::Period(moves) => Ok(Held::Period(moves)),
         Thing::Nodes(chosen) => Ok(Held::Nodes(chosen)),
         Thing::Scale(place, moves) => Ok(Held::Scale(place, moves)),
+        Thing::Choices(place) => Ok(Held::Choices(place)),
         Thing::Start(_)
         | Thing::Offset(_)
         | Thing::Reader
         | Thing::Calculation(..)
         | Thing::Enumeration(_)
-        | Thing::Choices(_)
         | Thing::Entity(_)
         | Thing::Role(..)
         | Thing::Asker

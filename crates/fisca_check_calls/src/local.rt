@@ -21,6 +21,8 @@ pub enum Held {
     Nodes(Box<Chosen>),
     /// A scale at the start of a period.
     Scale(NodeId, Vec<Move>),
+    /// The members of an Enum.
+    Choices(usize),
 }
 
 /// A local: its name, what that stands for, and the size of its expression with the earlier locals put in, which is

@@ -7,7 +7,7 @@ use Rattle.std.specs.Char.{is_ascii_digit}
 use Rattle.std.specs.Fmt.{decimal}
 use Rattle.std.specs.List.{list_all}
 use Rattle.std.specs.Str.Parse.{digits_value}
-use Rattle.fisca_columns.specs.Places.{member_at}
+use Rattle.fisca_columns.specs.Steps.Places.{member_at}
 use Rattle.fisca_columns.specs.Written.{has_sign, at_sign}
 
 digits : IsNumeralModel (λ ds. list_all is_ascii_digit ds ≡ true) (digits_value 10)

@@ -1,7 +1,7 @@
 -- `split_once` at a character, as the definition of what stands before its first place and behind it.
 use Rattle.std.proofs.Common.{◌≡◌, ℕ, suc, ◌+◌, ◌<◌, Bool, true, false, not, cond, eqb, List, [], ◌∷◌, length, take, drop, Option, Some, None, MatchOption, refl, ap, ap₂, ◌∙◌, sym, arith}
 use Rattle.std.specs.List.{position_or_len, before_first, after_first}
-use Rattle.fisca_columns.specs.Written.{cut}
+use Rattle.fisca_columns.specs.Steps.Written.{cut}
 use denote.Ref.{Bor}
 
 abbrev Cut : Type 0

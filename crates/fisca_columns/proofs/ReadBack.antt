@@ -15,8 +15,10 @@ use Rattle.fisca_model.specs.Tables.{Tables, Variable}
 use Rattle.fisca_columns.proofs.Backwards.{clear_decimal, place_of_decimal}
 use Rattle.fisca_columns.proofs.Readings.{written_once}
 use Rattle.fisca_columns.specs.AskedColumns.{IsAsked, column_text}
-use Rattle.fisca_columns.specs.Columns.{asked_at, column_of, if_usable, key_at, key_of_parts, period_at}
-use Rattle.fisca_columns.specs.Written.{Parts, parts_of, text_of_parts}
+use Rattle.fisca_columns.specs.Columns.{column_of, if_usable, key_at, key_of_parts}
+use Rattle.fisca_columns.specs.Steps.Columns.{asked_at, period_at}
+use Rattle.fisca_columns.specs.Written.{Parts, text_of_parts}
+use Rattle.fisca_columns.specs.Steps.Written.{parts_of}
 
 period_read : (unit : Unit) (default : Option Span) (p : Span) → period_of_text (period_text p) ≡ Ok p → fits unit p ≡ true → key_period unit p ≡ p
     → period_at unit default (Some (period_text p)) ≡ Some p

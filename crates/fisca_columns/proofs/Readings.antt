@@ -3,7 +3,8 @@ use Rattle.std.proofs.Common.{◌≡◌, ◌↔◌, ℕ, Bool, true, false, cond
 use Rattle.std.proofs.lemmas.Bool.{eq-eqb, eqb-true, or_from, or_parts, true≢false}
 use Rattle.std.proofs.lemmas.List.{append_assoc}
 use Rattle.std.proofs.lemmas.List.Folds.{list_any-append}
-use Rattle.fisca_columns.specs.Written.{Parts, behind, has_sign, has_sign_in, IsWritten, cut, parts_of, at_sign, number_sign}
+use Rattle.fisca_columns.specs.Written.{Parts, behind, has_sign, has_sign_in, IsWritten, at_sign, number_sign}
+use Rattle.fisca_columns.specs.Steps.Written.{cut, parts_of}
 
 abbrev Cut : Type 0
 Cut = List ℕ × Option (List ℕ)

@@ -5,10 +5,10 @@ use Rattle.fisca_situations.proofs.Country.{child, households, nought, person, v
 use Rattle.fisca_inputs.specs.Entries.{key}
 use Rattle.fisca_inputs.specs.declared.fault.SituationKind.TheVariants as situation
 use Rattle.fisca_model.specs.declared.key.Key.{Key}
-use Rattle.fisca_members.specs.Members.{members_in}
-use Rattle.fisca_members.specs.Persons.{with_person}
-use Rattle.fisca_situations.specs.Reading.{dated_given, entry_given, inputs_given, member_below, named_given, section_by, section_given, value_given, variable_given}
-use Rattle.fisca_situations.specs.Situations.{reading_in, reading_of}
+use Rattle.fisca_members.specs.Steps.Members.{members_in}
+use Rattle.fisca_members.specs.Steps.Persons.{with_person}
+use Rattle.fisca_situations.specs.Steps.Reading.{dated_given, entry_given, inputs_given, member_below, named_given, section_by, section_given, value_given, variable_given}
+use Rattle.fisca_situations.specs.Steps.Situations.{reading_in, reading_of}
 use Rattle.fisca_situations.proofs.Shown.{january}
 use Rattle.fisca_symbols.specs.declared.tables.Tables.{Tables}
 use Rattle.fisca_symbols.specs.declared.variable.DeclaredType.TheVariants as type

@@ -13,7 +13,8 @@ use Rattle.fisca_model.specs.declared.value_type.ValueType.{ValueType}
 use Rattle.fisca_model.specs.declared.value_type.ValueType.TheVariants as type
 use Rattle.fisca_columns.specs.Columns.{column_of}
 use Rattle.fisca_columns.specs.Texts.{value_text}
-use Rattle.fisca_columns.specs.Written.{Parts, parts_of, text_of_parts}
+use Rattle.fisca_columns.specs.Written.{Parts, text_of_parts}
+use Rattle.fisca_columns.specs.Steps.Written.{parts_of}
 use Rattle.fisca_situations.proofs.Shown.{january}
 
 -- How columns are written

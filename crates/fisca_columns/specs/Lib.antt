@@ -5,8 +5,8 @@ pub mod Columns
 pub mod Faults
 pub mod Lines
 pub mod Outcomes
-pub mod Places
 pub mod Shown
+pub mod Steps
 pub mod Texts
 pub mod Views
 pub mod Written

@@ -1,27 +1,14 @@
 -- The texts of keys and values, as they are printed.
-use Rattle.std.specs.Prelude.{ℕ, List, [], ◌++◌, Bool, if◌then◌else◌, Option, Some, None, slice_get, codes}
-use Rattle.std.specs.Option.{unwrap_or}
+use Rattle.std.specs.Prelude.{ℕ, List, ◌++◌, Bool, if◌then◌else◌, slice_get, codes}
 use Rattle.fisca_model.specs.declared.value.Value.{Value}
 use Rattle.fisca_model.specs.declared.value.Value.TheVariants as v
 use Rattle.fisca_model.specs.declared.key.Key.{Key}
-use Rattle.fisca_groups.specs.Lookup.{name_at}
 use Rattle.fisca_groups.specs.declared.entity_members.EntityMembers.{EntityMembers}
 use Rattle.fisca_num.specs.Text.{text_of as number_text}
 use Rattle.fisca_time.specs.PeriodText.{text_of as period_text}
-use Rattle.fisca_model.specs.Tables.{Tables, Variable, members_at}
-use Rattle.fisca_model.specs.declared.value_type.ValueType.{ValueType}
-use Rattle.fisca_model.specs.declared.value_type.ValueType.TheVariants as type
+use Rattle.fisca_model.specs.Tables.{Tables}
 use Rattle.fisca_columns.specs.Shown.{shown}
-
--- nothing where there is no such variable
-abbrev pub name_of : Option Variable → List ℕ
-name_of None = []
-name_of (Some x) = x.name
-
--- the name of a member of the variable's entity, and nothing where there is none
-abbrev pub member_of : List EntityMembers → ℕ → Option Variable → List ℕ
-member_of ms member None = []
-member_of ms member (Some x) = unwrap_or (name_at ms x.entity member) []
+use Rattle.fisca_columns.specs.Steps.Texts.{name_of, member_of, choice_at}
 
 -- a name, and a text behind it
 abbrev pub named : List ℕ → List ℕ → List ℕ
@@ -34,17 +21,6 @@ key_by between name member period = named between name ++ (named between member 
 abbrev pub key_text : List ℕ → Tables → List EntityMembers → Key → List ℕ
 key_text between c ms k =
     let x = slice_get c.variables k.variable in key_by between (name_of x) (member_of ms k.member x) (period_text k.period)
-
--- the name of a member of an Enum, and nothing where there is none
-abbrev pub choice_of : Tables → Option ValueType → ℕ → List ℕ
-choice_of c None i = []
-choice_of c (Some type.Number) i = []
-choice_of c (Some type.Bool) i = []
-choice_of c (Some (type.Enum e)) i = unwrap_or (slice_get (members_at c e) i) []
-
-abbrev pub choice_at : Tables → Option Variable → ℕ → List ℕ
-choice_at c None i = []
-choice_at c (Some x) i = choice_of c x.value_type i
 
 abbrev pub bool_text : Bool → List ℕ
 bool_text b = if b then codes "true" else codes "false"

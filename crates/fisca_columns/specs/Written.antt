@@ -1,5 +1,5 @@
 -- How a column is written: `NAME`, `NAME#INDEX`, `NAME@PERIOD` or `NAME#INDEX@PERIOD`.
-use Rattle.std.specs.Prelude.{◌≡◌, ℕ, List, [], ◌∷◌, ◌++◌, Bool, false, ◌==◌, if◌then◌else◌, Option, Some, None, codes}
+use Rattle.std.specs.Prelude.{◌≡◌, ℕ, List, [], ◌++◌, Bool, false, ◌==◌, Option, Some, None, codes}
 use Rattle.std.specs.List.{list_any}
 
 -- a name, and perhaps an index and a period
@@ -35,13 +35,3 @@ pub record IsWritten (text : List ℕ) (w : Parts) : Type 0 where
   pub name_ends : has_sign number_sign w.name ≡ false
   pub name_has_no_period : has_sign at_sign w.name ≡ false
   pub index_ends : has_sign_in at_sign w.index ≡ false
-
--- what stands before the first such sign, and what behind it, if there is one
-abbrev pub cut : ℕ → List ℕ → List ℕ × Option (List ℕ)
-cut sign [] = ([], None)
-cut sign (b ∷ bs) = if b == sign then ([], Some bs) else (b ∷ (cut sign bs).0, (cut sign bs).1)
-
--- the parts of a text, which is written in just one way
-abbrev pub parts_of : List ℕ → Parts
-parts_of text =
-    let front = cut at_sign text in let name = cut number_sign front.0 in record { name = name.0; index = name.1; period = front.1 }

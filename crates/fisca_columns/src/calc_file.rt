@@ -2,11 +2,12 @@
 
 ghost use Rattle.std.specs.Prelude.{◌≡◌};
 ghost use Rattle.fisca_columns.specs.Calc as spec;
+ghost use Rattle.fisca_columns.specs.Steps.Calc as steps;
 ghost use Rattle.fisca_columns.specs.Faults.{told};
 ghost use Rattle.fisca_columns.specs.Outcomes.{Tells};
 ghost use Rattle.fisca_columns.specs.Views.{calc};
-ghost use Rattle.fisca_situations.specs.Situations.{situation_of};
-ghost use Rattle.fisca_situations.specs.Views.{situation as situation_view};
+ghost use Rattle.fisca_situations.specs.Steps.Situations.{situation_of};
+ghost use Rattle.fisca_situations.specs.Steps.Views.{situation as situation_view};
 ghost use Rattle.fisca_yaml.specs.Views.{node};
 
 use crate::columns::{Columns, columns_by};
@@ -53,7 +54,7 @@ fn situation_at(
 
 /// The period of the file, which values, columns and axes without one have.
 pub fn default_in(tree: &Tree<'_>) -> Option<Period>
-    ensures { result ≡ spec.default_in (node tree.now) }
+    ensures { result ≡ steps.default_in (node tree.now) }
 {
     let found = tree.get("period")?;
     period_in(found)
@@ -65,7 +66,7 @@ fn situation_in(
     tables: &Tables<'_>,
     tree: &Tree<'_>,
 ) -> Result<Situation, RunFileFault>
-    ensures { Tells situation_view (spec.situation_in tables.now (node tree.now)) result }
+    ensures { Tells situation_view (steps.situation_in tables.now (node tree.now)) result }
 {
     let default = default_in(tree);
     match tree.entry("input") {
@@ -82,7 +83,7 @@ pub fn columns_in(
     situation: &Situation,
     tree: &Tree<'_>,
 ) -> Result<Columns, RunFileFault>
-    ensures { Tells (λ c. c) (spec.columns_in tables.now (situation_view situation.now).members (node tree.now)) result }
+    ensures { Tells (λ c. c) (steps.columns_in tables.now (situation_view situation.now).members (node tree.now)) result }
 {
     let default = default_in(tree);
     match tree.get("columns") {

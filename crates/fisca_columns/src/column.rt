@@ -4,8 +4,9 @@ ghost use Rattle.std.specs.Prelude.{◌≡◌, option_map, is_some};
 ghost use Rattle.fisca_symbols.specs.Known.{tables as known};
 ghost use Rattle.fisca_symbols.specs.KnownVariables.{value_type as known_type};
 ghost use Rattle.fisca_columns.specs.Columns as spec;
+ghost use Rattle.fisca_columns.specs.Steps.Columns as steps;
 ghost use Rattle.fisca_columns.specs.ColumnViews.{parts as parts_view};
-ghost use Rattle.fisca_situations.specs.Views.{situation as situation_view};
+ghost use Rattle.fisca_situations.specs.Steps.Views.{situation as situation_view};
 
 use crate::place::member_at;
 use crate::written::{Parts, parts_of};
@@ -17,7 +18,7 @@ use fisca_time::{Period, Unit};
 
 /// The period of the key that a variable is asked for at a period.
 fn asked_at(variable: &Variable<'_>, period: Period) -> Option<Period>
-    ensures { result ≡ spec.asked_at variable.now.definition_period period }
+    ensures { result ≡ steps.asked_at variable.now.definition_period period }
 {
     if fits(variable.definition_period, period) {
         Some(key_period(variable, period))
@@ -28,7 +29,7 @@ fn asked_at(variable: &Variable<'_>, period: Period) -> Option<Period>
 
 /// The same at the default period, which an eternal variable does not need.
 fn asked_at_default(variable: &Variable<'_>, default: Option<Period>) -> Option<Period>
-    ensures { result ≡ spec.asked_at_default variable.now.definition_period default }
+    ensures { result ≡ steps.asked_at_default variable.now.definition_period default }
 {
     match default {
         Some(period) => asked_at(variable, period),
@@ -43,7 +44,7 @@ fn period_at(
     default: Option<Period>,
     written: Option<&str>,
 ) -> Option<Period>
-    ensures { result ≡ spec.period_at variable.now.definition_period default (option_map (λ t. t.now) written.entry) }
+    ensures { result ≡ steps.period_at variable.now.definition_period default (option_map (λ t. t.now) written.entry) }
 {
     match written {
         Some(text) => match Period::read(text) {

@@ -1,9 +1,9 @@
 //! The columns of a file.
 
 ghost use Rattle.std.specs.Prelude.{◌≡◌, [], ◌∷◌, ◌++◌, IfOk};
-ghost use Rattle.fisca_columns.specs.Calc as spec;
+ghost use Rattle.fisca_columns.specs.Steps.Calc as spec;
 ghost use Rattle.fisca_columns.specs.Outcomes.{Tells};
-ghost use Rattle.fisca_situations.specs.Views.{situation as situation_view};
+ghost use Rattle.fisca_situations.specs.Steps.Views.{situation as situation_view};
 ghost use Rattle.fisca_yaml.specs.Views.{node, items_view};
 
 use crate::fault::{RunFileFault, RunFileKind};

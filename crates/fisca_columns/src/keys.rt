@@ -2,6 +2,7 @@
 
 ghost use Rattle.std.specs.Prelude.{◌≡◌, []};
 ghost use Rattle.fisca_columns.specs.Calc as spec;
+ghost use Rattle.fisca_columns.specs.Steps.Calc as steps;
 ghost use Rattle.fisca_columns.specs.Outcomes.{Answers};
 ghost use Rattle.fisca_yaml.specs.Views.{node, items_view, entries_view};
 
@@ -11,7 +12,7 @@ use fisca_yaml::{Entry, Item, Tree};
 
 /// The period that a scalar is read as, if it is one.
 pub fn period_in(tree: &Tree<'_>) -> Option<Period>
-    ensures { result ≡ spec.period_in (node tree.now) }
+    ensures { result ≡ steps.period_in (node tree.now) }
 {
     let text = tree.as_text()?;
     Period::read(text).ok()
@@ -19,7 +20,7 @@ pub fn period_in(tree: &Tree<'_>) -> Option<Period>
 
 /// Whether all items are scalars.
 fn are_scalars(items: &[Item<'_>]) -> bool
-    ensures { result ≡ spec.are_scalars (items_view items.now) }
+    ensures { result ≡ steps.are_scalars (items_view items.now) }
 {
     for item in items {
         if item.value.as_text().is_none() {
@@ -31,7 +32,7 @@ fn are_scalars(items: &[Item<'_>]) -> bool
 
 /// Whether this is one scalar, or a list of scalars.
 pub fn are_columns(tree: &Tree<'_>) -> bool
-    ensures { result ≡ spec.are_columns (node tree.now) }
+    ensures { result ≡ steps.are_columns (node tree.now) }
 {
     match tree {
         Tree::Scalar { .. } => true,
@@ -42,7 +43,7 @@ pub fn are_columns(tree: &Tree<'_>) -> bool
 
 /// Whether a key has what it may have.
 fn is_accepted(key: &str, tree: &Tree<'_>) -> bool
-    ensures { result ≡ spec.is_accepted key.now (node tree.now) }
+    ensures { result ≡ steps.is_accepted key.now (node tree.now) }
 {
     match key {
         "period" => period_in(tree).is_some(),

@@ -3,7 +3,8 @@
 ghost use Rattle.std.specs.Prelude.{◌≡◌, ◌↔◌, ℕ, List, Option, Some};
 ghost use Rattle.fisca_columns.specs.AskedColumns.{IsAsked, column_text};
 ghost use Rattle.fisca_columns.specs.Columns.{column_of};
-ghost use Rattle.fisca_columns.specs.Written.{IsWritten, Parts, parts_of};
+ghost use Rattle.fisca_columns.specs.Written.{IsWritten, Parts};
+ghost use Rattle.fisca_columns.specs.Steps.Written.{parts_of};
 ghost use Rattle.fisca_model.specs.declared.key.Key.{Key};
 ghost use Rattle.fisca_groups.specs.declared.entity_members.EntityMembers.{EntityMembers};
 ghost use Rattle.fisca_time.specs.Period.{Span};

@@ -4,14 +4,16 @@ ghost use Rattle.std.specs.Prelude.{◌≡◌, ◌<◌, ◌++◌, None, length, 
 ghost use Rattle.fisca_columns.specs.Lines.{column_row, line_of};
 ghost use Rattle.fisca_writer.specs.Run.{IsRun, is_write};
 ghost use Rattle.fisca_writer.specs.Sink.{CountsFailure};
-ghost use Rattle.fisca_situations.specs.Views.{situation as situation_view};
+ghost use Rattle.fisca_situations.specs.Steps.Views.{situation as situation_view};
 ghost use Rattle.fisca_symbols.specs.Known.{tables as known};
 
 use crate::{write_key, write_value};
 use fisca_model::{Key, Value};
 use fisca_situations::{Answers, Situation};
 use fisca_symbols::Tables;
-use fisca_writer::{Groups, RowFault, RowSink, Rows, RunEnd, RunFault, Selection, write_lines};
+use fisca_writer::{
+    GroupLengths, RowFault, RowSink, Rows, RunEnd, RunFault, Selection, write_lines,
+};
 use std::alloc::{AllocError, Global};
 use std::marker::{Brand, PhantomData};
 
@@ -79,8 +81,8 @@ impl<'a, 't, A: Answers + Drop, N: Names> Rows for ColumnRows<'a, 't, A, N> {
 
     ghost refused = { λ _ _ _. ⊤ };
 
-    fn groups(&self) -> Groups {
-        let mut groups = Groups::new();
+    fn groups(&self) -> GroupLengths {
+        let mut groups = GroupLengths::new();
         groups.push(self.columns.len() as u64);
         groups
     }

@@ -3,7 +3,7 @@
 ghost use Rattle.std.specs.Prelude.{◌≡◌, Some, option_map};
 ghost use Rattle.std.specs.Char.{is_ascii_digit};
 ghost use Rattle.std.specs.List.{list_all};
-ghost use Rattle.fisca_columns.specs.Places as spec;
+ghost use Rattle.fisca_columns.specs.Steps.Places as spec;
 
 /// Whether all bytes are decimal digits.
 fn are_digits(bytes: &[u8]) -> bool

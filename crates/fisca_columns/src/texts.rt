@@ -5,7 +5,8 @@ ghost use Rattle.fisca_time.specs.PeriodText.{text_of as period_text};
 ghost use Rattle.fisca_symbols.specs.Known.{tables as known};
 ghost use Rattle.fisca_symbols.specs.KnownVariables.{variable as known_variable, value_type as known_type};
 ghost use Rattle.fisca_columns.specs.Texts as spec;
-ghost use Rattle.fisca_situations.specs.Views.{situation as situation_view};
+ghost use Rattle.fisca_columns.specs.Steps.Texts as steps;
+ghost use Rattle.fisca_situations.specs.Steps.Views.{situation as situation_view};
 
 use crate::pieces::{write_name, write_period};
 use fisca_model::{Key, Value};
@@ -16,7 +17,7 @@ use std::alloc::{AllocError, Global};
 
 /// The name of a variable, if there is one.
 fn name_of<'v>(variable: Option<&'v Variable<'_>>) -> &'v [u8]
-    ensures { result.now ≡ spec.name_of (option_map (λ v. known_variable v.now) variable.entry) }
+    ensures { result.now ≡ steps.name_of (option_map (λ v. known_variable v.now) variable.entry) }
 {
     match variable {
         Some(variable) => variable.name.as_bytes(),
@@ -26,7 +27,7 @@ fn name_of<'v>(variable: Option<&'v Variable<'_>>) -> &'v [u8]
 
 /// The name of a member of the variable's entity, if there is one.
 fn member_of<'s>(situation: &'s Situation, member: u32, variable: Option<&Variable<'_>>) -> &'s [u8]
-    ensures { result.now ≡ spec.member_of (situation_view situation.now).members member (option_map (λ v. known_variable v.now) variable.entry) }
+    ensures { result.now ≡ steps.member_of (situation_view situation.now).members member (option_map (λ v. known_variable v.now) variable.entry) }
 {
     match variable {
         Some(variable) => situation.name(variable.entity, member).unwrap_or(b""),
@@ -98,7 +99,7 @@ pub fn key_text(
 
 /// The name of the member at a place of the variable's Enum, if there is one.
 fn choice_of<'t>(tables: &'t Tables<'_>, value_type: DeclaredType, place: usize) -> &'t [u8]
-    ensures { result.now ≡ spec.choice_of (known tables.now) (known_type value_type) place }
+    ensures { result.now ≡ steps.choice_of (known tables.now) (known_type value_type) place }
 {
     let DeclaredType::Enum(choices) = value_type else {
         return b"";
@@ -114,7 +115,7 @@ fn choice_of<'t>(tables: &'t Tables<'_>, value_type: DeclaredType, place: usize)
 
 /// The same of the variable at a place.
 fn choice_at<'t>(tables: &'t Tables<'_>, variable: usize, place: usize) -> &'t [u8]
-    ensures { result.now ≡ spec.choice_at (known tables.now) (slice_get (known tables.now).variables variable) place }
+    ensures { result.now ≡ steps.choice_at (known tables.now) (slice_get (known tables.now).variables variable) place }
 {
     match tables.variables.as_slice().get(variable) {
         Some(variable) => choice_of(tables, variable.value_type, place),

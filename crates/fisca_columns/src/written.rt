@@ -2,7 +2,7 @@
 
 ghost use Rattle.std.specs.Prelude.{◌≡◌, ◌<◌, option_map};
 ghost use Rattle.fisca_columns.specs.ColumnViews.{parts};
-ghost use Rattle.fisca_columns.specs.Written as spec;
+ghost use Rattle.fisca_columns.specs.Steps.Written as spec;
 
 /// The parts of a column's text `NAME`, `NAME#INDEX`, `NAME@PERIOD` or `NAME#INDEX@PERIOD`.
 #[derive(Clone, Copy, Debug)]

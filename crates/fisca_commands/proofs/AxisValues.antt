@@ -10,7 +10,7 @@ use Rattle.fisca_inputs.specs.Entries.{Entries}
 use Rattle.fisca_num.specs.Number.{Number}
 use Rattle.fisca_situations.specs.Slots as slots
 use Rattle.fisca_slots.specs.Turning.{turned_below}
-use Rattle.fisca_situations.specs.Slots.{turned}
+use Rattle.fisca_situations.specs.Steps.Slots.{turned}
 use Rattle.fisca_situations.specs.Views.{slot as slot_view}
 use Rattle.fisca_situations.specs.declared.slot.Slot.{Slot}
 

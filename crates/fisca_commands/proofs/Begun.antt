@@ -12,8 +12,9 @@ use Rattle.fisca_run_file.specs.RunFiles.{RunFile}
 use Rattle.fisca_situations.specs.Situations.{Situation}
 use Rattle.fisca_run.proofs.Marked.{has_all}
 use Rattle.fisca_run.proofs.Within.{all_within}
-use Rattle.fisca_run.specs.Marks.{has_mark, wheels_of}
-use Rattle.fisca_run.specs.Slots.{slots_of}
+use Rattle.fisca_run_file.specs.Marks.{has_mark}
+use Rattle.fisca_run_file.specs.Steps.Marks.{wheels_of}
+use Rattle.fisca_run_file.specs.Steps.Slots.{slots_of}
 use Rattle.fisca_situations.specs.Views.{slot as slot_view, slot_list}
 use Rattle.fisca_situations.specs.declared.slot.Slot.{Slot}
 use Rattle.fisca_simulation.specs.Simulations.{Simulation}

@@ -1,16 +1,18 @@
 -- The inputs of a file of `fisca calc` are of the types of their variables.
 use Rattle.std.proofs.Common.{◌≡◌, Result, Ok, Err, codes, ap, subst}
 use Rattle.std.specs.Option.{unwrap_or}
-use Rattle.fisca_columns.specs.Calc.{Calc, calc_by, calc_of, columns_in, default_in, file_checked, situation_in}
+use Rattle.fisca_columns.specs.Calc.{Calc, calc_by, calc_of, file_checked}
+use Rattle.fisca_columns.specs.Steps.Calc.{columns_in, default_in, situation_in}
 use Rattle.fisca_columns.specs.Faults.{told}
 use Rattle.fisca_inputs.proofs.Typed.{then_ok}
 use Rattle.fisca_inputs.specs.declared.fault.SituationFault.{SituationFault}
 use Rattle.fisca_params.specs.Results.{and_then}
 use Rattle.fisca_rules.specs.Views.{rule_set}
 use Rattle.fisca_rules.specs.declared.rule_set.RuleSet.{RuleSet}
-use Rattle.fisca_situations.specs.Situations.{situation_of}
+use Rattle.fisca_situations.specs.Steps.Situations.{situation_of}
 use Rattle.fisca_simulation.specs.Sound.{InputsFit, IsSafeRules}
-use Rattle.fisca_yaml.specs.Find.{get, line_at}
+use Rattle.fisca_yaml.specs.Find.{line_at}
+use Rattle.fisca_yaml.specs.Steps.Find.{get}
 use Rattle.fisca_yaml.specs.Node.{Node, null}
 use Rattle.fisca_simulation.proofs.Fitting.{read_fits}
 

@@ -16,7 +16,8 @@ use Rattle.fisca_writer.specs.declared.fault.RunFault.{RunFault}
 use Rattle.fisca_writer.specs.declared.fault.RunFault.TheVariants as run
 use Rattle.fisca_params.specs.Source.{Source}
 use Rattle.fisca_params.specs.Tree.{TreeNode}
-use Rattle.fisca_rules.specs.Rules.{Rules, rules_of}
+use Rattle.fisca_rules.specs.Rules.{Rules}
+use Rattle.fisca_rules.specs.Steps.Rules.{rules_of}
 use Rattle.fisca_rules.specs.Views.{rule_set}
 use Rattle.fisca_rules.specs.declared.rule_set.RuleSet.{RuleSet}
 use Rattle.fisca_simulation.specs.Simulations.{Simulation}

@@ -1,5 +1,5 @@
 -- What is left behind by a run in one situation.
-use Rattle.std.proofs.Common.{◌≡◌, ◌⊎◌, ◌<◌, ◌≤◌, ◌+◌, ◌-◌, ℕ, zero, suc, List, Option, Some, None, Result, Ok, Err, refl, sym, ap, subst, ◌∙◌, arith, inl, inr, ⊎_elim}
+use Rattle.std.proofs.Common.{◌≡◌, ◌⊎◌, ◌<◌, ◌≤◌, ◌+◌, ◌-◌, ℕ, zero, suc, List, Option, Some, None, Result, Ok, Err, refl, sym, ap, ap₂, subst, ◌∙◌, arith, inl, inr, ⊎_elim}
 use Rattle.std.proofs.lemmas.Bool.{cases_lt}
 use Rattle.fisca_model.specs.declared.eval_fault.EvalFault.{EvalFault}
 use Rattle.fisca_memo_theory.specs.Entries.{Entries}
@@ -10,18 +10,19 @@ use Rattle.fisca_writer.specs.declared.fault.RunEnd.TheVariants as end
 use Rattle.fisca_writer.specs.declared.fault.RunFault.{RunFault}
 use Rattle.fisca_writer.specs.declared.fault.RunFault.TheVariants as fault
 use Rattle.fisca_model.specs.Values.{Key}
-use Rattle.fisca_evaluator.specs.Evaluators.{marks_in}
+use Rattle.fisca_evaluator.specs.Evaluators.{marks_in, simulation_of}
 use Rattle.fisca_evaluator.specs.declared.evaluator.Evaluator.{Evaluator}
 use Rattle.fisca_evaluator.specs.Counted.{one_more}
 use Rattle.fisca_rules.specs.declared.rule_set.RuleSet.{RuleSet}
 use Rattle.fisca_commands.proofs.Passing.{just_for, just_none, just_on, raised_both, raised_none}
+use Rattle.fisca_commands.specs.Begun.{file_in}
 use Rattle.fisca_commands.specs.Ends.{stop_of}
 use Rattle.fisca_commands.specs.Kept.{AreMoved, IsKept}
 use Rattle.fisca_commands.specs.Remembered.{HasEnded, HasRun, IsPassed, IsRefused, IsStillWork, IsStillWorkIn}
 use Rattle.fisca_commands.specs.Runs.{positions}
 use Rattle.fisca_commands.specs.declared.kept_rows.KeptRows.{KeptRows}
 use Rattle.fisca_run_file.specs.RunFiles.{RunFile}
-use Rattle.fisca_run_file.specs.Views.{run_file}
+use Rattle.fisca_run_file.specs.Views.{file_with}
 use Rattle.fisca_situations.specs.declared.slot.Slot.{Slot}
 use Rattle.fisca_simulation.specs.Simulations.{Simulation}
 use Rattle.fisca_symbols.specs.declared.tables.Tables.{Tables}
@@ -77,53 +78,65 @@ module _ {R : Type 0} (find : R → Entries) (rules : RuleSet) (f : RunFile) whe
   ended_well from old new end.End ran = ran
   ended_well from old new (end.More position) ran = ran
 
--- the same rule set, file and slots, and the evaluator at the same place
+-- the file whose rows these are
+abbrev FileOf : {R : Type 0} → KeptRows R → RunFile
+FileOf r = file_in (simulation_of r.evaluator.now) r.request.now
+
+-- the same rule set, file and slots, and the evaluator at the same place, with the same members
 abbrev pub IsSame : {R : Type 0} → KeptRows R → KeptRows R → Type 0
-IsSame r s = (s.rules.now ≡ r.rules.now) × (s.run.now ≡ r.run.now) × (s.slots.now ≡ r.slots.now) × (s.evaluator.ghost_name ≡ r.evaluator.ghost_name)
+IsSame r s = (s.rules.now ≡ r.rules.now) × (s.request.now ≡ r.request.now) × (s.slots.now ≡ r.slots.now) × (s.evaluator.ghost_name ≡ r.evaluator.ghost_name)
+    × ((simulation_of s.evaluator.now).situation.members ≡ (simulation_of r.evaluator.now).situation.members)
 
 same_on : {R : Type 0} (a b c : KeptRows R) → IsSame a b → IsSame b c → IsSame a c
-same_on a b c first second = (second.0 ∙ first.0, second.1 ∙ first.1, second.2 ∙ first.2, second.3 ∙ first.3)
+same_on a b c first second = (second.0 ∙ first.0, second.1 ∙ first.1, second.2 ∙ first.2, second.3 ∙ first.3, second.4 ∙ first.4)
+
+pub same_file : {R : Type 0} (r s : KeptRows R) → IsSame r s → FileOf s ≡ FileOf r
+same_file r s same = ap₂ file_with same.4 same.1
 
 module _ {R : Type 0} (find : R → Entries) where
   abbrev Worked : KeptRows R → ℕ → KeptRows R → Type 0
-  Worked r position s = (s.rules.now ≡ r.rules.now) × (s.run.now ≡ r.run.now) × (s.slots.now ≡ r.slots.now) × (s.evaluator.ghost_name ≡ r.evaluator.ghost_name) × IsPassed find r.rules.now (run_file r.run.now) r.evaluator.now position s.evaluator.now
+  Worked r position s = (s.rules.now ≡ r.rules.now) × (s.request.now ≡ r.request.now) × (s.slots.now ≡ r.slots.now) × (s.evaluator.ghost_name ≡ r.evaluator.ghost_name)
+      × ((simulation_of s.evaluator.now).situation.members ≡ (simulation_of r.evaluator.now).situation.members)
+      × IsPassed find r.rules.now (FileOf r) r.evaluator.now position s.evaluator.now
 
   abbrev Refused : KeptRows R → ℕ → KeptRows R → Type 0
-  Refused r position s = (s.rules.now ≡ r.rules.now) × (s.run.now ≡ r.run.now) × (s.slots.now ≡ r.slots.now) × (s.evaluator.ghost_name ≡ r.evaluator.ghost_name) × IsRefused find r.evaluator.now s.evaluator.now
+  Refused r position s = (s.rules.now ≡ r.rules.now) × (s.request.now ≡ r.request.now) × (s.slots.now ≡ r.slots.now) × (s.evaluator.ghost_name ≡ r.evaluator.ghost_name)
+      × ((simulation_of s.evaluator.now).situation.members ≡ (simulation_of r.evaluator.now).situation.members)
+      × IsRefused find r.evaluator.now s.evaluator.now
 
   passed : (old : KeptRows R) (from count : ℕ) (new : KeptRows R) → Passes Worked old from count new
-      → IsSame old new × HasRun find old.rules.now (run_file old.run.now) from (from + count) old.evaluator.now new.evaluator.now
+      → IsSame old new × HasRun find old.rules.now (FileOf old) from (from + count) old.evaluator.now new.evaluator.now
   passed old from zero new none =
-      subst (λ s. IsSame old s × HasRun find old.rules.now (run_file old.run.now) from (from + zero) old.evaluator.now s.evaluator.now) (sym none)
-      ((refl, refl, refl, refl), run_none find old.rules.now (run_file old.run.now) from (from + zero) old.evaluator.now (omega arith))
+      subst (λ s. IsSame old s × HasRun find old.rules.now (FileOf old) from (from + zero) old.evaluator.now s.evaluator.now) (sym none)
+      ((refl, refl, refl, refl, refl), run_none find old.rules.now (FileOf old) from (from + zero) old.evaluator.now (omega arith))
   passed old from (suc count) new (between, passes, step) =
       let before = passed old from count between passes in
-      let at = subst (λ r. IsPassed find r (run_file old.run.now) between.evaluator.now (from + count) new.evaluator.now) before.0.0
-      (subst (λ f. IsPassed find between.rules.now (run_file f) between.evaluator.now (from + count) new.evaluator.now) before.0.1 step.4) in (
-        same_on old between new before.0 (step.0, step.1, step.2, step.3),
-        run_to find old.rules.now (run_file old.run.now) from (suc (from + count)) (from + suc count) old.evaluator.now new.evaluator.now (omega arith)
-            (run_more find old.rules.now (run_file old.run.now) from (from + count) old.evaluator.now between.evaluator.now new.evaluator.now before.1 at),
+      let at = subst (λ r. IsPassed find r (FileOf old) between.evaluator.now (from + count) new.evaluator.now) before.0.0
+      (subst (λ f. IsPassed find between.rules.now f between.evaluator.now (from + count) new.evaluator.now) (same_file old between before.0) step.5) in (
+        same_on old between new before.0 (step.0, step.1, step.2, step.3, step.4),
+        run_to find old.rules.now (FileOf old) from (suc (from + count)) (from + suc count) old.evaluator.now new.evaluator.now (omega arith)
+            (run_more find old.rules.now (FileOf old) from (from + count) old.evaluator.now between.evaluator.now new.evaluator.now before.1 at),
       )
 
   past : (old : KeptRows R) (from stop : ℕ) (new : KeptRows R) → HasPassed Worked from stop old new
-      → IsSame old new × HasRun find old.rules.now (run_file old.run.now) from stop old.evaluator.now new.evaluator.now
+      → IsSame old new × HasRun find old.rules.now (FileOf old) from stop old.evaluator.now new.evaluator.now
   past old from stop new (within, passes) =
       let all = passed old from (stop - from) new passes in
-      (all.0, run_to find old.rules.now (run_file old.run.now) from (from + (stop - from)) stop old.evaluator.now new.evaluator.now (omega (arith, within)) all.1)
+      (all.0, run_to find old.rules.now (FileOf old) from (from + (stop - from)) stop old.evaluator.now new.evaluator.now (omega (arith, within)) all.1)
 
   pub came_same : (old new : KeptRows R) (from : ℕ) (result : Result RunEnd (RunFault EvalFault))
-      → HasCome Worked Refused (positions (run_file old.run.now)) from old new result
-      → IsSame old new × HasEnded find old.rules.now (run_file old.run.now) from old.evaluator.now new.evaluator.now result
-  came_same old new from (Ok end.End) came = past old from (positions (run_file old.run.now)) new came
+      → HasCome Worked Refused (positions (FileOf old)) from old new result
+      → IsSame old new × HasEnded find old.rules.now (FileOf old) from old.evaluator.now new.evaluator.now result
+  came_same old new from (Ok end.End) came = past old from (positions (FileOf old)) new came
   came_same old new from (Ok (end.More position)) came = past old from position new came
   came_same old new from (Err fault.BadPosition) came =
-      (subst (λ s. IsSame old s) (sym came) (refl, refl, refl, refl), ap (λ (s : KeptRows R). s.evaluator.now) came)
+      (subst (λ s. IsSame old s) (sym came) (refl, refl, refl, refl, refl), ap (λ (s : KeptRows R). s.evaluator.now) came)
   came_same old new from (Err (fault.Eval position x)) came = past old from (position + 1) new came
   came_same old new from (Err (fault.Write position)) came = past old from (position + 1) new came
   came_same old new from (Err (fault.Memory position)) (between, passes, refused) =
       let ran = past old from position between passes in (
-        same_on old between new ran.0 (refused.0, refused.1, refused.2, refused.3),
-        run_refused find old.rules.now (run_file old.run.now) from position old.evaluator.now between.evaluator.now new.evaluator.now ran.1 refused.4,
+        same_on old between new ran.0 (refused.0, refused.1, refused.2, refused.3, refused.4),
+        run_refused find old.rules.now (FileOf old) from position old.evaluator.now between.evaluator.now new.evaluator.now ran.1 refused.5,
       )
 
 -- wherever a run stood, it can be gone on with from anywhere

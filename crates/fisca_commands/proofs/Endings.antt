@@ -2,16 +2,17 @@
 use Rattle.std.proofs.Common.{◌≡◌, ◌≢◌, inl, inr, ℕ, ◌==◌, ◌&&◌, if◌then◌else◌, cond, is_ok, Bool, true, false, List, map, Option, Some, None, Result, Ok, Err, refl, sym, ap, ◌∙◌}
 use Rattle.std.proofs.lemmas.Bool.{ne_eqb, true≢false}
 use Rattle.fisca_grid.specs.Grid.{axes_fault, groups_of}
-use Rattle.fisca_writer.specs.Sink.{one_more}
+use Rattle.fisca_writer.specs.Steps.Sink.{one_more}
 use Rattle.fisca_grid.specs.declared.axes.AxisSpec.{AxisSpec}
 use Rattle.fisca_grid.specs.declared.axes.AxesFault.{AxesFault}
 use Rattle.fisca_grid.specs.declared.axes.AxesFault.TheVariants as axes
 use Rattle.fisca_writer.specs.declared.fault.RunEnd.{RunEnd}
 use Rattle.fisca_writer.specs.declared.fault.RunFault.TheVariants as run
-use Rattle.fisca_grid.specs.NamedAxes.{name_of, specs_of, own_groups, filter_from}
+use Rattle.fisca_grid.specs.NamedAxes.{specs_of, filter_from}
+use Rattle.fisca_grid.specs.Steps.NamedAxes.{name_of, own_groups}
 use Rattle.fisca_grid.specs.declared.condition.Filter.{Filter}
 use Rattle.fisca_commands.specs.AxesRun.{required_filter, optional_filter, filtered_axes, axes_within_limits, named_fault, required_axes, axes_of_words}
-use Rattle.fisca_commands.specs.Ending.{IsAnswered, IsJudged, IsRunEnding, IsTold, Outcome}
+use Rattle.fisca_commands.specs.Ending.{IsAnswered, IsJudged, IsRunEnding, IsTold, TaskOutcome}
 use Rattle.fisca_test_file.specs.declared.all.Verdict.{Verdict}
 use Rattle.fisca_rule_files.specs.Refusal.{is_failed_write, is_write, status_of}
 use Rattle.fisca_rule_files.specs.declared.refusal.Refusal.{Refusal}
@@ -86,12 +87,12 @@ failed_write Memory = refl
 failed_write TooManyFiles = refl
 
 -- what is told of a refusal has the status 5 exactly where the refusal has
-told_write : (path : List ℕ) (refusal : Refusal) (outcome : Outcome) → IsTold path refusal outcome → (outcome.status == 5) ≡ (status_of refusal == 5)
+told_write : (path : List ℕ) (refusal : Refusal) (outcome : TaskOutcome) → IsTold path refusal outcome → (outcome.status == 5) ≡ (status_of refusal == 5)
 told_write path refusal outcome (inl e) = ap (λ o. o.status == 5) e
 told_write path refusal outcome (inr h) = ap (λ o. o.status == 5) h.0 ∙ sym (ne_eqb (status_of refusal) 5 h.1)
 
 -- the failures of a run and of what follows it
-pub counted : (path : List ℕ) (old new : Option (List ℕ)) (answer : Result RunEnd Refusal) (outcome : Outcome) (before run_failures after : ℕ)
+pub counted : (path : List ℕ) (old new : Option (List ℕ)) (answer : Result RunEnd Refusal) (outcome : TaskOutcome) (before run_failures after : ℕ)
     → IsRunEnding path answer old new outcome
     → run_failures ≡ cond (is_write answer) (one_more before) before
     → after ≡ cond (is_ok answer && (outcome.status == 5)) (one_more run_failures) run_failures
@@ -101,9 +102,9 @@ counted path old new (Err refusal) outcome before failures after ending first la
     last ∙ first ∙ ap (λ failed. cond failed (one_more before) before) (sym (told_write path refusal outcome ending.0 ∙ failed_write refusal))
 
 -- the failures of a command that writes no last line
-pub answered : (path : List ℕ) (answer : Result Unit Refusal) (outcome : Outcome) (before after : ℕ)
+pub answered : (path : List ℕ) (answer : Result Unit Refusal) (outcome : TaskOutcome) (before after : ℕ)
     → IsAnswered path answer outcome → after ≡ cond (is_write answer) (one_more before) before → after ≡ cond (outcome.status == 5) (one_more before) before
-answered path (Ok done) outcome before after ending count = count ∙ ap (λ status. cond (status == 5) (one_more before) before) (sym (ap (λ (o : Outcome). o.status) ending))
+answered path (Ok done) outcome before after ending count = count ∙ ap (λ status. cond (status == 5) (one_more before) before) (sym (ap (λ (o : TaskOutcome). o.status) ending))
 answered path (Err refusal) outcome before after ending count =
     count ∙ ap (λ failed. cond failed (one_more before) before) (sym (told_write path refusal outcome ending ∙ failed_write refusal))
 
@@ -112,9 +113,9 @@ neither true = refl
 neither false = refl
 
 -- the failures of tests
-pub of_tests : (path : List ℕ) (answer : Result Verdict Refusal) (outcome : Outcome) (before after : ℕ)
+pub of_tests : (path : List ℕ) (answer : Result Verdict Refusal) (outcome : TaskOutcome) (before after : ℕ)
     → IsJudged path answer outcome → after ≡ cond (is_write answer) (one_more before) before → after ≡ cond (outcome.status == 5) (one_more before) before
 of_tests path (Ok verdict) outcome before after ending count =
-    count ∙ ap (λ failed. cond failed (one_more before) before) (sym (ap (λ (o : Outcome). o.status == 5) ending ∙ neither (verdict.failed == 0)))
+    count ∙ ap (λ failed. cond failed (one_more before) before) (sym (ap (λ (o : TaskOutcome). o.status == 5) ending ∙ neither (verdict.failed == 0)))
 of_tests path (Err refusal) outcome before after ending count =
     count ∙ ap (λ failed. cond failed (one_more before) before) (sym (told_write path refusal outcome ending ∙ failed_write refusal))

@@ -33,7 +33,7 @@ use Rattle.fisca_commands.specs.Remembered.{AreJust, IsPassed, IsRefused, IsStil
 use Rattle.fisca_commands.specs.Runs.{positions}
 use Rattle.fisca_run_file.specs.RunFiles.{RunFile}
 use Rattle.fisca_run.proofs.OfFiles.{length-wheels, many_wheels}
-use Rattle.fisca_run.specs.Slots.{slots_with}
+use Rattle.fisca_run_file.specs.Steps.Slots.{slots_with}
 use Rattle.fisca_slots.specs.Turning.{turned_below, wheels_from}
 use Rattle.fisca_situations.specs.Views.{slot as slot_view}
 use Rattle.fisca_situations.specs.declared.slot.Slot.{Slot}
@@ -142,8 +142,8 @@ module _ {R : Type 0} (find : R → Entries) (rules : RuleSet) (f : RunFile) (po
   stays (Err fault.Memory) asked = let went = (some_gone find turned keys after asked).gone in (went.same, went.marks)
 
 -- where nothing else changes
-pub with_same : {A B C D : Type 0} (P Q : Type 0) → A → B → C → D → (result : Result Selection (RowFault EvalFault)) → IsStep P Q result
-    → IsStep (A × B × C × D × P) (A × B × C × D × Q) result
-with_same P Q a b c d (Ok x) step = (a, b, c, d, step)
-with_same P Q a b c d (Err (fault.Eval x)) step = (a, b, c, d, step)
-with_same P Q a b c d (Err fault.Memory) step = (a, b, c, d, step)
+pub with_same : {A B C D E : Type 0} (P Q : Type 0) → A → B → C → D → E → (result : Result Selection (RowFault EvalFault)) → IsStep P Q result
+    → IsStep (A × B × C × D × E × P) (A × B × C × D × E × Q) result
+with_same P Q a b c d e (Ok x) step = (a, b, c, d, e, step)
+with_same P Q a b c d e (Err (fault.Eval x)) step = (a, b, c, d, e, step)
+with_same P Q a b c d e (Err fault.Memory) step = (a, b, c, d, e, step)

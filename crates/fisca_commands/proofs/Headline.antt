@@ -50,7 +50,7 @@ whole continues ends files text from limit old new end (inr is) =
     )
 
 -- which fault stopped a run that is told so
-stopped : (r : Running) (fault : RunFault EvalFault) (position : ℕ) (u : Unanswered) → IsStopTold r fault (Run (run.Eval position u)) → fault ≡ run.Eval position u.fault
+stopped : (r : Running) (fault : RunFault EvalFault) (position : ℕ) (u : Unanswered) → IsStopTold r.rules r.run.members fault (Run (run.Eval position u)) → fault ≡ run.Eval position u.fault
 stopped r run.BadPosition position u e = absurd (cc)
 stopped r (run.Eval there x) position u (inl e) = absurd (cc)
 stopped r (run.Eval there x) position u (inr told) =
@@ -63,7 +63,7 @@ stopped r (run.Write there) position u e = absurd (cc)
 stopped r (run.Memory there) position u e = absurd (cc)
 
 -- and the key that it is told with
-key_of_stop : (r : Running) (position : ℕ) (u : Unanswered) → IsStopTold r (run.Eval position u.fault) (Run (run.Eval position u)) → key_told r.rules r.run.situation.members u.fault ≡ Some (string_bytes u.key)
+key_of_stop : (r : Running) (position : ℕ) (u : Unanswered) → IsStopTold r.rules r.run.members (run.Eval position u.fault) (Run (run.Eval position u)) → key_told r.rules r.run.members u.fault ≡ Some (string_bytes u.key)
 key_of_stop r position u (inl e) = absurd (cc)
 key_of_stop r position u (inr told) =
     let same : Run (run.Eval position u) ≡ Run (run.Eval position told.0) = told.1 in
@@ -112,7 +112,7 @@ faulted faults files text from limit old new position u (inr is) =
     let told = is.2 in
     let fault : told.0 ≡ run.Eval position u.fault = stopped r told.0 position u told.2 in
     let ran : IsGridRun r from limit old new (Err (run.Eval position u.fault)) = subst (λ f. IsGridRun r from limit old new (Err f)) fault told.1 in
-    let stop : IsStopTold r (run.Eval position u.fault) (Run (run.Eval position u)) = subst (λ f. IsStopTold r f (Run (run.Eval position u))) fault told.2 in
+    let stop : IsStopTold r.rules r.run.members (run.Eval position u.fault) (Run (run.Eval position u)) = subst (λ f. IsStopTold r.rules r.run.members f (Run (run.Eval position u))) fault told.2 in
     let first = first_stops (row_of r) (size_of r) from limit position u.fault ran.0 in
     let low = first.0 in
     let high = first.1 in

@@ -4,7 +4,8 @@ use Rattle.std.proofs.lemmas.List.{length-map}
 use Rattle.std.specs.Option.{option_or}
 use Rattle.fisca_grid.specs.Condition.{condition_of}
 use Rattle.fisca_grid.specs.Grid.{groups_of, axes_in}
-use Rattle.fisca_grid.specs.NamedAxes.{name_of, specs_of, own_groups, filter_on, filter_from}
+use Rattle.fisca_grid.specs.NamedAxes.{specs_of, filter_on, filter_from}
+use Rattle.fisca_grid.specs.Steps.NamedAxes.{name_of, own_groups}
 use Rattle.fisca_grid.specs.Words.{axis_of}
 use Rattle.fisca_grid.specs.declared.axes.AxisSpec.{AxisSpec}
 use Rattle.fisca_grid.specs.declared.condition.AxisCondition.{AxisCondition}

@@ -16,13 +16,14 @@ use Rattle.fisca_groups.specs.Lookup.{count_at}
 use Rattle.fisca_groups.specs.declared.entity_members.EntityMembers.{EntityMembers}
 use Rattle.fisca_num.specs.Number.{Number}
 use Rattle.fisca_situations.proofs.Typed.{known_type}
-use Rattle.fisca_run_file.specs.Moved.{if_numbers, moved_at, moved_by, moved_of, moved_or_fault, period_moved, variable_moved, with_moved}
+use Rattle.fisca_run_file.specs.Moved.{with_moved}
+use Rattle.fisca_run_file.specs.Steps.Moved.{if_numbers, moved_at, moved_by, moved_of, moved_or_fault, period_moved, variable_moved}
 use Rattle.fisca_situations.specs.AllAxes.{put_all_in}
-use Rattle.fisca_situations.specs.Slots.{has_numbers}
-use Rattle.fisca_situations.specs.Axes.{put_in}
-use Rattle.fisca_run_file.specs.Positions.{cut_by, with_values}
+use Rattle.fisca_situations.specs.Steps.Slots.{has_numbers}
+use Rattle.fisca_situations.specs.Steps.Axes.{put_in}
+use Rattle.fisca_run_file.specs.Steps.Positions.{cut_by, with_values}
 use Rattle.fisca_run_file.specs.SaidAxes.{SaidAxis}
-use Rattle.fisca_situations.specs.Reading.{variable_of}
+use Rattle.fisca_situations.specs.Steps.Reading.{variable_of}
 use Rattle.fisca_symbols.specs.Known.{tables as known}
 use Rattle.fisca_symbols.specs.KnownVariables.{value_type}
 use Rattle.fisca_symbols.specs.declared.tables.Tables.{Tables}

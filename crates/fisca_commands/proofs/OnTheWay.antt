@@ -17,7 +17,7 @@ use Rattle.fisca_commands.proofs.Passing.{just_for, just_none, just_on, turned_j
 use Rattle.fisca_commands.specs.Kept.{with_inputs}
 use Rattle.fisca_commands.specs.Remembered.{AreJust}
 use Rattle.fisca_slots.specs.Turning.{turned_below}
-use Rattle.fisca_situations.specs.Slots.{turned}
+use Rattle.fisca_situations.specs.Steps.Slots.{turned}
 use Rattle.fisca_situations.specs.Views.{slot as slot_view}
 use Rattle.fisca_situations.specs.declared.slot.Slot.{Slot}
 use Rattle.fisca_simulation.specs.Simulations.{Simulation}

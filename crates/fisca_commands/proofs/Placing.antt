@@ -14,13 +14,15 @@ use Rattle.fisca_rules.specs.Views.{rule_set}
 use Rattle.fisca_rules.specs.declared.rule_set.RuleSet.{RuleSet}
 use Rattle.fisca_commands.specs.Kept.{AreMoved, IsSituated, with_inputs}
 use Rattle.fisca_commands.specs.Runs.{IsAsked, positions}
-use Rattle.fisca_run_file.specs.Positions.{inputs_with, moved_at, situation_with, with_values}
+use Rattle.fisca_run_file.specs.Positions.{moved_at, situation_with}
+use Rattle.fisca_run_file.specs.Steps.Positions.{inputs_with, with_values}
 use Rattle.fisca_run_file.specs.RunFiles.{RunFile}
 use Rattle.fisca_situations.specs.Situations.{Situation}
 use Rattle.fisca_run.proofs.OfFiles.{at_position, start, starts}
 use Rattle.fisca_run.proofs.OfPositions.{turned_to}
 use Rattle.fisca_run.proofs.Positions.{each_situated}
-use Rattle.fisca_run.specs.Slots.{places_of, slots_of}
+use Rattle.fisca_run_file.specs.Slots.{places_of}
+use Rattle.fisca_run_file.specs.Steps.Slots.{slots_of}
 use Rattle.fisca_slots.specs.Turning.{turned_below}
 use Rattle.fisca_simulation.specs.Simulations.{Simulation}
 use Rattle.fisca_yaml.specs.Node.{Node}
@@ -41,11 +43,17 @@ module _ (rules : RuleSet) (f : RunFile) where
 
   -- a situation by its inputs
   inputs_in : (moved : List Given) (s : Situation) → situation_with rules.tables f moved ≡ Ok s
-      → (es : Entries) × (inputs_with rules.tables f moved ≡ Ok es) × (record { members = f.situation.members; inputs = es } ≡ s)
+      → (es : Entries) × (inputs_with rules.tables f moved ≡ Ok es) × (record { members = f.members; inputs = es } ≡ s)
   inputs_in moved s h =
-      let left = then_ok (inputs_with rules.tables f moved) (λ es. Ok (record { members = f.situation.members; inputs = es })) s h in
-      let same : record { members = f.situation.members; inputs = left.0 } ≡ s = cc in
+      let left = then_ok (inputs_with rules.tables f moved) (λ es. Ok (record { members = f.members; inputs = es })) s h in
+      let same : record { members = f.members; inputs = left.0 } ≡ s = cc in
       (left.0, left.1, same)
+
+  -- the members are those of the file
+  pub situated_members : (here : Option ℕ) (m : Simulation) → IsSituated rules f here m → m.situation.members ≡ f.members
+  situated_members here m stands =
+      ap (λ (m : Simulation). m.situation.members) stands.same
+      ∙ ap (λ (s : Situation). s.members) (sym (inputs_in stands.moved stands.situation stands.is).2)
 
 module _ (rules : RuleSet) (n : Node) (f : RunFile) (asked : IsAsked rules n f) (position : ℕ) (turned : ℕ) where
   -- the inputs at the position
@@ -88,9 +96,9 @@ module _ (rules : RuleSet) (n : Node) (f : RunFile) (asked : IsAsked rules n f) 
       let inputs : before.0 ≡ old.situation.inputs = ap (λ (s : Situation). s.inputs) before.2 ∙ sym (ap (λ (m : Simulation). m.situation.inputs) stands.same) in
       record {
         moved = there.moved;
-        situation = record { members = f.situation.members; inputs = turned_below turned (slots_of c f) values.0 before.0 };
+        situation = record { members = f.members; inputs = turned_below turned (slots_of c f) values.0 before.0 };
         moves = (within, there.moves);
-        is = ap (λ r. and_then r (λ es. Ok (record { members = f.situation.members; inputs = es }))) after;
+        is = ap (λ r. and_then r (λ es. Ok (record { members = f.members; inputs = es }))) after;
         same = found ∙ ap (λ (m : Simulation). with_inputs m (turned_below turned (slots_of c f) values.0 old.situation.inputs)) stands.same
             ∙ (λ i. record {
               rules = rule_set rules;

@@ -2,7 +2,7 @@
 use Rattle.std.proofs.Common.{◌≡◌, false, inl, inr, ℕ, List, ap}
 use Rattle.fisca_rules.specs.declared.rule_set.RuleSet.{RuleSet}
 use Rattle.fisca_commands.specs.Calc.{RefusesText}
-use Rattle.fisca_commands.specs.Run.{RefusesRunTree}
+use Rattle.fisca_commands.specs.Run.{RefusesRunText, RefusesRunTree}
 use Rattle.fisca_commands.specs.Test.{RefusesTree}
 use Rattle.fisca_commands.specs.Yaml.{IsYamlRefused}
 use Rattle.fisca_yaml.specs.Node.{Node}
@@ -25,6 +25,10 @@ tests_unwritten rules n r (inl e) = ap is_failed_write e
 tests_unwritten rules n r (inr is) = ap is_failed_write is.1
 
 -- nor is a tree that is no run file
-pub run_unwritten : (rules : RuleSet) (n : Node) (r : Refusal) → RefusesRunTree rules n r → is_failed_write r ≡ false
+run_unwritten : (rules : RuleSet) (n : Node) (r : Refusal) → RefusesRunTree rules n r → is_failed_write r ≡ false
 run_unwritten rules n r (inl e) = ap is_failed_write e
 run_unwritten rules n r (inr is) = ap is_failed_write is.1
+
+pub begin_unwritten : (rules : RuleSet) (text : List ℕ) (r : Refusal) → RefusesRunText rules text r → is_failed_write r ≡ false
+begin_unwritten rules text r (inl is) = yaml_unwritten text r is
+begin_unwritten rules text r (inr is) = run_unwritten rules is.0 r is.2

@@ -4,7 +4,8 @@ use Rattle.std.specs.Option.{option_or}
 use Rattle.std.specs.Io.KnownBytes.{Keeps}
 use Rattle.fisca_grid.specs.AxesRow.{axes_row}
 use Rattle.fisca_grid.specs.Grid.{axes_fault, groups_of, size_of}
-use Rattle.fisca_grid.specs.NamedAxes.{name_of, specs_of, own_groups, has_twins, filter_from}
+use Rattle.fisca_grid.specs.NamedAxes.{specs_of, filter_from}
+use Rattle.fisca_grid.specs.Steps.NamedAxes.{name_of, own_groups, has_twins}
 use Rattle.fisca_writer.specs.Run.{IsRun}
 use Rattle.fisca_grid.specs.declared.axes.AxisSpec.{AxisSpec}
 use Rattle.fisca_grid.specs.declared.axes.AxesFault.{AxesFault}

@@ -12,12 +12,9 @@ use Rattle.fisca_run_file.specs.declared.condition.Condition.{Condition}
 
 -- values that are the same, or not; without an order the other comparisons are never met
 abbrev pub is_met_by_sameness : AxisComparison → Bool → Bool
-is_met_by_sameness AtLeast same = false
-is_met_by_sameness AtMost same = false
 is_met_by_sameness Equal same = same
 is_met_by_sameness NotEqual same = not same
-is_met_by_sameness Above same = false
-is_met_by_sameness Below same = false
+is_met_by_sameness _ _ = false
 
 abbrev pub same_bool : Bool → Bool → Bool
 same_bool true b = b

@@ -18,71 +18,71 @@ use Rattle.fisca_test_file.specs.declared.all.Verdict.{Verdict}
 use Rattle.fisca_rule_files.specs.Refusal.{status_of, line_of}
 
 -- an exit status, and what is told on standard error
-pub record Outcome : Type 0 where
+pub record TaskOutcome : Type 0 where
   pub status : ℕ
   pub told : Option (List ℕ)
 
-abbrev pub done : Outcome
+abbrev pub done : TaskOutcome
 done = record { status = 0; told = None }
 
 -- the status and the line of a refusal; `path` is that of the command's own file
-abbrev pub told_of : List ℕ → Refusal → Outcome
+abbrev pub told_of : List ℕ → Refusal → TaskOutcome
 told_of path refusal = record { status = status_of refusal; told = Some (line_of path refusal) }
 
 -- a refusal is told or, where it is no failed write, perhaps that memory was refused
-abbrev pub IsTold : List ℕ → Refusal → Outcome → Type 0
+abbrev pub IsTold : List ℕ → Refusal → TaskOutcome → Type 0
 IsTold path refusal outcome = (outcome ≡ told_of path refusal) ⊎ ((outcome ≡ told_of path Memory) × (status_of refusal ≢ 5))
 
 -- how a run over the file at this path, if there is one, ends that gave this answer: it is done with its last line, or the sink fails in that line; a
 -- refusal is told, and no more is written
-abbrev pub IsRunEnding : List ℕ → Result RunEnd Refusal → Option (List ℕ) → Option (List ℕ) → Outcome → Type 0
+abbrev pub IsRunEnding : List ℕ → Result RunEnd Refusal → Option (List ℕ) → Option (List ℕ) → TaskOutcome → Type 0
 IsRunEnding path (Ok end) old new outcome =
     ((outcome ≡ done) × Appends old new (last_line end))
     ⊎ ((outcome ≡ told_of path Write) × AppendsPart (last_line end) old new)
 IsRunEnding path (Err refusal) old new outcome = IsTold path refusal outcome × Keeps old new
 
 -- how `axes` ends: the run writes its lines, and then ends
-pub record IsAxesEnding (words : List (List ℕ)) (keep : Option (List ℕ)) (from : ℕ) (limit : Option ℕ) (old new : Option (List ℕ)) (outcome : Outcome) : Type 0 where
+pub record IsAxesEnding (words : List (List ℕ)) (keep : Option (List ℕ)) (from : ℕ) (limit : Option ℕ) (old new : Option (List ℕ)) (outcome : TaskOutcome) : Type 0 where
   pub answer : Result RunEnd Refusal
   pub between : Option (List ℕ)
   pub run : IsAxesAnswer words keep from limit old between answer
   pub end : IsRunEnding [] answer between new outcome
 
 -- how `run` ends over the file at this path: the run writes its lines, and then ends
-pub record IsGridEnding (files : List Source) (path text : List ℕ) (from : ℕ) (limit : Option ℕ) (old new : Option (List ℕ)) (outcome : Outcome) : Type 0 where
+pub record IsGridEnding (files : List Source) (path text : List ℕ) (from : ℕ) (limit : Option ℕ) (old new : Option (List ℕ)) (outcome : TaskOutcome) : Type 0 where
   pub answer : Result RunEnd Refusal
   pub between : Option (List ℕ)
   pub run : IsRunAnswer files text from limit old between answer
   pub end : IsRunEnding path answer between new outcome
 
 -- a command that writes no last line is done, or its refusal is told
-abbrev pub IsAnswered : List ℕ → Result Unit Refusal → Outcome → Type 0
+abbrev pub IsAnswered : List ℕ → Result Unit Refusal → TaskOutcome → Type 0
 IsAnswered path (Ok unit) outcome = outcome ≡ done
 IsAnswered path (Err refusal) outcome = IsTold path refusal outcome
 
 -- how `check` ends
-abbrev pub IsCheckEnding : List Source → Option (List ℕ) → Option (List ℕ) → Outcome → Type 0
+abbrev pub IsCheckEnding : List Source → Option (List ℕ) → Option (List ℕ) → TaskOutcome → Type 0
 IsCheckEnding files old new outcome = (answer : Result Unit Refusal) × IsCheck files old new answer × IsAnswered [] answer outcome
 
 -- how `calc` ends over the file at this path
-abbrev pub IsCalcEnding : List Source → List ℕ → List ℕ → Option (List ℕ) → Option (List ℕ) → Outcome → Type 0
+abbrev pub IsCalcEnding : List Source → List ℕ → List ℕ → Option (List ℕ) → Option (List ℕ) → TaskOutcome → Type 0
 IsCalcEnding files path text old new outcome = (answer : Result Unit Refusal) × IsCalc files text old new answer × IsAnswered path answer outcome
 
 -- the status says whether a test failed
-abbrev pub judged : Verdict → Outcome
+abbrev pub judged : Verdict → TaskOutcome
 judged verdict = record { status = if verdict.failed == 0 then 0 else 1; told = None }
 
 -- tests that were all worked out are judged, or the refusal is told
-abbrev pub IsJudged : List ℕ → Result Verdict Refusal → Outcome → Type 0
+abbrev pub IsJudged : List ℕ → Result Verdict Refusal → TaskOutcome → Type 0
 IsJudged path (Ok verdict) outcome = outcome ≡ judged verdict
 IsJudged path (Err refusal) outcome = IsTold path refusal outcome
 
 -- how `test` ends over the file at this path
-abbrev pub IsTestEnding : List Source → List ℕ → List ℕ → Option (List ℕ) → Option (List ℕ) → Outcome → Type 0
+abbrev pub IsTestEnding : List Source → List ℕ → List ℕ → Option (List ℕ) → Option (List ℕ) → TaskOutcome → Type 0
 IsTestEnding files path text old new outcome = (answer : Result Verdict Refusal) × IsTest files text old new answer × IsJudged path answer outcome
 
 -- how a task ends over the files of its folder and the text of its own file, where a sink held `old` and then holds `new`
-abbrev pub IsTaskEnding : Task → List Source → List ℕ → Option (List ℕ) → Option (List ℕ) → Outcome → Type 0
+abbrev pub IsTaskEnding : Task → List Source → List ℕ → Option (List ℕ) → Option (List ℕ) → TaskOutcome → Type 0
 IsTaskEnding (Check rules) files text old new outcome = IsCheckEnding files old new outcome
 IsTaskEnding (Calc rules file) files text old new outcome = IsCalcEnding files file.now text old new outcome
 IsTaskEnding (Test rules file) files text old new outcome = IsTestEnding files file.now text old new outcome

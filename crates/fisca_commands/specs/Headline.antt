@@ -40,6 +40,6 @@ pub record IsFaulted (r : Running) (from : ℕ) (limit : Option ℕ) (old new : 
   pub there : row_of r position ≡ Fault u.fault
   pub first : (before : ℕ) (x : EvalFault) → from ≤ before → before < position → row_of r before ≢ Fault x
   pub stops : run_end (row_of r) (size_of r) from limit ≡ FaultAt position u.fault
-  pub key : key_told r.rules r.run.situation.members u.fault ≡ Some (string_bytes u.key)
+  pub key : key_told r.rules r.run.members u.fault ≡ Some (string_bytes u.key)
   pub written : Appends old new (texts (lines_from r from limit))
   pub none_left : lines_from r from None ≡ lines_from r from limit

@@ -9,8 +9,8 @@ use Rattle.fisca_rules.specs.declared.rule_set.RuleSet.{RuleSet}
 use Rattle.fisca_commands.specs.Runs.{IsAsked, positions, simulation_in}
 use Rattle.fisca_run_file.specs.Positions.{moved_at, situation_with}
 use Rattle.fisca_run_file.specs.RunFiles.{RunFile}
+use Rattle.fisca_run_file.specs.Steps.Slots.{slots_of}
 use Rattle.fisca_situations.specs.Situations.{Situation}
-use Rattle.fisca_run.specs.Slots.{slots_of}
 use Rattle.fisca_situations.specs.Views.{slot as slot_view, slot_list}
 use Rattle.fisca_situations.specs.declared.slot.Slot.{Slot}
 use Rattle.fisca_simulation.specs.Simulations.{Simulation}

@@ -1,5 +1,6 @@
 pub mod Asked
 pub mod AxesRun
+pub mod Begun
 pub mod Calc
 pub mod Conditions
 pub mod Ending

@@ -26,8 +26,8 @@ use Rattle.fisca_commands.specs.Asked.{keys_asked}
 use Rattle.fisca_commands.specs.Kept.{IsSituated}
 use Rattle.fisca_commands.specs.Runs.{positions}
 use Rattle.fisca_run_file.specs.RunFiles.{RunFile}
-use Rattle.fisca_run.specs.Marks.{wheels_of}
-use Rattle.fisca_run.specs.Slots.{slots_of}
+use Rattle.fisca_run_file.specs.Steps.Marks.{wheels_of}
+use Rattle.fisca_run_file.specs.Steps.Slots.{slots_of}
 use Rattle.fisca_simulation.specs.Simulations.{Simulation, normal_key, sources}
 
 -- a key is one of these

@@ -8,6 +8,7 @@ use Rattle.fisca_writer.specs.Run.{IsRun}
 use Rattle.fisca_writer.specs.declared.fault.RunEnd.{RunEnd}
 use Rattle.fisca_writer.specs.declared.fault.RunFault.{RunFault}
 use Rattle.fisca_writer.specs.declared.fault.RunFault.TheVariants as run
+use Rattle.fisca_groups.specs.declared.entity_members.EntityMembers.{EntityMembers}
 use Rattle.fisca_params.specs.Source.{Source}
 use Rattle.fisca_evaluator.specs.declared.counts.Counts.{Counts}
 use Rattle.fisca_rule_files.specs.declared.refusal.Refusal.{Refusal}
@@ -44,18 +45,18 @@ IsRunning files text r = IsAccepted files (rule_set r.rules) × SaysRun r.rules 
 abbrev pub IsGridRun : Running → ℕ → Option ℕ → Option (List ℕ) → Option (List ℕ) → Result RunEnd (RunFault EvalFault) → Type 0
 IsGridRun r = IsRun (run_row r.rules r.run) (positions r.run)
 
--- what is told of a run that this stopped; a key's text may want memory
-abbrev pub IsStopTold : Running → RunFault EvalFault → Refusal → Type 0
-IsStopTold r run.BadPosition refusal = refusal ≡ Run run.BadPosition
-IsStopTold r (run.Eval position fault) refusal =
-    (refusal ≡ Run (run.Memory position)) ⊎ ((u : Unanswered) × (refusal ≡ Run (run.Eval position u)) × IsUnanswered r.rules r.run.situation.members fault u)
-IsStopTold r (run.Write position) refusal = refusal ≡ Run (run.Write position)
-IsStopTold r (run.Memory position) refusal = refusal ≡ Run (run.Memory position)
+-- what is told of a run that this stopped, with the names of these members; a key's text may want memory
+abbrev pub IsStopTold : RuleSet → List EntityMembers → RunFault EvalFault → Refusal → Type 0
+IsStopTold rules members run.BadPosition refusal = refusal ≡ Run run.BadPosition
+IsStopTold rules members (run.Eval position fault) refusal =
+    (refusal ≡ Run (run.Memory position)) ⊎ ((u : Unanswered) × (refusal ≡ Run (run.Eval position u)) × IsUnanswered rules members fault u)
+IsStopTold rules members (run.Write position) refusal = refusal ≡ Run (run.Write position)
+IsStopTold rules members (run.Memory position) refusal = refusal ≡ Run (run.Memory position)
 
 -- what is answered once it is known what the text says
 abbrev pub IsRunTold : Running → ℕ → Option ℕ → Option (List ℕ) → Option (List ℕ) → Result RunEnd Refusal → Type 0
 IsRunTold r from limit old new (Ok end) = IsGridRun r from limit old new (Ok end)
-IsRunTold r from limit old new (Err refusal) = (fault : RunFault EvalFault) × IsGridRun r from limit old new (Err fault) × IsStopTold r fault refusal
+IsRunTold r from limit old new (Err refusal) = (fault : RunFault EvalFault) × IsGridRun r from limit old new (Err fault) × IsStopTold r.rules r.run.members fault refusal
 
 -- the tree is refused as a run file, or memory was refused
 abbrev pub RefusesRunTree : RuleSet → Node → Refusal → Type 0

@@ -6,7 +6,6 @@ use Rattle.fisca_grid.specs.Grid.{size_of}
 use Rattle.fisca_inputs.specs.declared.fault.SituationFault.{SituationFault}
 use Rattle.fisca_inputs.specs.declared.given.Given.{Given}
 use Rattle.fisca_writer.specs.Row.{Row, Nothing}
-use Rattle.fisca_groups.specs.declared.entity_members.EntityMembers.{EntityMembers}
 use Rattle.fisca_rules.specs.Views.{rule_set}
 use Rattle.fisca_rules.specs.declared.rule_set.RuleSet.{RuleSet}
 use Rattle.fisca_commands.specs.Lines.{asked_row}
@@ -43,8 +42,3 @@ positions f = size_of f.groups
 pub record IsAsked (rules : RuleSet) (n : Node) (f : RunFile) : Type 0 where
   pub safe : IsSafeRules (rule_set rules)
   pub read : run_file_of rules.tables n ≡ Ok f
-
--- members that an evaluator has given back are those of the file
-abbrev pub AreMembers : RunFile → Option (List EntityMembers) → Type 0
-AreMembers f None = Unit {0}
-AreMembers f (Some members) = members ≡ f.situation.members

@@ -15,8 +15,9 @@ use Rattle.fisca_situations.specs.Situations.{Situation}
 use Rattle.fisca_simulation.specs.Simulations.{Simulation}
 use Rattle.fisca_symbols.specs.Known.{tables as known}
 use Rattle.fisca_test_file.specs.KeyFaults.{key_told}
-use Rattle.fisca_test_file.specs.Report.{Scene, failed_of, passed_of, report_text, scene_of}
-use Rattle.fisca_test_file.specs.Tests.{Test, tests_of}
+use Rattle.fisca_test_file.specs.Report.{TestContext, failed_of, passed_of, report_text, test_context_of}
+use Rattle.fisca_test_file.specs.Tests.{Test}
+use Rattle.fisca_test_file.specs.Steps.Tests.{tests_of}
 use Rattle.fisca_test_file.specs.declared.all.Verdict.{Verdict}
 use Rattle.fisca_test_file.specs.declared.fault.TestFault.{TestFault}
 use Rattle.fisca_test_file.specs.declared.fault.TestKind.TheVariants as kind
@@ -42,8 +43,8 @@ abbrev pub simulation_in : RuleSet → Situation → Simulation
 simulation_in rules s = record { rules = rule_set rules; situation = s; neutral = [] }
 
 -- each key of a test has the value that the rules define in the test's situation, or the fault for which it has none
-abbrev pub scene_in : RuleSet → Test → Scene EvalFault
-scene_in rules = scene_of (known rules.tables) (λ s. told_in (simulation_in rules s)) name_of key_told
+abbrev pub test_context_in : RuleSet → Test → TestContext EvalFault
+test_context_in rules = test_context_of (known rules.tables) (λ s. told_in (simulation_in rules s)) name_of key_told
 
 -- this verdict is answered, and the text is written; or the sink failed, and has a proper beginning of it
 abbrev pub IsWritten : Verdict → List ℕ → Option (List ℕ) → Option (List ℕ) → Result Verdict Refusal → Type 0
@@ -53,8 +54,8 @@ IsWritten verdict text old new (Err refusal) = (refusal ≡ Write) × AppendsPar
 -- what is answered once it is known which tests there are: how many pass and fail, and their report is written; or the sink failed
 abbrev pub IsTested : Testing → Option (List ℕ) → Option (List ℕ) → Result Verdict Refusal → Type 0
 IsTested t old new (Ok verdict) =
-    (verdict.passed ≡ passed_of (scene_in t.rules) t.tests) × (verdict.failed ≡ failed_of (scene_in t.rules) t.tests) × Appends old new (report_text (scene_in t.rules) t.tests)
-IsTested t old new (Err refusal) = (refusal ≡ Write) × AppendsPart (report_text (scene_in t.rules) t.tests) old new
+    (verdict.passed ≡ passed_of (test_context_in t.rules) t.tests) × (verdict.failed ≡ failed_of (test_context_in t.rules) t.tests) × Appends old new (report_text (test_context_in t.rules) t.tests)
+IsTested t old new (Err refusal) = (refusal ≡ Write) × AppendsPart (report_text (test_context_in t.rules) t.tests) old new
 
 -- the tree is refused as a file of tests, or memory was refused
 abbrev pub RefusesTree : RuleSet → Node → Refusal → Type 0

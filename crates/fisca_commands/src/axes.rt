@@ -2,7 +2,8 @@
 
 ghost use Rattle.std.specs.Prelude.{◌≡◌, ◌≢◌, ℕ, map, option_map, IfOk, IfErr, Ok, Err, Some, None, string_bytes};
 ghost use Rattle.fisca_grid.specs.Grid.{axes_fault, groups_of};
-ghost use Rattle.fisca_grid.specs.NamedAxes.{name_of, specs_of, own_groups};
+ghost use Rattle.fisca_grid.specs.NamedAxes.{specs_of};
+ghost use Rattle.fisca_grid.specs.Steps.NamedAxes.{name_of, own_groups};
 ghost use Rattle.fisca_writer.specs.Sink.{CountsFailure};
 ghost use Rattle.fisca_commands.specs.AxesRun.{axes_of_words, axes_within_limits, named_fault, optional_filter, IsAxesAnswer};
 ghost use Rattle.fisca_rule_files.specs.Refusal.{is_write};

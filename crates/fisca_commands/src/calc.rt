@@ -4,7 +4,7 @@ ghost use Rattle.std.specs.Prelude.{◌≡◌, Some, IfOk, IfErr};
 ghost use Rattle.fisca_columns.specs.Views.{calc};
 ghost use Rattle.fisca_simulation.specs.Told.{IsReady};
 ghost use Rattle.fisca_writer.specs.Sink.{CountsFailure};
-ghost use Rattle.fisca_situations.specs.Views.{situation as situation_view};
+ghost use Rattle.fisca_situations.specs.Steps.Views.{situation as situation_view};
 ghost use Rattle.fisca_yaml.specs.Grouping.{document};
 ghost use Rattle.fisca_yaml.specs.Views.{node};
 ghost use Rattle.fisca_commands.specs.Calc.{IsAsked, IsCalc, IsCalculated, IsKeyTold, RefusesText, simulation_of};

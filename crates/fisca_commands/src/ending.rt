@@ -20,9 +20,9 @@ pub struct Ending {
 impl Model for Ending {
     ghost use Rattle.std.specs.Prelude.{option_map};
     ghost use Rattle.std.specs.Cow.{cow_str_bytes};
-    ghost use Rattle.fisca_commands.specs.Ending.{Outcome};
+    ghost use Rattle.fisca_commands.specs.Ending.{TaskOutcome};
 
-    ghost Value = { Outcome };
+    ghost Value = { TaskOutcome };
 
     ghost view = { λ e. record { status = e.status; told = option_map (λ text. cow_str_bytes text) e.told } };
 }

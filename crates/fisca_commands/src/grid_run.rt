@@ -1,30 +1,26 @@
 //! The run over the grid of a run file.
 
-ghost use Rattle.std.specs.Prelude.{◌≡◌, ◌≢◌, ◌<◌, ◌≤◌, ◌↔◌, IfOk, IfSome, IfNone, IsErrOf, Some, length, map};
+ghost use Rattle.std.specs.Prelude.{◌≡◌, ◌≢◌, ◌<◌, ◌≤◌, ◌↔◌, IfOk, IfSome, IfNone, IsErrOf, Some};
 ghost use Rattle.fisca_writer.specs.Run.{IsRun, is_write};
 ghost use Rattle.fisca_writer.specs.Sink.{CountsFailure};
 ghost use Rattle.fisca_commands.specs.Ends.{IsAtOnce, end_of, stop_of};
+ghost use Rattle.fisca_commands.specs.Begun.{IsBegun};
 ghost use Rattle.fisca_commands.specs.Kept.{IsRunFile};
 ghost use Rattle.fisca_commands.specs.Remembered.{AreCounts};
-ghost use Rattle.fisca_commands.specs.Runs.{IsAsked, positions, run_row};
-ghost use Rattle.fisca_run_file.specs.Positions.{situation_with};
-ghost use Rattle.fisca_run_file.specs.Views.{run_file as run_file_view};
-ghost use Rattle.fisca_situations.specs.Views.{situation as situation_view};
-ghost use Rattle.fisca_run.specs.Marks.{wheels_of};
-ghost use Rattle.fisca_run.specs.Slots.{slots_of};
-ghost use Rattle.fisca_situations.specs.Views.{slot_list};
-ghost use Rattle.fisca_yaml.specs.Views.{node};
+ghost use Rattle.fisca_commands.specs.Runs.{positions, run_row};
+ghost use Rattle.fisca_run_file.specs.Positions.{IsBeginning};
+ghost use Rattle.fisca_run_file.specs.Views.{run_file as run_file_view, run_start as run_start_view};
+ghost use Rattle.fisca_situations.specs.Steps.Views.{situation as situation_view};
 
 use crate::beginning::evaluator_of;
 use crate::kept::run_with;
 use crate::rows::RunRows;
-use crate::run_start::{RunStart, start};
 use fisca_evaluator::{Counts, IndexRecall};
 use fisca_model::EvalFault;
 use fisca_rules::RuleSet;
-use fisca_run_file::RunFile;
+use fisca_run_file::{RunFile, RunStart};
+use fisca_situations::Situation;
 use fisca_writer::{RowSink, RunEnd, RunFault, write_lines};
-use fisca_yaml::Tree;
 use std::alloc::Global;
 
 /// How a run ends for which no row is worked out, if it is one: there is no position from its start on, or its limit is 0.
@@ -42,40 +38,64 @@ fn ended_at_once(size: u64, from: u64, limit: Option<u64>) -> Option<RunEnd>
     }
 }
 
-/// Writes the lines of a run from what it begins with.
-fn run_from<S: RowSink>(
+/// How a run ends, with these counts where nothing stopped it.
+fn with_counts(
+    end: Result<RunEnd, RunFault<EvalFault>>,
+    counts: Counts,
+) -> Result<(RunEnd, Counts), RunFault<EvalFault>>
+    ensures end { end_of result ≡ end }
+    ensures bad_position { IsErrOf result RunFault.BadPosition ↔ IsErrOf end RunFault.BadPosition }
+    ensures write { is_write result ≡ is_write end }
+    ensures counts { IfOk result (λ ended. ended.1 ≡ counts) }
+{
+    match end {
+        Ok(end) => Ok((end, counts)),
+        Err(fault) => Err(fault),
+    }
+}
+
+/// Writes the lines of a run from what it begins with, and gives the situation back, where the axes have the values of the last position.
+pub(crate) fn run_from<S: RowSink>(
     alloc: Global,
     rules: &RuleSet<'_>,
-    run: &RunFile,
     begun: RunStart,
     from: u64,
     limit: Option<u64>,
     sink: &mut S,
-) -> Result<(RunEnd, Counts), RunFault<EvalFault>>
-    requires accepted { IsRunFile rules.now (run_file_view run.now) }
-    requires situation { situation_with rules.now.tables (run_file_view run.now) (run_file_view run.now).moved ≡ Ok (situation_view begun.situation) }
-    requires slots { slot_list begun.slots.items ≡ slots_of rules.now.tables (run_file_view run.now) }
-    requires wheels { begun.wheels.items ≡ wheels_of (length rules.now.tables.variables) (slots_of rules.now.tables (run_file_view run.now)) }
-    ensures run { IsRun (run_row rules.now (run_file_view run.now)) (positions (run_file_view run.now)) from limit (S.taken sink.old) (S.taken sink.new) (end_of result) }
-    ensures bad_position { IsErrOf result RunFault.BadPosition ↔ (positions (run_file_view run.now) < from) }
-    ensures failures { CountsFailure (is_write result) (S.failures sink.old) (S.failures sink.new) }
-    ensures counts { IfOk result (λ ended. AreCounts rules.now (run_file_view run.now) from (stop_of (run_file_view run.now) ended.0) ended.1) }
+) -> (Situation, Result<(RunEnd, Counts), RunFault<EvalFault>>)
+    requires { IsBegun rules.now (run_start_view begun) begun }
+    ensures run { IsRun (run_row rules.now (run_start_view begun)) (positions (run_start_view begun)) from limit (S.taken sink.old) (S.taken sink.new) (end_of result.1) }
+    ensures bad_position { IsErrOf result.1 RunFault.BadPosition ↔ (positions (run_start_view begun) < from) }
+    ensures failures { CountsFailure (is_write result.1) (S.failures sink.old) (S.failures sink.new) }
+    ensures counts { IfOk result.1 (λ ended. AreCounts rules.now (run_start_view begun) from (stop_of (run_start_view begun) ended.0) ended.1) }
+    ensures members { (situation_view result.0).members ≡ (run_start_view begun).members }
 {
     let RunStart {
         situation,
         slots,
         wheels,
+        request,
     } = begun;
     let recall = IndexRecall::new(alloc);
     let (slots, wheels) = (slots.as_slice(), wheels.as_slice());
-    let mut evaluator = evaluator_of(alloc, rules, run, slots, wheels, situation, recall);
-    let end = run_with(alloc, rules, &mut evaluator, slots, run, from, limit, sink)?;
-    Ok((end, evaluator.counts()))
+    let mut evaluator = evaluator_of(alloc, rules, &request, slots, wheels, situation, recall);
+    let end = run_with(
+        alloc,
+        rules,
+        &mut evaluator,
+        slots,
+        &request,
+        from,
+        limit,
+        sink,
+    );
+    let counts = evaluator.counts();
+    (evaluator.into_situation(), with_counts(end, counts))
 }
 
 /// Writes the lines of a run file under a rule set into a sink: those of the positions of its grid from `from` on at which all conditions hold, in
 /// order, up to a limit of lines. A line has the number of its position, the values of the axes and those of the columns, with tabs between
-/// them, and a line feed. The tree is the one that says the file. One situation goes from position to position, and one evaluator remembers what
+/// them, and a line feed. One situation goes from position to position, and one evaluator remembers what
 /// formulas gave: a value is forgotten where an axis moves that its work reads, and else worked out once in the run. Each line is worked out
 /// whole before any of it is handed over.
 ///
@@ -93,27 +113,30 @@ fn run_from<S: RowSink>(
 pub fn run_grid<S: RowSink>(
     alloc: Global,
     rules: &RuleSet<'_>,
-    tree: &Tree<'_>,
-    run: &RunFile,
+    run: RunFile,
     from: u64,
     limit: Option<u64>,
     sink: &mut S,
 ) -> Result<(RunEnd, Counts), RunFault<EvalFault>>
-    requires { IsAsked rules.now (node tree.now) (run_file_view run.now) }
-    ensures run { IsRun (run_row rules.now (run_file_view run.now)) (positions (run_file_view run.now)) from limit (S.taken sink.old) (S.taken sink.new) (end_of result) }
-    ensures bad_position { IsErrOf result RunFault.BadPosition ↔ (positions (run_file_view run.now) < from) }
+    requires accepted { IsRunFile rules.now (run_file_view run) }
+    requires begins { IsBeginning rules.now.tables (run_file_view run) (situation_view run.situation) }
+    ensures run { IsRun (run_row rules.now (run_file_view run)) (positions (run_file_view run)) from limit (S.taken sink.old) (S.taken sink.new) (end_of result) }
+    ensures bad_position { IsErrOf result RunFault.BadPosition ↔ (positions (run_file_view run) < from) }
     ensures failures { CountsFailure (is_write result) (S.failures sink.old) (S.failures sink.new) }
-    ensures counts { IfOk result (λ ended. AreCounts rules.now (run_file_view run.now) from (stop_of (run_file_view run.now) ended.0) ended.1) }
+    ensures counts { IfOk result (λ ended. AreCounts rules.now (run_file_view run) from (stop_of (run_file_view run) ended.0) ended.1) }
 {
-    let size = run.axes.size();
+    let size = run.request.axes.size();
     if from > size {
         return Err(RunFault::BadPosition);
     }
     if let Some(end) = ended_at_once(size, from, limit) {
         return Ok((end, Counts::new()));
     }
-    match start(alloc, rules, tree, run) {
-        Ok(begun) => run_from(alloc, rules, run, begun, from, limit, sink),
+    match run.start(alloc, &rules.tables) {
+        Ok(begun) => {
+            let (_situation, answer) = run_from(alloc, rules, begun, from, limit, sink);
+            answer
+        }
         Err(_) => Err(RunFault::Memory { position: from }),
     }
 }
@@ -123,23 +146,23 @@ pub fn run_grid<S: RowSink>(
 pub fn run_anew<S: RowSink>(
     alloc: Global,
     rules: &RuleSet<'_>,
-    tree: &Tree<'_>,
-    run: &RunFile,
+    run: RunFile,
     from: u64,
     limit: Option<u64>,
     sink: &mut S,
 ) -> Result<RunEnd, RunFault<EvalFault>>
-    requires { IsAsked rules.now (node tree.now) (run_file_view run.now) }
-    ensures run { IsRun (run_row rules.now (run_file_view run.now)) (positions (run_file_view run.now)) from limit (S.taken sink.old) (S.taken sink.new) result }
-    ensures bad_position { IsErrOf result RunFault.BadPosition ↔ (positions (run_file_view run.now) < from) }
+    requires { IsRunFile rules.now (run_file_view run) }
+    ensures run { IsRun (run_row rules.now (run_file_view run)) (positions (run_file_view run)) from limit (S.taken sink.old) (S.taken sink.new) result }
+    ensures bad_position { IsErrOf result RunFault.BadPosition ↔ (positions (run_file_view run) < from) }
     ensures failures { CountsFailure (is_write result) (S.failures sink.old) (S.failures sink.new) }
 {
+    let RunFile { situation, request } = run;
+    let Situation { members, inputs: _ } = situation;
     let mut rows = RunRows {
         alloc,
         rules,
-        tree,
-        run,
-        members: None,
+        request: &request,
+        members: Some(members),
         here: None,
     };
     write_lines(alloc, &mut rows, from, limit, sink)

@@ -4,16 +4,16 @@ ghost use Rattle.std.specs.Prelude.{◌≡◌, ◌<◌, ◌↔◌, None, IsErrOf
 ghost use Rattle.fisca_writer.specs.Run.{IsRun, is_write};
 ghost use Rattle.fisca_writer.specs.Sink.{CountsFailure};
 ghost use Rattle.fisca_evaluator.specs.Evaluators.{marks_in, simulation_of};
+ghost use Rattle.fisca_commands.specs.Begun.{file_in};
 ghost use Rattle.fisca_commands.specs.Kept.{IsKept};
 ghost use Rattle.fisca_commands.specs.Remembered.{HasEnded};
 ghost use Rattle.fisca_commands.specs.Runs.{positions, run_row};
-ghost use Rattle.fisca_run_file.specs.Views.{run_file as run_file_view};
 
 use crate::kept_rows::{KeptRows, Room};
 use fisca_evaluator::{Evaluator, Recall};
 use fisca_model::EvalFault;
 use fisca_rules::RuleSet;
-use fisca_run_file::RunFile;
+use fisca_run_file::RunRequest;
 use fisca_situations::Slot;
 use fisca_writer::{RowSink, RunEnd, RunFault, write_lines};
 use std::alloc::Global;
@@ -26,19 +26,20 @@ fn write_kept<R: Recall, S: RowSink>(
     limit: Option<u64>,
     sink: &mut S,
 ) -> Result<RunEnd, RunFault<EvalFault>>
-    requires { IsKept rows.old.rules.now (run_file_view rows.old.run.now) rows.old.slots.now rows.old.here (marks_in rows.old.evaluator.now) (simulation_of rows.old.evaluator.now) (R.find rows.old.evaluator.now.store.recall) rows.old.evaluator.now.store.counts.free }
-    ensures run { IsRun (run_row rows.old.rules.now (run_file_view rows.old.run.now)) (positions (run_file_view rows.old.run.now)) from limit (S.taken sink.old) (S.taken sink.new) result }
-    ensures bad_position { IsErrOf result RunFault.BadPosition ↔ (positions (run_file_view rows.old.run.now) < from) }
+    requires { IsKept rows.old.rules.now (file_in (simulation_of rows.old.evaluator.now) rows.old.request.now) rows.old.slots.now rows.old.here (marks_in rows.old.evaluator.now) (simulation_of rows.old.evaluator.now) (R.find rows.old.evaluator.now.store.recall) rows.old.evaluator.now.store.counts.free }
+    ensures run { IsRun (run_row rows.old.rules.now (file_in (simulation_of rows.old.evaluator.now) rows.old.request.now)) (positions (file_in (simulation_of rows.old.evaluator.now) rows.old.request.now)) from limit (S.taken sink.old) (S.taken sink.new) result }
+    ensures bad_position { IsErrOf result RunFault.BadPosition ↔ (positions (file_in (simulation_of rows.old.evaluator.now) rows.old.request.now) < from) }
     ensures failures { CountsFailure (is_write result) (S.failures sink.old) (S.failures sink.new) }
-    ensures ended { HasEnded R.find rows.old.rules.now (run_file_view rows.old.run.now) from rows.old.evaluator.now rows.new.evaluator.now result }
+    ensures ended { HasEnded R.find rows.old.rules.now (file_in (simulation_of rows.old.evaluator.now) rows.old.request.now) from rows.old.evaluator.now rows.new.evaluator.now result }
     ensures same_reference { rows.new.evaluator.ghost_name ≡ rows.old.evaluator.ghost_name }
-    ensures ready { IsKept rows.old.rules.now (run_file_view rows.old.run.now) rows.old.slots.now None (marks_in rows.new.evaluator.now) (simulation_of rows.new.evaluator.now) (R.find rows.new.evaluator.now.store.recall) rows.new.evaluator.now.store.counts.free }
+    ensures same_members { (simulation_of rows.new.evaluator.now).situation.members ≡ (simulation_of rows.old.evaluator.now).situation.members }
+    ensures ready { IsKept rows.old.rules.now (file_in (simulation_of rows.old.evaluator.now) rows.old.request.now) rows.old.slots.now None (marks_in rows.new.evaluator.now) (simulation_of rows.new.evaluator.now) (R.find rows.new.evaluator.now.store.recall) rows.new.evaluator.now.store.counts.free }
 {
     write_lines(alloc, rows, from, limit, sink)
 }
 
-/// Writes the lines of a run file under a rule set into a sink, as [`run_grid`](crate::run_grid) does, by an evaluator that is handed in. Its
-/// situation is that of the file, where the axes have the values with which the file was read, or those at any position; the slots are
+/// Writes the lines that a run file requests under a rule set into a sink, as [`run_grid`](crate::run_grid) does, by an evaluator that is handed in.
+/// Its situation is that of the file, where the axes have the values with which the file was read, or those at any position; the slots are
 /// those of the file, and the evaluator has each slot's wheel among those of its variable. No evaluator is made: before the first position every
 /// slot is turned, and before each later one those of the wheels that turn there, by which what reads one of these is forgotten.
 ///
@@ -51,23 +52,24 @@ pub fn run_with<'a, 't, R: Recall, S: RowSink>(
     rules: &'a RuleSet<'t>,
     evaluator: &'a mut Evaluator<'_, 't, R>,
     slots: &'a [Slot],
-    run: &'a RunFile,
+    request: &'a RunRequest,
     from: u64,
     limit: Option<u64>,
     sink: &mut S,
 ) -> Result<RunEnd, RunFault<EvalFault>>
-    requires { IsKept rules.now (run_file_view run.now) slots.now None (marks_in evaluator.old) (simulation_of evaluator.old) (R.find evaluator.old.store.recall) evaluator.old.store.counts.free }
-    ensures run { IsRun (run_row rules.now (run_file_view run.now)) (positions (run_file_view run.now)) from limit (S.taken sink.old) (S.taken sink.new) result }
-    ensures bad_position { IsErrOf result RunFault.BadPosition ↔ (positions (run_file_view run.now) < from) }
+    requires { IsKept rules.now (file_in (simulation_of evaluator.old) request.now) slots.now None (marks_in evaluator.old) (simulation_of evaluator.old) (R.find evaluator.old.store.recall) evaluator.old.store.counts.free }
+    ensures run { IsRun (run_row rules.now (file_in (simulation_of evaluator.old) request.now)) (positions (file_in (simulation_of evaluator.old) request.now)) from limit (S.taken sink.old) (S.taken sink.new) result }
+    ensures bad_position { IsErrOf result RunFault.BadPosition ↔ (positions (file_in (simulation_of evaluator.old) request.now) < from) }
     ensures failures { CountsFailure (is_write result) (S.failures sink.old) (S.failures sink.new) }
-    ensures ended { HasEnded R.find rules.now (run_file_view run.now) from evaluator.old evaluator.new result }
-    ensures ready { IsKept rules.now (run_file_view run.now) slots.now None (marks_in evaluator.new) (simulation_of evaluator.new) (R.find evaluator.new.store.recall) evaluator.new.store.counts.free }
+    ensures ended { HasEnded R.find rules.now (file_in (simulation_of evaluator.old) request.now) from evaluator.old evaluator.new result }
+    ensures same_members { (simulation_of evaluator.new).situation.members ≡ (simulation_of evaluator.old).situation.members }
+    ensures ready { IsKept rules.now (file_in (simulation_of evaluator.old) request.now) slots.now None (marks_in evaluator.new) (simulation_of evaluator.new) (R.find evaluator.new.store.recall) evaluator.new.store.counts.free }
 {
     let mut room = Room::new(alloc);
     let mut rows = KeptRows {
         alloc,
         rules,
-        run,
+        request,
         slots,
         evaluator,
         here: None,

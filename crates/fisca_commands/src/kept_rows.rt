@@ -7,9 +7,9 @@ ghost use Rattle.fisca_writer.specs.Row.{IsWorkedOut};
 ghost use Rattle.fisca_evaluator.specs.Asked.{HasRefused, HasWorked};
 ghost use Rattle.fisca_evaluator.specs.Evaluators.{IsMemoryOf, marks_in, simulation_of};
 ghost use Rattle.fisca_commands.specs.Asked.{keys_asked};
+ghost use Rattle.fisca_commands.specs.Begun.{file_in};
 ghost use Rattle.fisca_commands.specs.Kept.{IsRunFile, IsSituated};
 ghost use Rattle.fisca_commands.specs.Runs.{positions, run_row};
-ghost use Rattle.fisca_run_file.specs.Views.{run_file as run_file_view};
 
 use crate::conditions::all_met;
 use crate::row::{Asked, write_line};
@@ -19,9 +19,9 @@ use fisca_inputs::Given;
 use fisca_model::EvalFault;
 use fisca_num::Fraction;
 use fisca_rules::RuleSet;
-use fisca_run_file::RunFile;
+use fisca_run_file::RunRequest;
 use fisca_situations::Slot;
-use fisca_writer::{Groups, RowFault, Rows, Selection};
+use fisca_writer::{GroupLengths, RowFault, Rows, Selection};
 use std::alloc::Global;
 
 /// A run file under a rule set, and an evaluator whose situation is that of the position that was worked out last or, before there is one, that with
@@ -32,8 +32,8 @@ pub(crate) struct KeptRows<'a, 'b, 'r, 't, R> {
     pub(crate) alloc: Global,
     /// The rule set.
     pub(crate) rules: &'a RuleSet<'t>,
-    /// The file.
-    pub(crate) run: &'a RunFile,
+    /// What the file requests.
+    pub(crate) request: &'a RunRequest,
     /// What its axes move.
     pub(crate) slots: &'a [Slot],
     /// What answers the values of keys.
@@ -67,27 +67,27 @@ impl<'a, 'b, 'r, 't, R: Recall> Rows for KeptRows<'a, 'b, 'r, 't, R> {
     ghost use Rattle.std.specs.Prelude.{◌≡◌};
     ghost use Rattle.fisca_grid.specs.Grid.{counts_of};
     ghost use Rattle.fisca_evaluator.specs.Evaluators.{marks_in, simulation_of};
+    ghost use Rattle.fisca_commands.specs.Begun.{file_in};
     ghost use Rattle.fisca_commands.specs.Kept.{IsKept};
     ghost use Rattle.fisca_commands.specs.Remembered.{IsPassed, IsRefused};
     ghost use Rattle.fisca_commands.specs.Runs.{run_row};
-    ghost use Rattle.fisca_run_file.specs.Views.{run_file as run_file_view};
 
     type Fault = EvalFault;
 
-    ghost row_at = { λ r. run_row r.rules.now (run_file_view r.run.now) };
+    ghost row_at = { λ r. run_row r.rules.now (file_in (simulation_of r.evaluator.now) r.request.now) };
 
-    ghost counts = { λ r. counts_of (run_file_view r.run.now).groups };
+    ghost counts = { λ r. counts_of r.request.now.axes };
 
     ghost here = { λ r. r.here };
 
-    ghost worked = { λ r position s. (s.rules.now ≡ r.rules.now) × (s.run.now ≡ r.run.now) × (s.slots.now ≡ r.slots.now) × (s.evaluator.ghost_name ≡ r.evaluator.ghost_name) × IsPassed R.find r.rules.now (run_file_view r.run.now) r.evaluator.now position s.evaluator.now };
+    ghost worked = { λ r position s. (s.rules.now ≡ r.rules.now) × (s.request.now ≡ r.request.now) × (s.slots.now ≡ r.slots.now) × (s.evaluator.ghost_name ≡ r.evaluator.ghost_name) × ((simulation_of s.evaluator.now).situation.members ≡ (simulation_of r.evaluator.now).situation.members) × IsPassed R.find r.rules.now (file_in (simulation_of r.evaluator.now) r.request.now) r.evaluator.now position s.evaluator.now };
 
-    ghost refused = { λ r _ s. (s.rules.now ≡ r.rules.now) × (s.run.now ≡ r.run.now) × (s.slots.now ≡ r.slots.now) × (s.evaluator.ghost_name ≡ r.evaluator.ghost_name) × IsRefused R.find r.evaluator.now s.evaluator.now };
+    ghost refused = { λ r _ s. (s.rules.now ≡ r.rules.now) × (s.request.now ≡ r.request.now) × (s.slots.now ≡ r.slots.now) × (s.evaluator.ghost_name ≡ r.evaluator.ghost_name) × ((simulation_of s.evaluator.now).situation.members ≡ (simulation_of r.evaluator.now).situation.members) × IsRefused R.find r.evaluator.now s.evaluator.now };
 
-    ghost ready = { λ r. IsKept r.rules.now (run_file_view r.run.now) r.slots.now r.here (marks_in r.evaluator.now) (simulation_of r.evaluator.now) (R.find r.evaluator.now.store.recall) r.evaluator.now.store.counts.free };
+    ghost ready = { λ r. IsKept r.rules.now (file_in (simulation_of r.evaluator.now) r.request.now) r.slots.now r.here (marks_in r.evaluator.now) (simulation_of r.evaluator.now) (R.find r.evaluator.now.store.recall) r.evaluator.now.store.counts.free };
 
-    fn groups(&self) -> Groups {
-        self.run.axes.groups()
+    fn groups(&self) -> GroupLengths {
+        self.request.axes.groups()
     }
 
     fn work_out(
@@ -97,9 +97,17 @@ impl<'a, 'b, 'r, 't, R: Recall> Rows for KeptRows<'a, 'b, 'r, 't, R> {
         line: &mut String,
     ) -> Result<Selection, RowFault<EvalFault>> {
         self.here = Some(position);
-        let (alloc, rules, run, slots) = (self.alloc, self.rules, self.run, self.slots);
-        turn_slots(self.evaluator, &run.axes, slots, position, turned);
-        write_row_at(alloc, rules, run, self.evaluator, position, self.room, line)
+        let (alloc, rules, request, slots) = (self.alloc, self.rules, self.request, self.slots);
+        turn_slots(self.evaluator, &request.axes, slots, position, turned);
+        write_row_at(
+            alloc,
+            rules,
+            request,
+            self.evaluator,
+            position,
+            self.room,
+            line,
+        )
     }
 }
 
@@ -108,32 +116,32 @@ impl<'a, 'b, 'r, 't, R: Recall> Rows for KeptRows<'a, 'b, 'r, 't, R> {
 fn write_row_at<R: Recall>(
     alloc: Global,
     rules: &RuleSet<'_>,
-    run: &RunFile,
+    request: &RunRequest,
     evaluator: &mut Evaluator<'_, '_, R>,
     position: u64,
     room: &mut Room,
     line: &mut String,
 ) -> Result<Selection, RowFault<EvalFault>>
-    requires accepted { IsRunFile rules.now (run_file_view run.now) }
-    requires position { position < positions (run_file_view run.now) }
-    requires situated { IsSituated rules.now (run_file_view run.now) (Some position) (simulation_of evaluator.old) }
+    requires accepted { IsRunFile rules.now (file_in (simulation_of evaluator.old) request.now) }
+    requires position { position < positions (file_in (simulation_of evaluator.old) request.now) }
+    requires situated { IsSituated rules.now (file_in (simulation_of evaluator.old) request.now) (Some position) (simulation_of evaluator.old) }
     requires memory { IsMemoryOf (marks_in evaluator.old) (simulation_of evaluator.old) (R.find evaluator.old.store.recall) evaluator.old.store.counts.free }
     requires line { string_bytes line.old ≡ [] }
-    ensures row { IsWorkedOut (run_row rules.now (run_file_view run.now) position) result (string_bytes line.new) }
-    ensures asked { HaveAsked (HasWorked R.find) (HasRefused R.find) (keys_asked (told_in (simulation_of evaluator.old)) (run_file_view run.now).conditions (run_file_view run.now).columns) evaluator.old evaluator.new result }
+    ensures row { IsWorkedOut (run_row rules.now (file_in (simulation_of evaluator.old) request.now) position) result (string_bytes line.new) }
+    ensures asked { HaveAsked (HasWorked R.find) (HasRefused R.find) (keys_asked (told_in (simulation_of evaluator.old)) request.now.conditions request.now.columns) evaluator.old evaluator.new result }
     ensures memory { IsMemoryOf (marks_in evaluator.new) (simulation_of evaluator.new) (R.find evaluator.new.store.recall) evaluator.new.store.counts.free }
 {
-    if !all_met(evaluator, run.conditions.as_slice())? {
+    if !all_met(evaluator, request.conditions.as_slice())? {
         return Ok(Selection::Dropped);
     }
     let (steps, moved) = (&mut room.steps, &mut room.moved);
-    match run.moved_into(&rules.tables, position, steps, moved) {
+    match request.moved_into(&rules.tables, position, steps, moved) {
         Ok(()) => {
             let asked = Asked {
                 position,
                 moved: room.moved.as_slice(),
-                conditions: run.conditions.as_slice(),
-                columns: run.columns.as_slice(),
+                conditions: request.conditions.as_slice(),
+                columns: request.columns.as_slice(),
             };
             write_line(alloc, &rules.tables, &asked, evaluator, line)
         }

@@ -1,27 +1,30 @@
 //! `fisca run`: the lines of a run file over its grid.
 
 ghost use Rattle.std.specs.Prelude.{◌≡◌, IfOk, IfErr, Ok};
-ghost use Rattle.fisca_commands.specs.Run.{IsCounted, IsRunAnswer, IsRunTold, IsStopTold, RefusesRunTree};
+ghost use Rattle.fisca_commands.specs.Begun.{HasBegun, IsBegun};
+ghost use Rattle.fisca_commands.specs.Run.{IsCounted, IsRunAnswer, IsRunTold, IsStopTold, RefusesRunText, RefusesRunTree, SaysRun};
 ghost use Rattle.fisca_writer.specs.Sink.{CountsFailure};
 ghost use Rattle.fisca_rule_files.specs.Refusal.{is_write};
 ghost use Rattle.fisca_commands.specs.Ends.{end_of, stop_of};
 ghost use Rattle.fisca_commands.specs.Remembered.{AreCounts};
-ghost use Rattle.fisca_commands.specs.Runs.{IsAsked};
 ghost use Rattle.fisca_run_file.specs.RunFiles.{run_file_of};
-ghost use Rattle.fisca_run_file.specs.Views.{run_file as run_file_view};
+ghost use Rattle.fisca_run_file.specs.Positions.{IsBeginning};
+ghost use Rattle.fisca_run_file.specs.Views.{run_file as run_file_view, run_start as run_start_view};
+ghost use Rattle.fisca_situations.specs.Steps.Views.{situation as situation_view};
 ghost use Rattle.fisca_yaml.specs.Views.{node};
 
 use super::calc::read_tree;
 use super::unanswered::unanswered;
-use crate::run_grid;
+use crate::grid_run::run_from;
 use fisca_columns::RunFileKind;
 use fisca_evaluator::Counts;
 use fisca_model::EvalFault;
 use fisca_params::SourceFile;
 use fisca_rule_files::{Refusal, rules_of};
 use fisca_rules::RuleSet;
-use fisca_run_file::RunFile;
+use fisca_run_file::{RunFile, RunStart};
 use fisca_simulation::rule_sets_are_safe;
+use fisca_situations::Situation;
 use fisca_writer::{RowSink, RunEnd, RunFault};
 use fisca_yaml::Tree;
 use std::alloc::Global;
@@ -29,6 +32,7 @@ use std::alloc::Global;
 /// The run file that a tree says under a rule set.
 fn read_run(alloc: Global, rules: &RuleSet<'_>, tree: &Tree<'_>) -> Result<RunFile, Refusal>
     ensures ok { IfOk result (λ run. run_file_of rules.now.tables (node tree.now) ≡ Ok (run_file_view run)) }
+    ensures begins { IfOk result (λ run. IsBeginning rules.now.tables (run_file_view run) (situation_view run.situation)) }
     ensures err { IfErr result (RefusesRunTree rules.now (node tree.now)) }
 {
     match RunFile::read(alloc, &rules.tables, tree) {
@@ -38,23 +42,35 @@ fn read_run(alloc: Global, rules: &RuleSet<'_>, tree: &Tree<'_>) -> Result<RunFi
     }
 }
 
+/// What a run of the file that a text says under a rule set begins with.
+fn begin_run(alloc: Global, rules: &RuleSet<'_>, text: &str) -> Result<RunStart, Refusal>
+    ensures says { IfOk result (λ begun. SaysRun rules.now text.now (run_start_view begun)) }
+    ensures begins { IfOk result (λ begun. HasBegun rules.now (run_start_view begun) begun) }
+    ensures err { IfErr result (RefusesRunText rules.now text.now) }
+{
+    let tree = read_tree(alloc, text)?;
+    let run = read_run(alloc, rules, &tree)?;
+    match run.start(alloc, &rules.tables) {
+        Ok(begun) => Ok(begun),
+        Err(_) => Err(Refusal::Memory),
+    }
+}
+
 /// The refusal of a run that this fault stopped, with the text of the key that a fault of an evaluation is told of.
 fn tell_stop(
     alloc: Global,
     rules: &RuleSet<'_>,
-    run: &RunFile,
+    situation: &Situation,
     fault: RunFault<EvalFault>,
 ) -> Refusal
-    ensures { IsStopTold (record { rules = rules.now; run = run_file_view run.now }) fault result }
+    ensures { IsStopTold rules.now (situation_view situation.now).members fault result }
 {
     match fault {
         RunFault::BadPosition => Refusal::Run(RunFault::BadPosition),
-        RunFault::Eval { position, fault } => {
-            match unanswered(alloc, rules, run.situation(), &fault) {
-                Ok(fault) => Refusal::Run(RunFault::Eval { position, fault }),
-                Err(_) => Refusal::Run(RunFault::Memory { position }),
-            }
-        }
+        RunFault::Eval { position, fault } => match unanswered(alloc, rules, situation, &fault) {
+            Ok(fault) => Refusal::Run(RunFault::Eval { position, fault }),
+            Err(_) => Refusal::Run(RunFault::Memory { position }),
+        },
         RunFault::Write { position } => Refusal::Run(RunFault::Write { position }),
         RunFault::Memory { position } => Refusal::Run(RunFault::Memory { position }),
     }
@@ -64,20 +80,20 @@ fn tell_stop(
 fn write_run<S: RowSink>(
     alloc: Global,
     rules: &RuleSet<'_>,
-    tree: &Tree<'_>,
-    run: &RunFile,
+    begun: RunStart,
     from: u64,
     rows: Option<u64>,
     sink: &mut S,
 ) -> Result<(RunEnd, Counts), Refusal>
-    requires { IsAsked rules.now (node tree.now) (run_file_view run.now) }
-    ensures answer { IsRunTold (record { rules = rules.now; run = run_file_view run.now }) from rows (S.taken sink.old) (S.taken sink.new) (end_of result) }
+    requires { IsBegun rules.now (run_start_view begun) begun }
+    ensures answer { IsRunTold (record { rules = rules.now; run = run_start_view begun }) from rows (S.taken sink.old) (S.taken sink.new) (end_of result) }
     ensures failures { CountsFailure (is_write result) (S.failures sink.old) (S.failures sink.new) }
-    ensures counts { IfOk result (λ ended. AreCounts rules.now (run_file_view run.now) from (stop_of (run_file_view run.now) ended.0) ended.1) }
+    ensures counts { IfOk result (λ ended. AreCounts rules.now (run_start_view begun) from (stop_of (run_start_view begun) ended.0) ended.1) }
 {
-    match run_grid(alloc, rules, tree, run, from, rows, sink) {
+    let (situation, answer) = run_from(alloc, rules, begun, from, rows, sink);
+    match answer {
         Ok(ended) => Ok(ended),
-        Err(fault) => Err(tell_stop(alloc, rules, run, fault)),
+        Err(fault) => Err(tell_stop(alloc, rules, &situation, fault)),
     }
 }
 
@@ -116,8 +132,7 @@ pub fn run_rules<S: RowSink>(
     ensures counts { IfOk result (λ ended. IsCounted files.now text.now from rows (S.taken sink.old) (S.taken sink.new) ended.0 ended.1) }
 {
     let rules = rules_of(alloc, files)?;
-    let tree = read_tree(alloc, text)?;
-    let run = read_run(alloc, &rules, &tree)?;
+    let begun = begin_run(alloc, &rules, text)?;
     rule_sets_are_safe();
-    write_run(alloc, &rules, &tree, &run, from, rows, sink)
+    write_run(alloc, &rules, begun, from, rows, sink)
 }

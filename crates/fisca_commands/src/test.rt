@@ -1,12 +1,13 @@
 //! `fisca test`: the verdicts of the tests of a file.
 
 ghost use Rattle.std.specs.Prelude.{◌≡◌, ℕ, string_bytes, IfOk, IfErr, Ok};
-ghost use Rattle.fisca_commands.specs.Test.{IsTest, IsWritten, RefusesTree, scene_in, simulation_in};
+ghost use Rattle.fisca_commands.specs.Test.{IsTest, IsWritten, RefusesTree, test_context_in, simulation_in};
 ghost use Rattle.fisca_simulation.specs.Told.{IsReady};
 ghost use Rattle.fisca_writer.specs.Sink.{CountsFailure};
 ghost use Rattle.fisca_rule_files.specs.Refusal.{is_write};
 ghost use Rattle.fisca_test_file.specs.Report.{IsReport};
-ghost use Rattle.fisca_test_file.specs.Tests.{Test, test_of, tests_of};
+ghost use Rattle.fisca_test_file.specs.Tests.{Test};
+ghost use Rattle.fisca_test_file.specs.Steps.Tests.{test_of, tests_of};
 ghost use Rattle.fisca_yaml.specs.Node.{Node};
 ghost use Rattle.fisca_yaml.specs.Views.{node};
 
@@ -17,18 +18,20 @@ use fisca_rule_files::{Refusal, rules_of};
 use fisca_rules::RuleSet;
 use fisca_simulation::{inputs_fit, rule_sets_are_safe};
 use fisca_situations::Situation;
-use fisca_test_file::{Report, Scenes, TestKind, Verdict, report_on, situations_are_read};
+use fisca_test_file::{
+    Report, SimulationBuilder, TestKind, Verdict, report_on, situations_are_read,
+};
 use fisca_writer::{RowSink, hand_over};
 use fisca_yaml::Tree;
 use std::alloc::{AllocError, Global};
 
 /// A rule set as what answers keys in the situations of tests: for each an evaluator that remembers.
 #[derive(Drop)]
-struct RuleScenes<'r, 't> {
+struct EvaluatorBuilder<'r, 't> {
     rules: &'r RuleSet<'t>,
 }
 
-impl<'r, 't> Scenes<Evaluator<'r, 't, IndexRecall>> for RuleScenes<'r, 't> {
+impl<'r, 't> SimulationBuilder<Evaluator<'r, 't, IndexRecall>> for EvaluatorBuilder<'r, 't> {
     ghost use Rattle.fisca_commands.specs.Test.{simulation_in};
     ghost use Rattle.fisca_simulation.specs.Told.{IsReady, told_in};
 
@@ -49,11 +52,11 @@ impl<'r, 't> Scenes<Evaluator<'r, 't, IndexRecall>> for RuleScenes<'r, 't> {
 /// The report on the tests that a tree says under a rule set.
 fn report_of(alloc: Global, rules: &RuleSet<'_>, tree: &Tree<'_>) -> Result<Report, Refusal>
     requires { (line : ℕ) (n : Node) (t : Test) → test_of rules.now.tables line n ≡ Ok t → IsReady (simulation_in rules.now t.situation) }
-    ensures report { IfOk result (λ r. IsReport (scene_in rules.now) (tests_of rules.now.tables (node tree.now)) r.verdict (string_bytes r.text)) }
+    ensures report { IfOk result (λ r. IsReport (test_context_in rules.now) (tests_of rules.now.tables (node tree.now)) r.verdict (string_bytes r.text)) }
     ensures err { IfErr result (RefusesTree rules.now (node tree.now)) }
 {
-    let scenes = RuleScenes { rules };
-    match report_on(alloc, &rules.tables, tree, &scenes) {
+    let builder = EvaluatorBuilder { rules };
+    match report_on(alloc, &rules.tables, tree, &builder) {
         Ok(report) => Ok(report),
         Err(fault) if fault.kind == TestKind::Memory => Err(Refusal::Memory),
         Err(fault) => Err(Refusal::Tests(fault)),

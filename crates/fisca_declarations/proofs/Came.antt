@@ -6,8 +6,9 @@ use Rattle.fisca_attributes.specs.Values.{bad_attribute}
 use Rattle.fisca_ast.specs.Modules.{Formula}
 use Rattle.fisca_time.specs.Instant.{CivilDate}
 use Rattle.fisca_time.specs.contracts.instant.InstantPartialEq.TheImpl.{eq-value}
-use Rattle.fisca_declarations.specs.Lines.{Before, behind_formula, with_day}
-use Rattle.fisca_declarations.specs.VariableForms.{if_allowed, same_day}
+use Rattle.fisca_declarations.specs.Lines.{Before}
+use Rattle.fisca_declarations.specs.Steps.Lines.{behind_formula, with_day}
+use Rattle.fisca_declarations.specs.Steps.VariableForms.{if_allowed, same_day}
 
 nat-like : (m n : ℕ) → nat_eq m n ≡ nat_eq n m
 nat-like m n = grind (arith, nat_tests)

@@ -4,7 +4,7 @@ use Rattle.fisca_ast.specs.ModuleViews.{formula_view, item}
 use Rattle.fisca_ast.specs.declared.module.ClassLine.{ClassLine}
 use Rattle.fisca_ast.specs.declared.module.ClassLine.TheVariants as part
 use Rattle.fisca_declarations.specs.FormulaLines.{formulas_in}
-use Rattle.fisca_declarations.specs.VariableForms.{formulas_of}
+use Rattle.fisca_declarations.specs.Steps.VariableForms.{formulas_of}
 
 pub formulas_written : (lines : List ClassLine) → map formula_view (formulas_in lines) ≡ formulas_of (map item lines)
 formulas_written [] = refl

@@ -1,4 +1,5 @@
 pub mod Came
 pub mod DatedFormulas
+pub mod LineByLine
 pub mod Named
 pub mod Steps

@@ -1,3 +1,4 @@
 pub mod FormulaLines
 pub mod Lines
+pub mod Steps
 pub mod VariableForms

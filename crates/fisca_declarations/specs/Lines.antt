@@ -1,16 +1,18 @@
 -- The lines of a variable, each beside what came before it.
-use Rattle.std.specs.Prelude.{ℕ, List, [], ◌∷◌, ◌++◌, Bool, not, ◌&&◌, if◌then◌else◌, Option, Some, None, Result, Ok}
-use Rattle.std.specs.List.{list_any}
-use Rattle.std.specs.Str.{bytes_eq}
+use Rattle.std.specs.Prelude.{ℕ, List, [], ◌∷◌, if◌then◌else◌, Option, Some, None, Result, Ok, codes}
 use Rattle.fisca_params.specs.Results.{and_then}
-use Rattle.fisca_ast.specs.Modules.{Assigned, Formula, Item, attribute, formula}
 use Rattle.fisca_time.specs.Instant.{CivilDate}
 use Rattle.fisca_ast.specs.declared.fault.FormulaKind.{FormulaKind}
-use Rattle.fisca_attributes.specs.Values.{bad_attribute}
+use Rattle.fisca_ast.specs.Tree.{Tree}
+use Rattle.fisca_ast.specs.Words.{is}
+use Rattle.fisca_attributes.specs.Steps.Values.{text_value, instant_value, references_value}
 use Rattle.fisca_declarations.specs.declared.before.Before.{Before as Held}
 use Rattle.fisca_declarations.specs.declared.before.Days.{Days}
 use Rattle.fisca_declarations.specs.declared.declared.Declared.{Declared}
-use Rattle.fisca_declarations.specs.VariableForms.{attribute_fits, if_allowed, same_day}
+use Rattle.fisca_declarations.specs.declared.attributes.Attributes.{Attributes}
+use Rattle.fisca_declarations.specs.declared.types.TypeLines.{TypeLines}
+use Rattle.fisca_declarations.specs.VariableForms.{passed_over}
+use Rattle.fisca_declarations.specs.Steps.VariableForms.{default_said, entity_value, enum_fits, set_input_said}
 
 -- the names of the attributes so far, and the days on which formulas start
 pub record Before : Type 0 where
@@ -27,24 +29,24 @@ before b = record { names = b.names.items; days = days_of b.days }
 abbrev pub nothing_before : Before
 nothing_before = record { names = []; days = [] }
 
-abbrev pub if_first : Before → List ℕ → Result (Unit {0}) FormulaKind → Result (Unit {0}) FormulaKind
-if_first b t fits = if list_any (λ k. bytes_eq k t) b.names then bad_attribute else fits
+abbrev pub nothing_said : Attributes
+nothing_said = record { entity = None; default_value = None; end = None; set_input = None; label = None; documentation = None; unit = None; reference = None }
 
--- what is known behind an attribute that is right and comes for the first time
-abbrev pub behind_attribute : Declared → List Item → Before → Assigned → Result Before FormulaKind
-behind_attribute c all b a =
-    and_then (if_first b a.name (attribute_fits c all a.name a.value)) (λ _. Ok (record b { names = b.names ++ a.name ∷ [] }))
+-- what is said with one that is told of a variable
+unfoldable pub with_told : Attributes → List ℕ → Tree → Result Attributes FormulaKind
+with_told s t e =
+    if is t (codes "label") then and_then (text_value e) (λ v. Ok (record s { label = Some v }))
+    else (if is t (codes "documentation") then and_then (text_value e) (λ v. Ok (record s { documentation = Some v }))
+    else (if is t (codes "unit") then and_then (text_value e) (λ v. Ok (record s { unit = Some v }))
+    else (if is t (codes "reference") then and_then (references_value e) (λ v. Ok (record s { reference = Some v })) else and_then (passed_over t e) (λ _. Ok s))))
 
--- the days with one more behind them, or nothing where it is one of them
-abbrev pub with_day : List CivilDate → CivilDate → Option (List CivilDate)
-with_day ds d = if list_any (λ e. same_day e d) ds then None else Some (ds ++ d ∷ [])
-
--- what is known behind a formula, where there may be one and none starts on its day
-abbrev pub behind_formula : Bool → Before → Formula → Result Before FormulaKind
-behind_formula may b f =
-    if_allowed (may && not (list_any (λ d. same_day d f.start) b.days)) (record b { days = b.days ++ f.start ∷ [] })
-
--- what is known behind a line, with all lines and whether there may be formulas
-abbrev pub behind_line : Declared → List Item → Bool → Before → Item → Result Before FormulaKind
-behind_line c all may b (attribute a) = behind_attribute c all b a
-behind_line c all may b (formula f) = behind_formula may b f
+-- what is said with an attribute more; those of the type say what all lines say of it
+unfoldable pub with_attribute : Declared → TypeLines → Attributes → List ℕ → Tree → Result Attributes FormulaKind
+with_attribute c k s t e =
+    if is t (codes "value_type") then and_then k.value_type (λ _. Ok s)
+    else (if is t (codes "entity") then and_then (entity_value c e) (λ v. Ok (record s { entity = Some v }))
+    else (if is t (codes "definition_period") then and_then k.definition_period (λ _. Ok s)
+    else (if is t (codes "default_value") then and_then (default_said c k e) (λ v. Ok (record s { default_value = v }))
+    else (if is t (codes "possible_values") then and_then (enum_fits k k.possible_values) (λ _. Ok s)
+    else (if is t (codes "end") then and_then (instant_value e) (λ v. Ok (record s { end = Some v }))
+    else (if is t (codes "set_input") then and_then (set_input_said k e) (λ v. Ok (record s { set_input = Some v })) else with_told s t e))))))

@@ -1,7 +1,8 @@
 //! Days on which formulas of a variable start.
 
 ghost use Rattle.std.specs.Prelude.{◌≡◌, IfOk, Some, option_map};
-ghost use Rattle.fisca_declarations.specs.Lines.{days_of, with_day as and_day};
+ghost use Rattle.fisca_declarations.specs.Lines.{days_of};
+ghost use Rattle.fisca_declarations.specs.Steps.Lines.{with_day as and_day};
 
 use crate::before::Days;
 use fisca_time::Instant;

@@ -1,16 +1,19 @@
 //! The lines of a variable from top to bottom.
 
 ghost use Rattle.std.specs.List.{list_any};
-ghost use Rattle.std.specs.Prelude.{◌≡◌, map};
+ghost use Rattle.std.specs.Prelude.{◌≡◌};
 ghost use Rattle.std.specs.Str.{bytes_eq};
 ghost use Rattle.fisca_ast.specs.Outcomes.{Gives};
 ghost use Rattle.fisca_ast.specs.ModuleViews.{assigned, formula_view, item};
 ghost use Rattle.fisca_declarations.specs.Lines as spec;
+ghost use Rattle.fisca_declarations.specs.Steps.Lines as steps;
+ghost use Rattle.fisca_declarations.specs.Steps.VariableForms as forms;
 
+use crate::attributes::{Attributes, read_attribute};
 use crate::before::Before;
 use crate::days::with_day;
 use crate::declared::Declared;
-use crate::fits::attribute_fits;
+use crate::types::{TypeLines, may_have_formulas};
 use fisca_ast::{Assignment, ClassLine, Formula, FormulaKind, Slice};
 use std::alloc::Global;
 
@@ -36,21 +39,24 @@ fn is_among(names: &[Slice<'_>], name: &[u8]) -> bool
     names.iter().any(|known| known.as_bytes() == name)
 }
 
-/// What is known behind an attribute, which came for the first time and is right, or `BadAttribute` or `UnknownName`.
+/// What is known behind an attribute, which came for the first time and is right, or `BadAttribute` or `UnknownName`; what it
+/// says is put beside what was said.
 fn behind_attribute<'a>(
     alloc: Global,
     declared: &Declared<'_>,
-    items: &[ClassLine<'a>],
+    types: TypeLines,
+    said: &mut Attributes<'a>,
     before: Before<'a>,
     attribute: &Assignment<'a>,
 ) -> Result<Before<'a>, FormulaKind>
-    ensures { Gives spec.before (spec.behind_attribute declared.now (map item items.now) (spec.before before.entry) (assigned attribute.now)) result }
+    ensures { Gives (λ b. (spec.before b, said.new))
+        (steps.behind_attribute declared.now types (spec.before before.entry) said.old (assigned attribute.now)) result }
 {
     let name = attribute.name.as_bytes();
     if is_among(before.names.as_slice(), name) {
         return Err(FormulaKind::BadAttribute);
     }
-    attribute_fits(alloc, declared, items, name, &attribute.value)?;
+    read_attribute(alloc, declared, types, said, name, &attribute.value)?;
     let Before { mut names, days } = before;
     names.push(Slice::new(name))?;
     Ok(Before { names, days })
@@ -60,13 +66,13 @@ fn behind_attribute<'a>(
 #[tactic(auto, using(crate::proofs::Came::day_came, crate::proofs::Came::day_new))]
 fn behind_formula<'a>(
     alloc: Global,
-    formulas: bool,
+    types: TypeLines,
     before: Before<'a>,
     formula: &Formula<'a>,
 ) -> Result<Before<'a>, FormulaKind>
-    ensures { Gives spec.before (spec.behind_formula formulas (spec.before before.entry) (formula_view formula.now)) result }
+    ensures { Gives spec.before (steps.behind_formula (forms.may_have_formulas types) (spec.before before.entry) (formula_view formula.now)) result }
 {
-    if !formulas {
+    if !may_have_formulas(types) {
         return Err(FormulaKind::BadAttribute);
     }
     let Before { names, days } = before;
@@ -79,21 +85,22 @@ fn behind_formula<'a>(
     }
 }
 
-/// What is known behind a line of a variable with these lines, which may have formulas or not; or the fault of the line.
+/// What is known behind a line of a variable of this type, and what is said with it; or the fault of the line.
 pub fn behind_line<'a>(
     alloc: Global,
     declared: &Declared<'_>,
-    items: &[ClassLine<'a>],
-    formulas: bool,
+    types: TypeLines,
+    said: &mut Attributes<'a>,
     before: Before<'a>,
     line: &ClassLine<'a>,
 ) -> Result<Before<'a>, FormulaKind>
-    ensures { Gives spec.before (spec.behind_line declared.now (map item items.now) formulas (spec.before before.entry) (item line.now)) result }
+    ensures { Gives (λ b. (spec.before b, said.new))
+        (steps.behind_line declared.now types (spec.before before.entry) said.old (item line.now)) result }
 {
     match line {
         ClassLine::Attribute(attribute) => {
-            behind_attribute(alloc, declared, items, before, attribute)
+            behind_attribute(alloc, declared, types, said, before, attribute)
         }
-        ClassLine::Formula(formula) => behind_formula(alloc, formulas, before, formula),
+        ClassLine::Formula(formula) => behind_formula(alloc, types, before, formula),
     }
 }

@@ -5,7 +5,7 @@ ghost use Rattle.std.specs.Str.{bytes_eq};
 ghost use Rattle.fisca_model.specs.Tables.{place_in};
 ghost use Rattle.fisca_ast.specs.Views.{tree};
 ghost use Rattle.fisca_ast.specs.Outcomes.{Gives};
-ghost use Rattle.fisca_declarations.specs.VariableForms as spec;
+ghost use Rattle.fisca_declarations.specs.Steps.VariableForms as spec;
 
 use crate::declared::Declared;
 use fisca_ast::{Expr, FormulaKind};

@@ -1,11 +1,12 @@
-//! Attributes that a variable has to have.
+//! Entities and Enums that attributes name, and what lines say of a type.
 
 ghost use Rattle.std.specs.Prelude.{◌≡◌, codes, map};
 ghost use Rattle.fisca_ast.specs.Views.{tree};
 ghost use Rattle.fisca_ast.specs.ModuleViews.{item};
-ghost use Rattle.fisca_attributes.specs.AttributeForms as forms;
+ghost use Rattle.fisca_attributes.specs.Steps.AttributeForms as forms;
 ghost use Rattle.fisca_attributes.specs.Values.{needed};
 ghost use Rattle.fisca_declarations.specs.VariableForms as spec;
+ghost use Rattle.fisca_declarations.specs.Steps.VariableForms as steps;
 
 use crate::declared::Declared;
 use fisca_ast::{ClassLine, Expr, FormulaKind};
@@ -21,7 +22,7 @@ fn entity_named(declared: &Declared<'_>, constant: &[u8]) -> Option<usize>
 
 /// The place of the entity that a value names, or `UnknownName`; `BadAttribute` for what is no name.
 pub(crate) fn entity_value(declared: &Declared<'_>, value: &Expr<'_>) -> Result<usize, FormulaKind>
-    ensures { result ≡ spec.entity_value declared.now (tree value.now) }
+    ensures { result ≡ steps.entity_value declared.now (tree value.now) }
 {
     let name = name_value(value)?;
     match entity_named(declared, name.as_bytes()) {
@@ -39,7 +40,7 @@ fn enum_named(declared: &Declared<'_>, name: &[u8]) -> Option<usize>
 
 /// The place of the Enum that a value names, or `UnknownName`; `BadAttribute` for what is no name.
 pub(crate) fn enum_value(declared: &Declared<'_>, value: &Expr<'_>) -> Result<usize, FormulaKind>
-    ensures { result ≡ spec.enum_value declared.now (tree value.now) }
+    ensures { result ≡ steps.enum_value declared.now (tree value.now) }
 {
     let name = name_value(value)?;
     match enum_named(declared, name.as_bytes()) {
@@ -54,19 +55,6 @@ pub(crate) fn needed_type(items: &[ClassLine<'_>]) -> Result<TypeName, FormulaKi
 {
     match value_at(b"value_type".as_slice(), items) {
         Some(value) => type_value(value),
-        None => Err(FormulaKind::BadAttribute),
-    }
-}
-
-/// The entity, which has to be there.
-pub(crate) fn needed_entity(
-    declared: &Declared<'_>,
-    items: &[ClassLine<'_>],
-) -> Result<usize, FormulaKind>
-    ensures { result ≡ needed (spec.entity_value declared.now) (forms.value_at (codes "entity") (map item items.now)) }
-{
-    match value_at(b"entity".as_slice(), items) {
-        Some(value) => entity_value(declared, value),
         None => Err(FormulaKind::BadAttribute),
     }
 }
@@ -86,7 +74,7 @@ pub(crate) fn needed_enum(
     declared: &Declared<'_>,
     items: &[ClassLine<'_>],
 ) -> Result<usize, FormulaKind>
-    ensures { result ≡ needed (spec.enum_value declared.now) (forms.value_at (codes "possible_values") (map item items.now)) }
+    ensures { result ≡ needed (steps.enum_value declared.now) (forms.value_at (codes "possible_values") (map item items.now)) }
 {
     match value_at(b"possible_values".as_slice(), items) {
         Some(value) => enum_value(declared, value),

@@ -1,34 +1,37 @@
-//! What other attributes of a variable say of its type, and what types allow.
+//! What the lines of a variable say of its type, and what types allow.
 
 ghost use Rattle.std.specs.Prelude.{◌≡◌, map};
 ghost use Rattle.fisca_ast.specs.ModuleViews.{item};
 ghost use Rattle.fisca_declarations.specs.VariableForms as spec;
+ghost use Rattle.fisca_declarations.specs.Steps.VariableForms as steps;
 
 use crate::declared::Declared;
 use crate::needed::{needed_enum, needed_period, needed_type};
-use fisca_ast::ClassLine;
+use fisca_ast::{ClassLine, FormulaKind};
 use fisca_attributes::TypeName;
 use fisca_time::Unit;
 
-/// The type that is written, if it can be read.
-pub(crate) fn written_type(items: &[ClassLine<'_>]) -> Option<TypeName>
-    ensures { result ≡ spec.written_type (map item items.now) }
-{
-    needed_type(items).ok()
+/// What the lines of a variable say of its type, wherever they stand: other lines are judged by it. What is not said, or is of
+/// another form, is `BadAttribute`.
+#[derive(Clone, Copy, Debug, PartialEq, Eq)]
+pub struct TypeLines {
+    /// The name of the type of its values.
+    pub value_type: Result<TypeName, FormulaKind>,
+    /// The place of its Enum among all; `UnknownName` where there is none of that name.
+    pub possible_values: Result<usize, FormulaKind>,
+    /// What its values are for.
+    pub definition_period: Result<Unit, FormulaKind>,
 }
 
-/// The definition period that is written, if it can be read.
-fn written_period(items: &[ClassLine<'_>]) -> Option<Unit>
-    ensures { result ≡ spec.written_period (map item items.now) }
+/// What these lines say of the type.
+pub fn type_lines(declared: &Declared<'_>, items: &[ClassLine<'_>]) -> TypeLines
+    ensures { result ≡ steps.type_lines declared.now (map item items.now) }
 {
-    needed_period(items).ok()
-}
-
-/// The Enum that is written, if it can be read.
-pub(crate) fn written_enum(declared: &Declared<'_>, items: &[ClassLine<'_>]) -> Option<usize>
-    ensures { result ≡ spec.written_enum declared.now (map item items.now) }
-{
-    needed_enum(declared, items).ok()
+    TypeLines {
+        value_type: needed_type(items),
+        possible_values: needed_enum(declared, items),
+        definition_period: needed_period(items),
+    }
 }
 
 /// Whether a type has possible values; an unknown one may have.
@@ -66,7 +69,7 @@ fn allows_formulas(value_type: Option<TypeName>) -> bool
 
 /// Whether values are for all time.
 fn is_eternal(period: Option<Unit>) -> bool
-    ensures { result ≡ spec.is_eternal period }
+    ensures { result ≡ steps.is_eternal period }
 {
     match period {
         Some(Unit::Eternity) => true,
@@ -74,9 +77,9 @@ fn is_eternal(period: Option<Unit>) -> bool
     }
 }
 
-/// Whether a variable with these lines may have formulas.
-pub fn may_have_formulas(items: &[ClassLine<'_>]) -> bool
-    ensures { result ≡ spec.may_have_formulas (map item items.now) }
+/// Whether a variable of this type may have formulas.
+pub(crate) fn may_have_formulas(types: TypeLines) -> bool
+    ensures { result ≡ steps.may_have_formulas types }
 {
-    allows_formulas(written_type(items)) && !is_eternal(written_period(items))
+    allows_formulas(types.value_type.ok()) && !is_eternal(types.definition_period.ok())
 }

@@ -2,7 +2,7 @@
 use Rattle.std.proofs.Common.{◌≡◌, Result, Ok, Err}
 use Rattle.std.specs.Prelude.{◌≢◌}
 use Rattle.fisca_situations.specs.Asked.{IsStep}
-use Rattle.fisca_simulation.specs.Told.{row_fault}
+use Rattle.fisca_simulation.specs.Steps.Told.{row_fault}
 use Rattle.fisca_model.specs.declared.eval_fault.EvalFault.{EvalFault}
 use Rattle.fisca_model.specs.declared.eval_fault.EvalFault.TheVariants as fault
 use Rattle.fisca_memo_theory.specs.Entries.{Entries, Remembered}

@@ -17,7 +17,8 @@ use Rattle.fisca_slots.proofs.Anew.{looked_set}
 use Rattle.fisca_slots.proofs.Parts.{in_parts}
 use Rattle.fisca_slots.proofs.Turned.{stand, stand_even}
 use Rattle.fisca_slots.proofs.TurnedSlots.{turned_is}
-use Rattle.fisca_situations.specs.Slots.{Slot, keys_of, share_in, turned}
+use Rattle.fisca_situations.specs.Slots.{Slot}
+use Rattle.fisca_situations.specs.Steps.Slots.{keys_of, share_in, turned}
 use Rattle.fisca_simulation.specs.Simulations.{Simulation}
 use Rattle.fisca_simulation.specs.Sound.{InputsFit}
 use Rattle.fisca_model.specs.Tables.{Tables}

@@ -33,12 +33,12 @@ use Rattle.fisca_simulation.specs.Simulations.{formula_of, start_point, variable
 use Rattle.fisca_simulation.specs.Sound.{GivesOnly}
 use Rattle.fisca_simulation.proofs.Origins.{of_formula}
 use Rattle.fisca_simulation.proofs.SourceLookups.{works_soundly}
-use Rattle.fisca_simulation.proofs.Worlds.{tables_known}
+use Rattle.fisca_simulation.proofs.KnownTables.{tables_known}
 use Rattle.fisca_evaluator.specs.Plans.{ArePlans, IsComputed, IsPlanOf, Says, formula_by}
-use Rattle.fisca_evaluator.specs.Scenes.{IsScene, known_in, seen}
-use Rattle.fisca_evaluator.specs.Scenes as scenes
+use Rattle.fisca_evaluator.specs.Evaluations.{IsEvaluation, known_in, seen}
+use Rattle.fisca_evaluator.specs.Evaluations as evaluations
 use Rattle.fisca_evaluator.specs.declared.plans.Planned.{Planned}
-use Rattle.fisca_evaluator.specs.declared.scene.Scene.{Scene}
+use Rattle.fisca_evaluator.specs.declared.evaluation.Evaluation.{Evaluation}
 
 -- what a plan says of the formula that is found it says of the key
 pub plan_found : (r : Rules) (neutral : List Bool) (k : meaning.Key) (p : Plan) (v : Variable) (f : Formula) → variable_of r k ≡ Some v → formula_of r neutral v k ≡ Some f
@@ -77,9 +77,9 @@ module _ (r : Rules) (neutral : List Bool) (k : meaning.Key) where
       by (Some v) e there = with v e (formula_of r neutral v k) refl there
 
 -- what a plan says is what a key without an input comes from
-pub planned_work : (s : Scene) (key : Key) (p : Plan) → IsScene s → IsPlanOf (seen s).rules (seen s).neutral (key_seen key) p → value_at (seen s).situation.inputs (key_of (key_seen key)) ≡ None
-    → scenes.IsWork s (plays p) key
-planned_work s key p scene is none =
+pub planned_work : (s : Evaluation) (key : Key) (p : Plan) → IsEvaluation s → IsPlanOf (seen s).rules (seen s).neutral (key_seen key) p → value_at (seen s).situation.inputs (key_of (key_seen key)) ≡ None
+    → evaluations.IsWork s (plays p) key
+planned_work s key p evaluation is none =
     let m = seen s in
     let k = key_seen key in
     let found = found_formula m.rules m.neutral k is.0 in
@@ -90,7 +90,7 @@ planned_work s key p scene is none =
     let says = is.1 v f (grouped m.situation.members) e h in
     record {
       source = of_formula m k v e none f h ∙ ap (λ d. formula (of_key k d)) says;
-      sound = subst (GivesOnly (known_in s) (IsValueOf (known_in s) key.variable)) says (works_soundly m scene.safe k v e f h);
+      sound = subst (GivesOnly (known_in s) (IsValueOf (known_in s) key.variable)) says (works_soundly m evaluation.safe k v e f h);
     }
 
 -- one plan more

@@ -21,8 +21,8 @@ use Rattle.fisca_model.specs.Values.{Key as Asked}
 use Rattle.fisca_evaluator.specs.Found.{entry_seen}
 use Rattle.fisca_evaluator.specs.declared.known.Known.{Known}
 use Rattle.fisca_evaluator.specs.Recalled.{IfTold, IsDoneBelow, IsStack, IsKnownBelow, IsKnownOf}
-use Rattle.fisca_evaluator.specs.Scenes.{HasRead, marks_in, sources_in, wanted}
-use Rattle.fisca_evaluator.specs.declared.scene.Scene.{Scene}
+use Rattle.fisca_evaluator.specs.Evaluations.{HasRead, marks_in, sources_in, wanted}
+use Rattle.fisca_evaluator.specs.declared.evaluation.Evaluation.{Evaluation}
 
 pub if_told : (o : Option Fault) (P : Type 0) → P → IfTold o P
 if_told None P p = tt
@@ -39,7 +39,7 @@ stack_formula src (x ∷ xs) key k p (inl e) = subst (HasFormula src) e (path_fo
 stack_formula src (x ∷ xs) key k p (inr t) = stack_formula src xs key k (path_tail src x (xs ++ key ∷ []) p) t
 
 -- what no formula gives is not remembered, and stands on no stack
-module _ (s : Scene) (keys : List Key) (key : Key) (none : (d : Inquiry) → sources_in s (key_seen key) ≡ formula d → ⊥) where
+module _ (s : Evaluation) (keys : List Key) (key : Key) (none : (d : Inquiry) → sources_in s (key_seen key) ≡ formula d → ⊥) where
   pub not_remembered : (m : Entries) → IsTrueMemory (sources_in s) m → m (key_seen key) ≡ None
   not_remembered m truth = by (m (key_seen key)) refl
     where
@@ -50,7 +50,7 @@ module _ (s : Scene) (keys : List Key) (key : Key) (none : (d : Inquiry) → sou
   pub not_standing : IsStack (sources_in s) keys key → has (map key_seen keys) (key_seen key) ≡ false
   not_standing stack = has-none (map key_seen keys) (key_seen key) (λ i. let f = stack_formula (sources_in s) (map key_seen keys) (key_seen key) (key_seen key) stack.path i in none f.0 f.1)
 
-module _ (s : Scene) (keys : List Key) (key : Key) where
+module _ (s : Evaluation) (keys : List Key) (key : Key) where
   -- what is found of the key
   module _ (m : Entries) (o : Option Known) (k : Known) (truth : IsTrueMemory (sources_in s) m) (is : o ≡ Some k) (e : option_map entry_seen o ≡ m (key_seen key)) where
     found_so : IsKnownOf (sources_in s) key k

@@ -27,16 +27,16 @@ use Rattle.fisca_simulation.proofs.Steps.{one_behind}
 use Rattle.fisca_evaluator.proofs.Risen.{counted_entry, counted_on}
 use Rattle.fisca_evaluator.specs.Counting.{IsCounted}
 use Rattle.fisca_evaluator.specs.Recalled.{HasPassed, HasPassedTo, IfTold, IsDoneAt, IsDoneBelow, IsKnownAt, IsKnownBelow, IsStack, IsWorking, work_at, work_below}
-use Rattle.fisca_evaluator.specs.Scenes.{sources_in, wanted, wanted_of_work}
-use Rattle.fisca_evaluator.specs.Scenes as scenes
-use Rattle.fisca_evaluator.specs.declared.scene.Scene.{Scene}
+use Rattle.fisca_evaluator.specs.Evaluations.{sources_in, wanted, wanted_of_work}
+use Rattle.fisca_evaluator.specs.Evaluations as evaluations
+use Rattle.fisca_evaluator.specs.declared.evaluation.Evaluation.{Evaluation}
 
 pub grows_none : (m : Entries) (W : model.Key → Type 0) → Grows m m W
 grows_none m W = record { kept = λ k r. r; only = λ k r. inl r }
 
 -- The key goes onto the stack
 
-module _ (s : Scene) (keys : List Key) (key : Key) where
+module _ (s : Evaluation) (keys : List Key) (key : Key) where
   abbrev pushed : List Key
   pushed = keys ++ key ∷ []
 
@@ -66,7 +66,7 @@ module _ (s : Scene) (keys : List Key) (key : Key) where
     pub popped_done : (m : Entries) (o : Option Fault) → IfTold o (IsDoneAt (sources_in s) m (keys ++ key ∷ []) key) → IfTold o (IsDoneBelow (sources_in s) m keys key)
     popped_done m o h = subst (λ n. IfTold o ((k : model.Key) → IsWork (sources_in s) n (key_seen key) k → Remembered m k)) left_so h
 
-    pub popped_fault : (d : meaning.Dialogue) → scenes.IsWork s d key → (o : Option Fault) → IsTold o (wanted_of_work s (keys ++ key ∷ []) d key) → IsTold o (wanted s keys key)
+    pub popped_fault : (d : meaning.Dialogue) → evaluations.IsWork s d key → (o : Option Fault) → IsTold o (wanted_of_work s (keys ++ key ∷ []) d key) → IsTold o (wanted s keys key)
     popped_fault d is o h =
         let whole = of_key (key_seen key) d in
         let fits : length (map key_seen keys) < 100 = omega (arith, length-map keys key_seen, room) in
@@ -77,7 +77,7 @@ module _ (s : Scene) (keys : List Key) (key : Key) where
 
 -- Its value
 
-module _ (s : Scene) (keys : List Key) (key : Key) (v : model.Value) (h : ℕ) (known : IsKnown (sources_in s) (suc (left_below (map key_seen keys))) (key_seen key) v h) where
+module _ (s : Evaluation) (keys : List Key) (key : Key) (v : model.Value) (h : ℕ) (known : IsKnown (sources_in s) (suc (left_below (map key_seen keys))) (key_seen key) v h) where
   pub own_known : IsKnown (sources_in s) h (key_seen key) v h
   own_known = at_height (sources_in s) (suc (left_below (map key_seen keys))) (key_seen key) v h known
 

@@ -6,7 +6,7 @@ use Rattle.fisca_model.specs.declared.value.Value.{Value}
 use Rattle.fisca_model.specs.Values.{Key}
 use Rattle.fisca_num.specs.Number.{Number}
 use Rattle.fisca_slots.proofs.TurnedSlots.{turned_other}
-use Rattle.fisca_situations.specs.Slots as slots
+use Rattle.fisca_situations.specs.Steps.Slots as slots
 use Rattle.fisca_situations.specs.Slots.{Slot}
 use Rattle.fisca_simulation.specs.Simulations.{Simulation, computed, formula_of, given_or_computed, source_of, sources, variable_of}
 use Rattle.fisca_typing.specs.Formulas.{Formula}

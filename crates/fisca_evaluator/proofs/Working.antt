@@ -20,7 +20,7 @@ use Rattle.fisca_inputs.specs.Typed.{IsValueOf}
 use Rattle.fisca_model.specs.declared.value.Value.{Value as Given}
 use Rattle.fisca_model.specs.declared.key.Key.{Key}
 use Rattle.fisca_machine.specs.Running.{before}
-use Rattle.fisca_machine.specs.World.{tables, groups}
+use Rattle.fisca_machine.specs.Context.{tables, groups}
 use Rattle.fisca_key_semantics.specs.Dialogues as meaning
 use Rattle.fisca_model.specs.Values as model
 use Rattle.fisca_model.specs.Values.{Value}
@@ -39,9 +39,9 @@ use Rattle.fisca_model.specs.EvalFaults.{IsTold}
 use Rattle.fisca_simulation.proofs.Steps.{is_told}
 use Rattle.fisca_evaluator.proofs.Apart.{apart}
 use Rattle.fisca_evaluator.specs.Recalled.{IfTold, IsKnownBelow, IsStack, IsWorking, work_at, work_below}
-use Rattle.fisca_evaluator.specs.Scenes.{HasRead, IsScene, known_in, marks_in, seen, sources_in, wanted, wanted_of_work, work}
-use Rattle.fisca_evaluator.specs.Scenes as scenes
-use Rattle.fisca_evaluator.specs.declared.scene.Scene.{Scene}
+use Rattle.fisca_evaluator.specs.Evaluations.{HasRead, IsEvaluation, known_in, marks_in, seen, sources_in, wanted, wanted_of_work, work}
+use Rattle.fisca_evaluator.specs.Evaluations as evaluations
+use Rattle.fisca_evaluator.specs.declared.evaluation.Evaluation.{Evaluation}
 
 -- what is told of one answer is told of another that has the same fault
 told_on : (o : Option Fault) (one other : Result Value Fault) → ((f : Fault) → one ≡ Err f → other ≡ Err f) → IsTold o one → IsTold o other
@@ -49,16 +49,16 @@ told_on None one other h t = tt
 told_on (Some f) one other h t = h f t
 
 -- a formula, where it begins
-module _ (s : Scene) (v : Variable) (f : TypedFormula) (key : Key) where
-  pub begins : IsScene s → before (formula_means (tables s.world) (groups s.world) (formula_view f) (start_point v (key_seen key))) (cast v.value_type) ≡ work s v f key
+module _ (s : Evaluation) (v : Variable) (f : TypedFormula) (key : Key) where
+  pub begins : IsEvaluation s → before (formula_means (tables s.context) (groups s.context) (formula_view f) (start_point v (key_seen key))) (cast v.value_type) ≡ work s v f key
   begins is = λ i. before (formula_means (is.tables i) (is.groups i) (formula_view f) (start_point v (key_seen key))) (cast v.value_type)
 
 -- nothing of it was asked so far
-pub nothing_asked : (s : Scene) (d : Dialogue) (key : Key) (n : ℕ) (r : Dialogue) (P : model.Key → Type 0) → r ≡ d → IsGathered (sources_in s) n (of_key (key_seen key) d) (of_key (key_seen key) r) 0 P
+pub nothing_asked : (s : Evaluation) (d : Dialogue) (key : Key) (n : ℕ) (r : Dialogue) (P : model.Key → Type 0) → r ≡ d → IsGathered (sources_in s) n (of_key (key_seen key) d) (of_key (key_seen key) r) 0 P
 nothing_asked s d key n r P e = gathered_none (sources_in s) n (of_key (key_seen key) d) (of_key (key_seen key) r) P (ap (of_key (key_seen key)) (sym e))
 
 -- of the formula's dialogue r is left
-module _ (s : Scene) (d : Dialogue) (key : Key) (keys : List Key) (r : Dialogue) (tallest : ℕ) (M : model.Key → Type 0) (is : scenes.IsWork s d key)
+module _ (s : Evaluation) (d : Dialogue) (key : Key) (keys : List Key) (r : Dialogue) (tallest : ℕ) (M : model.Key → Type 0) (is : evaluations.IsWork s d key)
     (g : IsGathered (sources_in s) (left_below (map key_seen keys)) (of_key (key_seen key) d) (of_key (key_seen key) r) tallest (Covered (sources_in s) M)) where
   abbrev src : Sources
   src = sources_in s
@@ -84,7 +84,7 @@ module _ (s : Scene) (d : Dialogue) (key : Key) (keys : List Key) (r : Dialogue)
     done_all = worked_all src stack k q now tallest M is.source g (value_seen x) (ap (of_key k) e)
 
   -- it fails
-  module _ (x : meaning.Fault) (e : r ≡ meaning.fails x) where
+  module _ (x : meaning.OperationFault) (e : r ≡ meaning.fails x) where
     pub failed_fault : (o : Option Fault) → o ≡ Some (named (key_seen key) x) → IsTold o (wanted_of_work s keys d key)
     failed_fault o t = is_told o (named k x) _ t (worked_fault src stack k q now tallest M is.source g (named k x) (ap (of_key k) e))
 
@@ -128,15 +128,15 @@ module _ (s : Scene) (d : Dialogue) (key : Key) (keys : List Key) (r : Dialogue)
           → IsGathered (sources_in s) (left_below (map key_seen keys)) (of_key (key_seen key) d) (of_key (key_seen key) (go (value_seen x.value))) (max tallest x.height) (Covered (sources_in s) M')
       next_more M' up c = needed_more src stack k q now tallest M is.source g (key_seen j) then_left asks_so M' up (value_seen x.value) x.height known c
 
-      pub next_sound : IsScene s → GivesOnly (known_in s) (IsValueOf (known_in s) key.variable) r → GivesOnly (known_in s) (IsValueOf (known_in s) key.variable) (go (value_seen x.value))
-      next_sound scene h =
+      pub next_sound : IsEvaluation s → GivesOnly (known_in s) (IsValueOf (known_in s) key.variable) r → GivesOnly (known_in s) (IsValueOf (known_in s) key.variable) (go (value_seen x.value))
+      next_sound evaluation h =
           let c = known_in s in
           let asked_so : GivesOnly c (IsValueOf c key.variable) (meaning.asks (key_seen j) go) = subst (GivesOnly c (IsValueOf c key.variable)) e h in
-          let sound : AreSound c (sources_in s) = sources_sound (seen s) scene.safe scene.fit in
+          let sound : AreSound c (sources_in s) = sources_sound (seen s) evaluation.safe evaluation.fit in
           asked_so.2 (value_seen x.value) (typed_is_of c (variable_type c j.variable) asked_so.0 (value_seen x.value) asked_so.1 (values_fit c (sources_in s) sound (left_below stack) (key_seen j) (value_seen x.value) known.answers))
 
 -- of the formula's dialogue r is left, and all that was asked for so far reads just these wheels
-module _ (s : Scene) (d : Dialogue) (key : Key) (keys : List Key) (r : Dialogue) (tallest reads : ℕ) (is : scenes.IsWork s d key)
+module _ (s : Evaluation) (d : Dialogue) (key : Key) (keys : List Key) (r : Dialogue) (tallest reads : ℕ) (is : evaluations.IsWork s d key)
     (g : IsGathered (sources_in s) (left_below (map key_seen keys)) (of_key (key_seen key) d) (of_key (key_seen key) r) tallest
     (ReadsWithin (marks_in s) (sources_in s) (left_below (map key_seen keys)) reads))
     (read : AreRead (marks_in s) (sources_in s) (left_below (map key_seen keys)) (of_key (key_seen key) d) reads) where

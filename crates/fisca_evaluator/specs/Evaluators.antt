@@ -12,8 +12,9 @@ use Rattle.fisca_model.specs.declared.key.Key.{Key}
 use Rattle.fisca_model.specs.Values as meaning
 use Rattle.fisca_num.specs.Number.{Number}
 use Rattle.fisca_rules.specs.Views.{rule_set}
-use Rattle.fisca_situations.specs.Views.{situation}
-use Rattle.fisca_situations.specs.Slots.{Slot, turned}
+use Rattle.fisca_situations.specs.Steps.Views.{situation}
+use Rattle.fisca_situations.specs.Slots.{Slot}
+use Rattle.fisca_situations.specs.Steps.Slots.{turned}
 use Rattle.fisca_simulation.specs.Simulations.{Simulation, normal_key, sources}
 use Rattle.fisca_evaluator.specs.Recalled.{IsMemory, marks_of}
 use Rattle.fisca_evaluator.specs.declared.evaluator.Evaluator.{Evaluator}

@@ -5,5 +5,5 @@ pub mod Evaluators
 pub mod Found
 pub mod Plans
 pub mod Recalled
-pub mod Scenes
+pub mod Evaluations
 pub mod Stamps

@@ -7,19 +7,19 @@ ghost use Rattle.fisca_model.specs.Seen.{key_seen};
 ghost use Rattle.fisca_ops.specs.Ended.{fault_seen};
 
 use fisca_model::{EvalFault, Key};
-use fisca_ops::Fault;
+use fisca_ops::OperationFault;
 
 /// The fault of the formula of a key.
-pub(crate) fn told_of(fault: Fault, key: Key) -> EvalFault
+pub(crate) fn told_of(fault: OperationFault, key: Key) -> EvalFault
     ensures { told result ≡ Some (named (key_seen key) (fault_seen fault)) }
 {
     match fault {
-        Fault::ZeroDivisor => EvalFault::ZeroDivisor(key),
-        Fault::TooWide => EvalFault::TooWide(key),
-        Fault::ParameterUndefined => EvalFault::ParameterUndefined(key),
-        Fault::BadScale => EvalFault::BadScale(key),
-        Fault::NoMember => EvalFault::NoMember(key),
-        Fault::PeriodMismatch(asked) => EvalFault::PeriodMismatch(asked),
-        Fault::PeriodOutOfRange => EvalFault::PeriodOutOfRange(key),
+        OperationFault::ZeroDivisor => EvalFault::ZeroDivisor(key),
+        OperationFault::TooWide => EvalFault::TooWide(key),
+        OperationFault::ParameterUndefined => EvalFault::ParameterUndefined(key),
+        OperationFault::BadScale => EvalFault::BadScale(key),
+        OperationFault::NoMember => EvalFault::NoMember(key),
+        OperationFault::PeriodMismatch(asked) => EvalFault::PeriodMismatch(asked),
+        OperationFault::PeriodOutOfRange => EvalFault::PeriodOutOfRange(key),
     }
 }

@@ -3,6 +3,7 @@
 
 mod answers;
 mod counts;
+mod evaluation;
 mod evaluator;
 mod fault;
 mod index_recall;
@@ -13,7 +14,6 @@ mod plans;
 mod played;
 mod recall;
 mod recalled;
-mod scene;
 mod store;
 mod turns;
 mod values;

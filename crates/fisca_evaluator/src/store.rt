@@ -5,11 +5,11 @@ ghost use Rattle.fisca_memo_theory.specs.Entries.{Remembered, with_entry};
 ghost use Rattle.fisca_memo_theory.specs.Memory.{HasFormula};
 ghost use Rattle.fisca_model.specs.Seen.{key_seen};
 ghost use Rattle.fisca_evaluator.specs.Recalled as spec;
-ghost use Rattle.fisca_evaluator.specs.Scenes as scenes;
+ghost use Rattle.fisca_evaluator.specs.Evaluations as evaluations;
 ghost use Rattle.fisca_evaluator.specs.Counted.{with_kept, with_lost};
 ghost use Rattle.fisca_evaluator.specs.Found.{entry_seen};
 
-use crate::scene::Scene;
+use crate::evaluation::Evaluation;
 use crate::{Counts, Known, Recall};
 use fisca_model::{EvalFault, Key};
 
@@ -23,19 +23,19 @@ pub(crate) struct Store<R> {
 /// Remembers the value that its formula gave of a key of which nothing was remembered, and counts it. Nothing else remembers or counts.
 #[inline(always)]
 pub(crate) fn remember<R: Recall>(
-    scene: &Scene<'_, '_, '_>,
+    evaluation: &Evaluation<'_, '_, '_>,
     store: &mut Store<R>,
     key: &Key,
     known: &Known,
 ) -> Result<(), EvalFault>
-    requires known { spec.IsKnownOf (scenes.sources_in scene.now) key.now known.now }
-    requires read { scenes.HasRead scene.now key.now known.now }
-    requires memory { scenes.IsMemoryIn scene.now (R.find store.old.recall) store.old.counts.free }
+    requires known { spec.IsKnownOf (evaluations.sources_in evaluation.now) key.now known.now }
+    requires read { evaluations.HasRead evaluation.now key.now known.now }
+    requires memory { evaluations.IsMemoryIn evaluation.now (R.find store.old.recall) store.old.counts.free }
     requires miss { Remembered (R.find store.old.recall) (key_seen key.now) → ⊥ }
-    requires formula { HasFormula (scenes.sources_in scene.now) (key_seen key.now) }
-    requires work { spec.IsAllButItself (scenes.sources_in scene.now) (R.find store.old.recall) key.now }
+    requires formula { HasFormula (evaluations.sources_in evaluation.now) (key_seen key.now) }
+    requires work { spec.IsAllButItself (evaluations.sources_in evaluation.now) (R.find store.old.recall) key.now }
     ensures fault { IfErr result (λ e. e ≡ EvalFault.Memory) }
-    ensures memory { scenes.IsMemoryIn scene.now (R.find store.new.recall) store.new.counts.free }
+    ensures memory { evaluations.IsMemoryIn evaluation.now (R.find store.new.recall) store.new.counts.free }
     ensures ok { OnOk result (R.find store.new.recall ≡ with_entry (R.find store.old.recall) (key_seen key.now) (entry_seen known.now)) }
     ensures err { OnErr result (R.find store.new.recall ≡ R.find store.old.recall) }
     ensures kept { OnOk result (store.new.counts ≡ with_kept known.now.reads store.old.counts) }

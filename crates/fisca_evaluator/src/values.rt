@@ -12,15 +12,15 @@ ghost use Rattle.fisca_evaluator.specs.Evaluators as spec;
 ghost use Rattle.fisca_evaluator.specs.Recalled.{marks_of};
 ghost use Rattle.fisca_evaluator.specs.Counted.{no_counts};
 ghost use Rattle.fisca_rules.specs.Views.{rule_set};
-ghost use Rattle.fisca_situations.specs.Views.{situation as situation_view};
+ghost use Rattle.fisca_situations.specs.Steps.Views.{situation as situation_view};
 ghost use Rattle.fisca_simulation.specs.Simulations.{Simulation};
 ghost use Rattle.fisca_simulation.specs.Sound.{InputsFit, IsSafeRules};
 
+use crate::evaluation::evaluation_of;
 use crate::evaluator::Evaluator;
 use crate::plans::Plans;
 use crate::played::value_by_plan;
 use crate::recalled::value_below;
-use crate::scene::scene_of;
 use crate::store::Store;
 use crate::{Counts, Recall};
 use fisca_machine::Machine;
@@ -92,11 +92,16 @@ impl<'r, 't, R: Recall> Evaluator<'r, 't, R> {
         self.machine.clear();
         self.keys.clear();
         let situation = &self.situation;
-        let scene = scene_of(self.plans.rules, situation, self.plans.neutral, self.wheels);
+        let evaluation = evaluation_of(
+            self.plans.rules,
+            situation,
+            self.plans.neutral,
+            self.wheels,
+        );
         let own = own_key(self.plans.rules, key);
         if let Some(plan) = self.plans.of(&own) {
             let known = value_by_plan(
-                &scene,
+                &evaluation,
                 &mut self.store,
                 &mut self.machine,
                 &mut self.keys,
@@ -107,7 +112,7 @@ impl<'r, 't, R: Recall> Evaluator<'r, 't, R> {
         }
         self.plans.ask(situation, &own);
         let known = value_below(
-            &scene,
+            &evaluation,
             &mut self.store,
             &mut self.machine,
             &mut self.keys,

@@ -12,9 +12,9 @@ use Rattle.fisca_time.specs.declared.unit.Unit.TheVariants as unit
 use Rattle.fisca_yaml.specs.Flow.{flow_value, series}
 use Rattle.fisca_yaml.specs.Grouping.{document, block}
 use Rattle.fisca_yaml.specs.Node.{Node}
-use Rattle.fisca_expected.specs.Faults.{bad_at}
+use Rattle.fisca_expected.specs.Steps.Faults.{bad_at}
 use Rattle.fisca_expected.specs.Outputs.{Output}
-use Rattle.fisca_expected.specs.Reading.{dated_read, entry_read, member_read, named_read, outputs_in, outputs_of, section_by, section_read, value_in, values_read, variable_read}
+use Rattle.fisca_expected.specs.Steps.Reading.{dated_read, entry_read, member_read, named_read, outputs_in, outputs_of, section_by, section_read, value_in, values_read, variable_read}
 use Rattle.fisca_expected.specs.declared.fault.OutputFault.{OutputFault}
 
 -- two persons of one name and a third, who live together

@@ -1,11 +1,5 @@
 -- Why expected values can't be read: their plain names and numbers, and the fault of a line.
-use Rattle.std.specs.Prelude.{ℕ, List, codes, Result, Ok, Err}
-use Rattle.std.specs.Option.{unwrap_or}
-use Rattle.fisca_members.specs.declared.fault.MembersKind.{MembersKind}
-use Rattle.fisca_members.specs.declared.fault.MembersKind.TheVariants as members
-use Rattle.fisca_members.specs.declared.fault.MembersFault.{MembersFault}
-use Rattle.fisca_yaml.specs.Find.{begins_on}
-use Rattle.fisca_yaml.specs.Node.{Node}
+use Rattle.std.specs.Prelude.{ℕ, List, codes}
 use Rattle.fisca_expected.specs.declared.fault.OutputFault.{OutputFault}
 use Rattle.fisca_expected.specs.declared.fault.OutputFault.TheVariants.{BadOutput, Memory}
 
@@ -16,27 +10,3 @@ number_of Memory = 2
 abbrev pub name_of : OutputFault → List ℕ
 name_of (BadOutput line) = codes "BadOutput"
 name_of Memory = codes "Memory"
-
-abbrev pub bad_at : {X : Type 0} → ℕ → Result X OutputFault
-bad_at line = Err (BadOutput line)
-
--- what can't be read is told of the line on which it begins; nothing, and a list or a map without any, of this one
-abbrev pub bad : {X : Type 0} → ℕ → Node → Result X OutputFault
-bad line n = bad_at (unwrap_or (begins_on n) line)
-
--- a fault of the keys that name entities
-abbrev pub fault_by : ℕ → MembersKind → OutputFault
-fault_by line members.UnknownEntity = BadOutput line
-fault_by line members.UnknownPerson = BadOutput line
-fault_by line members.PersonTwice = BadOutput line
-fault_by line members.RoleFull = BadOutput line
-fault_by line members.BadValue = BadOutput line
-fault_by line members.TooMany = BadOutput line
-fault_by line members.Memory = Memory
-
-abbrev pub fault_of : MembersFault → OutputFault
-fault_of f = fault_by f.line f.kind
-
-abbrev pub told : {X : Type 0} → Result X MembersFault → Result X OutputFault
-told (Ok x) = Ok x
-told (Err f) = Err (fault_of f)

@@ -1,14 +1,14 @@
 //! What is expected in a map of variables.
 
 ghost use Rattle.std.specs.Prelude.{◌≡◌};
-ghost use Rattle.fisca_situations.specs.Views.{situation as situation_view};
+ghost use Rattle.fisca_situations.specs.Steps.Views.{situation as situation_view};
 ghost use Rattle.fisca_yaml.specs.Views.{node, entries_view};
 ghost use Rattle.fisca_expected.specs.Outcomes.{Tells};
-ghost use Rattle.fisca_expected.specs.Reading as spec;
+ghost use Rattle.fisca_expected.specs.Steps.Reading as spec;
 
 use crate::fault::{OutputFault, bad};
+use crate::member_scope::MemberScope;
 use crate::outputs::Outputs;
-use crate::scope::Scope;
 use crate::variables::variable_at;
 use fisca_members::RoleTable;
 use fisca_situations::Situation;
@@ -17,12 +17,12 @@ use fisca_time::Period;
 use fisca_yaml::{Entry, Tree};
 
 /// The outputs so far, and what stands at a key, which names a variable and no role.
-#[tactic(auto, unfolding(crate::specs::Reading::entry_read))]
+#[tactic(auto, unfolding(crate::specs::Steps::Reading::entry_read))]
 fn entry_read(
     tables: &Tables<'_>,
     situation: &Situation,
     default: Option<Period>,
-    scope: Scope,
+    scope: MemberScope,
     roles: &RoleTable<'_, '_>,
     outputs: Outputs,
     entry: &Entry<'_>,
@@ -40,7 +40,7 @@ pub(crate) fn entries_read(
     tables: &Tables<'_>,
     situation: &Situation,
     default: &Option<Period>,
-    scope: &Scope,
+    scope: &MemberScope,
     roles: &RoleTable<'_, '_>,
     outputs: Outputs,
     entries: &[Entry<'_>],
@@ -59,7 +59,7 @@ pub(crate) fn map_read(
     tables: &Tables<'_>,
     situation: &Situation,
     default: Option<Period>,
-    scope: Scope,
+    scope: MemberScope,
     roles: &RoleTable<'_, '_>,
     outputs: Outputs,
     line: usize,

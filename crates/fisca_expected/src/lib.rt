@@ -3,18 +3,18 @@
 
 mod entries;
 mod fault;
+mod member_scope;
 mod members;
 mod outputs;
 mod periods;
 mod reading;
-mod scope;
 mod subject;
 mod values;
 mod variables;
 mod whom;
 
 pub use fault::OutputFault;
+pub use member_scope::MemberScope;
 pub use outputs::Outputs;
 pub use reading::read_outputs;
-pub use scope::Scope;
 pub use whom::ExpectedMembers;

@@ -3,18 +3,18 @@
 ghost use Rattle.std.specs.Prelude.{◌≡◌, ℕ, List, map, option_map, slice_get, Some};
 ghost use Rattle.std.specs.Str.{bytes_eq};
 ghost use Rattle.fisca_members.specs.Views.{section as section_view};
-ghost use Rattle.fisca_situations.specs.Views.{situation as situation_view};
+ghost use Rattle.fisca_situations.specs.Steps.Views.{situation as situation_view};
 ghost use Rattle.fisca_symbols.specs.KnownEntities.{entity as known_one, entities as known_all};
 ghost use Rattle.fisca_symbols.specs.KnownRoles.{roles as known_roles};
 ghost use Rattle.fisca_model.specs.Tables.{place_in};
 ghost use Rattle.fisca_yaml.specs.Views.{node, entries_view};
 ghost use Rattle.fisca_expected.specs.Outcomes.{Tells};
-ghost use Rattle.fisca_expected.specs.Reading as spec;
+ghost use Rattle.fisca_expected.specs.Steps.Reading as spec;
 
 use crate::entries::map_read;
 use crate::fault::{OutputFault, bad};
+use crate::member_scope::MemberScope;
 use crate::outputs::Outputs;
-use crate::scope::Scope;
 use fisca_members::{MemberNames, RoleTable, Section};
 use fisca_situations::Situation;
 use fisca_symbols::{Entity, Role, Tables};
@@ -66,7 +66,7 @@ fn only_member(situation: &Situation, entity: usize) -> Option<u32>
 }
 
 /// The outputs so far, and those of a member, where there is one.
-#[tactic(auto, unfolding(crate::specs::Reading::member_read))]
+#[tactic(auto, unfolding(crate::specs::Steps::Reading::member_read))]
 fn member_read(
     tables: &Tables<'_>,
     situation: &Situation,
@@ -83,7 +83,7 @@ fn member_read(
     let Some(member) = member else {
         return Err(OutputFault::BadOutput { line });
     };
-    let scope = Scope::Member { entity, member };
+    let scope = MemberScope::Member { entity, member };
     map_read(
         tables, situation, default, scope, roles, outputs, line, tree,
     )
@@ -147,7 +147,7 @@ fn all_members(
 }
 
 /// The outputs so far, and those of a section of an entity with these roles.
-#[tactic(auto, unfolding(crate::specs::Reading::section_by))]
+#[tactic(auto, unfolding(crate::specs::Steps::Reading::section_by))]
 fn section_by(
     alloc: Global,
     tables: &Tables<'_>,
@@ -182,7 +182,7 @@ fn entity_at<'e, 'r>(entities: &'e [Entity<'r>], place: usize) -> Option<&'e Ent
 }
 
 /// The outputs so far, and those of a section.
-#[tactic(auto, unfolding(crate::specs::Reading::section_read))]
+#[tactic(auto, unfolding(crate::specs::Steps::Reading::section_read))]
 fn section_read(
     alloc: Global,
     tables: &Tables<'_>,

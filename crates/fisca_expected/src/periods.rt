@@ -1,7 +1,7 @@
 //! The periods at which variables are asked for.
 
 ghost use Rattle.std.specs.Prelude.{◌≡◌, option_map, is_some};
-ghost use Rattle.fisca_columns.specs.Columns as spec;
+ghost use Rattle.fisca_columns.specs.Steps.Columns as spec;
 ghost use Rattle.fisca_symbols.specs.KnownVariables.{value_type as known_type};
 
 use fisca_inputs::key_period;

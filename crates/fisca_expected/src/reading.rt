@@ -1,21 +1,21 @@
 //! The outputs of a test.
 
 ghost use Rattle.std.specs.Prelude.{◌≡◌, [], None};
-ghost use Rattle.fisca_members.specs.Sections.{titles_of as titles_spec};
+ghost use Rattle.fisca_members.specs.Steps.Sections.{titles_of as titles_spec};
 ghost use Rattle.fisca_members.specs.Views.{input_view};
-ghost use Rattle.fisca_situations.specs.Views.{situation as situation_view};
+ghost use Rattle.fisca_situations.specs.Steps.Views.{situation as situation_view};
 ghost use Rattle.fisca_symbols.specs.Known.{tables as known};
 ghost use Rattle.fisca_yaml.specs.Views.{node};
 ghost use Rattle.fisca_members.specs.Faults.{entries_in};
-ghost use Rattle.fisca_expected.specs.Faults.{fault_of};
+ghost use Rattle.fisca_expected.specs.Steps.Faults.{fault_of};
 ghost use Rattle.fisca_expected.specs.Outcomes.{Tells};
-ghost use Rattle.fisca_expected.specs.Reading as spec;
+ghost use Rattle.fisca_expected.specs.Steps.Reading as spec;
 
 use crate::entries::entries_read;
 use crate::fault::{OutputFault, bad};
+use crate::member_scope::MemberScope;
 use crate::members::sections_read;
 use crate::outputs::Outputs;
-use crate::scope::Scope;
 use fisca_members::{Input, MembersFault, MembersKind, RoleTable, input_of, titles_of};
 use fisca_situations::Situation;
 use fisca_symbols::Tables;
@@ -67,7 +67,7 @@ fn direct_read(
     default: Option<Period>,
     tree: &Tree<'_>,
 ) -> Result<Outputs, OutputFault>
-    ensures { Tells (λ o. o) (spec.entries_read tables.now (situation_view situation.now).members default Scope.All [] [] (entries_in (node tree.now))) result }
+    ensures { Tells (λ o. o) (spec.entries_read tables.now (situation_view situation.now).members default MemberScope.All [] [] (entries_in (node tree.now))) result }
 {
     let none = Outputs::new(alloc);
     let roles = RoleTable::new(alloc, &[])?;
@@ -76,7 +76,7 @@ fn direct_read(
             tables,
             situation,
             &default,
-            &Scope::All,
+            &MemberScope::All,
             &roles,
             none,
             entries.as_slice(),
@@ -86,7 +86,7 @@ fn direct_read(
 }
 
 /// The outputs whose keys are read.
-#[tactic(auto, unfolding(crate::specs::Reading::outputs_in))]
+#[tactic(auto, unfolding(crate::specs::Steps::Reading::outputs_in))]
 fn outputs_in(
     alloc: Global,
     tables: &Tables<'_>,
@@ -123,7 +123,7 @@ fn outputs_in(
 /// nothing, what is no value of the variable's type, no map where one has to stand, or a list that is of one member or has not a
 /// value for each. `Memory` comes only where a growth was refused. (OpenFisca's tests in YAML; the order of faults and names that come twice are this
 /// project's own.)
-#[tactic(auto, unfolding(crate::specs::Reading::outputs_of))]
+#[tactic(auto, unfolding(crate::specs::Steps::Reading::outputs_of))]
 pub fn read_outputs(
     alloc: Global,
     tables: &Tables<'_>,

@@ -6,7 +6,7 @@ ghost use Rattle.fisca_yaml.specs.Find.{begins_on};
 ghost use Rattle.fisca_yaml.specs.Node.{list};
 ghost use Rattle.fisca_yaml.specs.Views.{node, items_view};
 ghost use Rattle.fisca_expected.specs.Outcomes.{Answers, Tells};
-ghost use Rattle.fisca_expected.specs.Reading as spec;
+ghost use Rattle.fisca_expected.specs.Steps.Reading as spec;
 ghost use Rattle.fisca_expected.specs.Reading.{count_of};
 ghost use Rattle.fisca_expected.specs.Views.{subject as subject_view};
 
@@ -44,7 +44,7 @@ fn value_by(line: usize, tree: &Tree<'_>, said: Said) -> Result<Value, OutputFau
 }
 
 /// The value that stands there, where the key, the item or the variable's key stands on `line`.
-#[tactic(auto, unfolding(crate::specs::Reading::value_in))]
+#[tactic(auto, unfolding(crate::specs::Steps::Reading::value_in))]
 fn value_in(
     tables: &Tables<'_>,
     subject: &Subject<'_, '_>,
@@ -134,7 +134,7 @@ fn list_read(
 }
 
 /// The outputs so far, and what stands at a period.
-#[tactic(auto, unfolding(crate::specs::Reading::values_read))]
+#[tactic(auto, unfolding(crate::specs::Steps::Reading::values_read))]
 pub(crate) fn values_read(
     tables: &Tables<'_>,
     subject: &Subject<'_, '_>,

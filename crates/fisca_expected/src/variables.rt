@@ -1,16 +1,16 @@
 //! What is expected of a variable.
 
 ghost use Rattle.std.specs.Prelude.{◌≡◌};
-ghost use Rattle.fisca_situations.specs.Views.{situation as situation_view};
+ghost use Rattle.fisca_situations.specs.Steps.Views.{situation as situation_view};
 ghost use Rattle.fisca_yaml.specs.Views.{node, entries_view};
 ghost use Rattle.fisca_expected.specs.Outcomes.{Tells};
-ghost use Rattle.fisca_expected.specs.Reading as spec;
+ghost use Rattle.fisca_expected.specs.Steps.Reading as spec;
 ghost use Rattle.fisca_expected.specs.Views.{subject as subject_view};
 
 use crate::fault::OutputFault;
+use crate::member_scope::MemberScope;
 use crate::outputs::Outputs;
 use crate::periods::{is_usable, period_at};
-use crate::scope::Scope;
 use crate::subject::Subject;
 use crate::values::values_read;
 use crate::whom::ExpectedMembers;
@@ -37,7 +37,7 @@ fn at_period(
 }
 
 /// The outputs so far, and what stands at a key that writes a period.
-#[tactic(auto, unfolding(crate::specs::Reading::dated_read))]
+#[tactic(auto, unfolding(crate::specs::Steps::Reading::dated_read))]
 fn dated_read(
     tables: &Tables<'_>,
     subject: &Subject<'_, '_>,
@@ -68,7 +68,7 @@ fn all_dated(
 
 /// The outputs so far, and what stands at a variable, whose key stands on `line`: values of the default period, or a map from periods to
 /// values.
-#[tactic(auto, unfolding(crate::specs::Reading::variable_read))]
+#[tactic(auto, unfolding(crate::specs::Steps::Reading::variable_read))]
 fn variable_read(
     tables: &Tables<'_>,
     default: Option<Period>,
@@ -89,12 +89,16 @@ fn variable_read(
 }
 
 /// Whose values of a variable are meant; nobody's where its entity is another.
-fn whom_of(situation: &Situation, scope: Scope, variable: &Variable<'_>) -> Option<ExpectedMembers>
+fn whom_of(
+    situation: &Situation,
+    scope: MemberScope,
+    variable: &Variable<'_>,
+) -> Option<ExpectedMembers>
     ensures { result ≡ spec.whom_of (situation_view situation.now).members scope variable.now }
 {
     match scope {
-        Scope::All => Some(ExpectedMembers::Each(situation.members(variable.entity))),
-        Scope::Member { entity, member } => {
+        MemberScope::All => Some(ExpectedMembers::Each(situation.members(variable.entity))),
+        MemberScope::Member { entity, member } => {
             if variable.entity == entity {
                 Some(ExpectedMembers::One(member))
             } else {
@@ -107,7 +111,7 @@ fn whom_of(situation: &Situation, scope: Scope, variable: &Variable<'_>) -> Opti
 /// The same; days and texts are not asked for.
 fn whom_if_usable(
     situation: &Situation,
-    scope: Scope,
+    scope: MemberScope,
     variable: &Variable<'_>,
 ) -> Option<ExpectedMembers>
     ensures { result ≡ spec.whom_if_usable (situation_view situation.now).members scope variable.now }
@@ -130,12 +134,12 @@ fn place_of(tables: &Tables<'_>, key: &[u8]) -> Option<usize>
 }
 
 /// The outputs so far, and what stands at the variable at a place.
-#[tactic(auto, unfolding(crate::specs::Reading::named_read))]
+#[tactic(auto, unfolding(crate::specs::Steps::Reading::named_read))]
 fn named_read(
     tables: &Tables<'_>,
     situation: &Situation,
     default: Option<Period>,
-    scope: Scope,
+    scope: MemberScope,
     outputs: Outputs,
     line: usize,
     tree: &Tree<'_>,
@@ -165,7 +169,7 @@ pub(crate) fn variable_at(
     tables: &Tables<'_>,
     situation: &Situation,
     default: Option<Period>,
-    scope: Scope,
+    scope: MemberScope,
     outputs: Outputs,
     entry: &Entry<'_>,
 ) -> Result<Outputs, OutputFault>

@@ -4,7 +4,7 @@ use Rattle.std.specs.Prelude.{Ok, Err, ◌&&◌, if◌then◌else◌, nat_lt}
 use Rattle.std.proofs.lemmas.Bool.{lt-ltb, le-ltb}
 use Rattle.fisca_expr_parser.specs.declared.sign.Sign.{Sign}
 use Rattle.fisca_ast.specs.declared.fault.FormulaKind.TheVariants as kind
-use Rattle.fisca_expr_parser.specs.Marks.{tightness}
+use Rattle.fisca_expr_parser.specs.Steps.Marks.{tightness}
 use Rattle.fisca_expr_parser.specs.declared.refusal.ParseRefusal.{ParseRefusal}
 use Rattle.fisca_lexer.specs.declared.token.Mark.{Mark}
 use Rattle.fisca_lexer.specs.declared.token.Mark.TheVariants as mark
@@ -12,9 +12,10 @@ use Rattle.fisca_expr_parser.specs.declared.mode.Place.{Place}
 use Rattle.fisca_expr_parser.specs.declared.mode.Mode.{Mode}
 use Rattle.fisca_ast.specs.declared.tree.Argument.{Argument as Given}
 use Rattle.fisca_ast.specs.Tree.{Tree, Series, Argument, nothing, last, next, height}
-use Rattle.fisca_expr_parser.specs.Spelling.{place_behind, takes_many}
+use Rattle.fisca_expr_parser.specs.Steps.Spelling.{place_behind, takes_many}
 use Rattle.fisca_ast.specs.Views.{before}
-use Rattle.fisca_expr_parser.specs.Reading.{Outcome, Reader, and_then, pure, tail, begins, joint_ahead, argument, series, joined, climb, expression, reads}
+use Rattle.fisca_expr_parser.specs.Reading.{Outcome, Reader, and_then, pure, tail, joint_ahead, argument, series, joined, climb, expression, reads}
+use Rattle.fisca_expr_parser.specs.Steps.Reading.{begins}
 use Rattle.fisca_expr_parser.proofs.Steps.{fine}
 use Rattle.fisca_expr_parser.proofs.Only.{taken, left_out}
 

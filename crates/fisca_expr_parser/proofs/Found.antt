@@ -14,8 +14,9 @@ use Rattle.fisca_expr_parser.specs.declared.marks.Beginning.TheVariants as begin
 use Rattle.fisca_ast.specs.declared.tree.Operator.{Operator}
 use Rattle.fisca_ast.specs.declared.tree.Operator.TheVariants as op
 use Rattle.fisca_ast.specs.declared.tree.Comparison.{Comparison}
-use Rattle.fisca_expr_parser.specs.Marks.{operator_mark, comparison_mark, prefix_mark, opening_mark, closing_mark, bracket_of, binds, tightness, beginning_of}
-use Rattle.fisca_ast.specs.Words.{is_name, is_atom}
+use Rattle.fisca_expr_parser.specs.Marks.{operator_mark, comparison_mark, prefix_mark, opening_mark}
+use Rattle.fisca_expr_parser.specs.Steps.Marks.{closing_mark, bracket_of, binds, tightness, beginning_of}
+use Rattle.fisca_ast.specs.Steps.Words.{is_name, is_atom}
 use Rattle.fisca_expr_parser.specs.declared.mode.Mode.{Mode}
 use Rattle.fisca_ast.specs.declared.tree.Bracket.{Bracket}
 use Rattle.fisca_ast.specs.declared.tree.Bracket.TheVariants as bracket
@@ -23,8 +24,10 @@ use Rattle.fisca_ast.specs.declared.tree.Suffix.{Suffix}
 use Rattle.fisca_ast.specs.declared.tree.Suffix.TheVariants as suffix
 use Rattle.fisca_expr_parser.specs.declared.mode.Place.{Place}
 use Rattle.fisca_ast.specs.Tree.{Tree, Series, Argument, name, number, text, bracketed, attribute, applied, prefixed, binary, compare, nothing, last, next, positional, keyword, entry, height, height_all, height_of}
-use Rattle.fisca_expr_parser.specs.Spelling.{spelling, spelling_all, spelling_of, fits, fits_all, fits_in, level, takes_positional, takes_keyword, takes_entry, takes_many, place_behind, place_in, allows, place_behind_suffix}
-use Rattle.fisca_expr_parser.specs.Reading.{Reader, and_then, pure, refuse, tail, begins, joint_ahead, comparison_ahead, keyword_ahead, expect, take_name, argument, argument_by, mapped, stop, series, enclosed, opened, operand, joined, climb, compared, compared_by, onward, expression, reads}
+use Rattle.fisca_expr_parser.specs.Spelling.{spelling, spelling_all, spelling_of, fits, fits_all, fits_in, level}
+use Rattle.fisca_expr_parser.specs.Steps.Spelling.{takes_positional, takes_keyword, takes_entry, takes_many, place_behind, place_in, allows, place_behind_suffix}
+use Rattle.fisca_expr_parser.specs.Reading.{Reader, and_then, pure, refuse, tail, joint_ahead, comparison_ahead, keyword_ahead, expect, take_name, argument, argument_by, mapped, stop, series, enclosed, opened, operand, joined, climb, compared, compared_by, onward, expression, reads}
+use Rattle.fisca_expr_parser.specs.Steps.Reading.{begins}
 use Rattle.fisca_expr_parser.proofs.Steps.{and_then_ok, made_ok, then_ok, else_ok, chosen, begun, mark_of, joined-mark, compared-mark, begins-so, keyword-is, take_name-ok, expect-ok, fine}
 
 -- how tightly what follows an expression may join, at most

@@ -15,8 +15,9 @@ use Rattle.fisca_ast.specs.declared.tree.Comparison.{Comparison}
 use Rattle.fisca_ast.specs.declared.tree.Comparison.TheVariants as cmp
 use Rattle.fisca_ast.specs.declared.tree.Prefix.{Prefix}
 use Rattle.fisca_ast.specs.declared.tree.Prefix.TheVariants as pre
-use Rattle.fisca_expr_parser.specs.Marks.{operator_mark, comparison_mark, prefix_mark, opening_mark, closing_mark, bracket_of, binds, same_mark, joint_of, tightness, comparison_of}
-use Rattle.fisca_ast.specs.Words.{is_name, is_atom}
+use Rattle.fisca_expr_parser.specs.Marks.{operator_mark, comparison_mark, prefix_mark, opening_mark}
+use Rattle.fisca_expr_parser.specs.Steps.Marks.{closing_mark, bracket_of, binds, same_mark, joint_of, tightness, comparison_of}
+use Rattle.fisca_ast.specs.Steps.Words.{is_name, is_atom}
 use Rattle.fisca_expr_parser.specs.declared.mode.Mode.{Mode}
 use Rattle.fisca_ast.specs.declared.tree.Bracket.{Bracket}
 use Rattle.fisca_ast.specs.declared.tree.Bracket.TheVariants as bracket
@@ -25,8 +26,10 @@ use Rattle.fisca_ast.specs.declared.tree.Suffix.TheVariants as suffix
 use Rattle.fisca_expr_parser.specs.declared.mode.Place.{Place}
 use Rattle.fisca_expr_parser.specs.declared.mode.Place.TheVariants as place
 use Rattle.fisca_ast.specs.Tree.{Tree, Series, Argument, name, number, text, bracketed, attribute, applied, prefixed, binary, compare, nothing, last, next, positional, keyword, entry, height, height_all, height_of}
-use Rattle.fisca_expr_parser.specs.Spelling.{spelling, spelling_all, spelling_of, fits, fits_all, fits_in, level, takes_positional, takes_keyword, takes_entry, takes_many, place_behind, place_in, allows, place_behind_suffix}
-use Rattle.fisca_expr_parser.specs.Reading.{Outcome, Reader, and_then, pure, tail, begins, joint_ahead, comparison_ahead, keyword_ahead, expect, argument, argument_by, mapped, stop, series, enclosed, opened, operand, joined, climb, unchained, compared, compared_by, expression, reads}
+use Rattle.fisca_expr_parser.specs.Spelling.{spelling, spelling_all, spelling_of, fits, fits_all, fits_in, level}
+use Rattle.fisca_expr_parser.specs.Steps.Spelling.{takes_positional, takes_keyword, takes_entry, takes_many, place_behind, place_in, allows, place_behind_suffix}
+use Rattle.fisca_expr_parser.specs.Reading.{Outcome, Reader, and_then, pure, tail, joint_ahead, comparison_ahead, keyword_ahead, expect, argument, argument_by, mapped, stop, series, enclosed, opened, operand, joined, climb, unchained, compared, compared_by, expression, reads}
+use Rattle.fisca_expr_parser.specs.Steps.Reading.{begins}
 use Rattle.fisca_expr_parser.proofs.Steps.{same_self, joint_of-operator, joint_of-opening, comparison_of-mark, joint_of-comparison, beginning_of-opening, beginning_of-prefix}
 use Rattle.fisca_expr_parser.proofs.Found.{edge, binds-small, binds-some}
 

@@ -18,13 +18,15 @@ use Rattle.fisca_ast.specs.declared.tree.Comparison.{Comparison}
 use Rattle.fisca_ast.specs.declared.tree.Comparison.TheVariants as cmp
 use Rattle.fisca_ast.specs.declared.tree.Prefix.{Prefix}
 use Rattle.fisca_ast.specs.declared.tree.Prefix.TheVariants as pre
-use Rattle.fisca_expr_parser.specs.Marks.{operator_mark, comparison_mark, prefix_mark, opening_mark, bracket_of, same_mark, joint_of, beginning_of, comparison_of}
-use Rattle.fisca_ast.specs.Words.{is_name}
+use Rattle.fisca_expr_parser.specs.Marks.{operator_mark, comparison_mark, prefix_mark, opening_mark}
+use Rattle.fisca_expr_parser.specs.Steps.Marks.{bracket_of, same_mark, joint_of, beginning_of, comparison_of}
+use Rattle.fisca_ast.specs.Steps.Words.{is_name}
 use Rattle.fisca_ast.specs.declared.tree.Bracket.{Bracket}
 use Rattle.fisca_ast.specs.declared.tree.Bracket.TheVariants as bracket
 use Rattle.fisca_ast.specs.declared.tree.Suffix.{Suffix}
 use Rattle.fisca_ast.specs.declared.tree.Suffix.TheVariants as suffix
-use Rattle.fisca_expr_parser.specs.Reading.{Outcome, Reader, and_then, pure, tail, begins, joint_ahead, comparison_ahead, word_ahead, keyword_ahead, keyed, expect, named, take_name}
+use Rattle.fisca_expr_parser.specs.Reading.{Outcome, Reader, and_then, pure, tail, joint_ahead, comparison_ahead, word_ahead, keyword_ahead, keyed, expect, named, take_name}
+use Rattle.fisca_expr_parser.specs.Steps.Reading.{begins}
 
 abbrev pub fine : {A : Type 0} → A × List Sign → Outcome A
 fine x = Ok x

@@ -13,9 +13,10 @@ use Rattle.fisca_ast.specs.declared.tree.Bracket.TheVariants as bracket
 use Rattle.fisca_ast.specs.declared.tree.Suffix.TheVariants as suffix
 use Rattle.fisca_expr_parser.specs.declared.mode.Mode.TheVariants as mode
 use Rattle.fisca_ast.specs.Tree.{Tree, name, number, bracketed, attribute, applied, prefixed, binary, compare, nothing, last, next, positional, keyword, entry, height}
-use Rattle.fisca_expr_parser.specs.Marks.{same_mark}
-use Rattle.fisca_ast.specs.Groups.{bare}
-use Rattle.fisca_ast.specs.Words.{is_keyword, is_atom, is_left_out}
+use Rattle.fisca_expr_parser.specs.Steps.Marks.{same_mark}
+use Rattle.fisca_ast.specs.Steps.Groups.{bare}
+use Rattle.fisca_ast.specs.Words.{is_left_out}
+use Rattle.fisca_ast.specs.Steps.Words.{is_keyword, is_atom}
 use Rattle.fisca_expr_parser.specs.Spelling.{fits, IsExpression}
 use Rattle.fisca_expr_parser.specs.Reading.{reads, climb, operand, joined, compared, series, argument, enclosed}
 

@@ -1,5 +1,5 @@
 -- Reading from left to right: the tree in front and what follows it, or the first fault.
-use Rattle.std.specs.Prelude.{◌≡◌, ◌≢◌, ℕ, zero, suc, List, [], ◌∷◌, length, Bool, false, ◌&&◌, ◌==◌, nat_lt, if◌then◌else◌, Option, Some, None, is_some, Result, Ok, Err}
+use Rattle.std.specs.Prelude.{◌≡◌, ◌≢◌, ℕ, zero, suc, List, [], ◌∷◌, length, ◌&&◌, ◌==◌, nat_lt, if◌then◌else◌, Option, Some, None, is_some, Result, Ok, Err}
 use Rattle.fisca_expr_parser.specs.declared.refusal.ParseRefusal.{ParseRefusal}
 use Rattle.fisca_ast.specs.declared.fault.FormulaKind.{FormulaKind}
 use Rattle.fisca_ast.specs.declared.fault.FormulaKind.TheVariants.{Syntax, Unsupported, TooDeep, Memory}
@@ -12,15 +12,13 @@ use Rattle.fisca_expr_parser.specs.declared.marks.Joint.TheVariants as joint
 use Rattle.fisca_expr_parser.specs.declared.marks.Beginning.{Beginning}
 use Rattle.fisca_expr_parser.specs.declared.marks.Beginning.TheVariants as begin
 use Rattle.fisca_ast.specs.declared.tree.Comparison.{Comparison}
-use Rattle.fisca_expr_parser.specs.Marks.{binds, same_mark, joint_of, tightness, beginning_of, comparison_of, closing_mark, bracket_of}
-use Rattle.fisca_ast.specs.Words.{is_name, is_atom, is_left_out}
+use Rattle.fisca_expr_parser.specs.Steps.Marks.{binds, joint_of, tightness, beginning_of, comparison_of, closing_mark, bracket_of}
+use Rattle.fisca_ast.specs.Steps.Words.{is_name, is_atom}
 use Rattle.fisca_expr_parser.specs.declared.mode.Place.{Place}
-use Rattle.fisca_expr_parser.specs.declared.mode.Place.TheVariants as place
 use Rattle.fisca_expr_parser.specs.declared.mode.Mode.{Mode}
-use Rattle.fisca_ast.specs.declared.tree.Bracket.{Bracket}
-use Rattle.fisca_ast.specs.declared.tree.Suffix.{Suffix}
 use Rattle.fisca_ast.specs.Tree.{Tree, Series, Argument, name, number, text, bracketed, attribute, applied, prefixed, binary, compare, nothing, last, next, positional, keyword, entry, height}
-use Rattle.fisca_expr_parser.specs.Spelling.{takes_positional, takes_keyword, takes_entry, takes_many, place_behind, place_in, allows, place_behind_suffix}
+use Rattle.fisca_expr_parser.specs.Steps.Spelling.{takes_positional, takes_keyword, takes_entry, takes_many, place_behind, place_in, allows, place_behind_suffix}
+use Rattle.fisca_expr_parser.specs.Steps.Reading.{misfit, begins}
 
 abbrev pub Outcome : Type 0 → Type 0
 Outcome A = Result (A × List Sign) ParseRefusal
@@ -43,22 +41,6 @@ pure a = λ ts. Ok (a, ts)
 abbrev pub refuse : {A : Type 0} → FormulaKind → Reader A
 refuse k = λ ts. Err (record { left = length ts; kind = k })
 
--- why a token does not fit: it is of a form that is left out, or of none
-abbrev pub misfit_mark : Mark → FormulaKind
-misfit_mark mark.Power = Unsupported
-misfit_mark mark.WholeDivision = Unsupported
-misfit_mark _ = Syntax
-
-abbrev pub misfit_of : Sign → FormulaKind
-misfit_of (sign.Word t) = if is_left_out t then Unsupported else Syntax
-misfit_of (sign.Number t) = Syntax
-misfit_of (sign.Text t) = Syntax
-misfit_of (sign.Mark m) = misfit_mark m
-
-abbrev pub misfit : List Sign → FormulaKind
-misfit [] = Syntax
-misfit (s ∷ ts) = misfit_of s
-
 -- the fault of the next token
 abbrev pub stop : {A : Type 0} → Reader A
 stop = λ ts. refuse (misfit ts) ts
@@ -68,14 +50,6 @@ stop = λ ts. refuse (misfit ts) ts
 abbrev pub tail : List Sign → List Sign
 tail [] = []
 tail (s ∷ ts) = ts
-
-abbrev pub is_mark : Mark → Sign → Bool
-is_mark m (sign.Mark n) = same_mark n m
-is_mark m _ = false
-
-abbrev pub begins : Mark → List Sign → Bool
-begins m [] = false
-begins m (s ∷ ts) = is_mark m s
 
 abbrev pub joint_at : Sign → Joint
 joint_at (sign.Mark m) = joint_of m

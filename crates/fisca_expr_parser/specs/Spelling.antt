@@ -1,19 +1,15 @@
 -- The grammar: how a tree is spelled, and which trees stand in which place.
-use Rattle.std.specs.Prelude.{◌≡◌, ℕ, suc, List, [], ◌∷◌, ◌++◌, Bool, true, false, ◌&&◌, nat_le}
+use Rattle.std.specs.Prelude.{◌≡◌, ℕ, suc, List, [], ◌∷◌, ◌++◌, Bool, true, ◌&&◌, nat_le}
 use Rattle.fisca_expr_parser.specs.declared.sign.Sign.{Sign}
 use Rattle.fisca_expr_parser.specs.declared.sign.Sign.TheVariants as sign
 use Rattle.fisca_lexer.specs.declared.token.Mark.TheVariants as mark
-use Rattle.fisca_expr_parser.specs.Marks.{operator_mark, comparison_mark, prefix_mark, opening_mark, closing_mark, bracket_of, binds}
-use Rattle.fisca_ast.specs.Words.{is_name, is_atom}
+use Rattle.fisca_expr_parser.specs.Marks.{operator_mark, comparison_mark, prefix_mark, opening_mark}
+use Rattle.fisca_expr_parser.specs.Steps.Marks.{closing_mark, bracket_of, binds}
+use Rattle.fisca_ast.specs.Steps.Words.{is_name, is_atom}
 use Rattle.fisca_expr_parser.specs.declared.mode.Mode.{Mode}
-use Rattle.fisca_expr_parser.specs.declared.mode.Mode.TheVariants as mode
-use Rattle.fisca_ast.specs.declared.tree.Bracket.{Bracket}
-use Rattle.fisca_ast.specs.declared.tree.Bracket.TheVariants as bracket
-use Rattle.fisca_ast.specs.declared.tree.Suffix.{Suffix}
-use Rattle.fisca_ast.specs.declared.tree.Suffix.TheVariants as suffix
 use Rattle.fisca_expr_parser.specs.declared.mode.Place.{Place}
-use Rattle.fisca_expr_parser.specs.declared.mode.Place.TheVariants as place
 use Rattle.fisca_ast.specs.Tree.{Tree, Series, Argument, name, number, text, bracketed, attribute, applied, prefixed, binary, compare, nothing, last, next, positional, keyword, entry}
+use Rattle.fisca_expr_parser.specs.Steps.Spelling.{takes_positional, takes_keyword, takes_entry, takes_many, place_behind, place_in, allows, place_behind_suffix}
 
 abbrev mutual
   pub spelling : Tree → List Sign
@@ -43,58 +39,6 @@ level (compare o a b) = 0
 level (binary o a b) = binds o
 level (prefixed p e) = 5
 level _ = 6
-
--- which arguments may stand in a place
-abbrev pub takes_positional : Place → Bool
-takes_positional place.Alone = true
-takes_positional place.InList = true
-takes_positional place.InCall = true
-takes_positional place.BehindKeyword = false
-takes_positional place.InMap = false
-
-abbrev pub takes_keyword : Place → Bool
-takes_keyword place.Alone = false
-takes_keyword place.InList = false
-takes_keyword place.InCall = true
-takes_keyword place.BehindKeyword = true
-takes_keyword place.InMap = false
-
-abbrev pub takes_entry : Place → Bool
-takes_entry place.Alone = false
-takes_entry place.InList = false
-takes_entry place.InCall = false
-takes_entry place.BehindKeyword = false
-takes_entry place.InMap = true
-
--- any number may stand there, none too, and a comma behind the last
-abbrev pub takes_many : Place → Bool
-takes_many place.Alone = false
-takes_many place.InList = true
-takes_many place.InCall = true
-takes_many place.BehindKeyword = true
-takes_many place.InMap = true
-
-abbrev pub place_behind : Place → Argument → Place
-place_behind p (positional e) = p
-place_behind p (keyword k e) = place.BehindKeyword
-place_behind p (entry k e) = p
-
--- In formulas there are no tuples and no maps.
-abbrev pub place_in : Mode → Bracket → Place
-place_in mode.Value bracket.Round = place.InList
-place_in mode.Formula bracket.Round = place.Alone
-place_in m bracket.Square = place.InList
-place_in m bracket.Curly = place.InMap
-
-abbrev pub allows : Mode → Bracket → Bool
-allows mode.Value b = true
-allows mode.Formula bracket.Round = true
-allows mode.Formula bracket.Square = true
-allows mode.Formula bracket.Curly = false
-
-abbrev pub place_behind_suffix : Suffix → Place
-place_behind_suffix suffix.Call = place.InCall
-place_behind_suffix suffix.Subscript = place.Alone
 
 -- Operators group to the left: the left operand is at the operator's level or tighter, the right one tighter.
 abbrev mutual

@@ -2,9 +2,8 @@
 use Rattle.std.specs.Prelude.{◌≡◌, ℕ, List, ◌≢◌, Result, Ok, Err, length, Option, Some, None, slice_get, ◌-◌}
 use Rattle.fisca_ast.specs.declared.fault.FormulaFault.{FormulaFault}
 use Rattle.fisca_ast.specs.declared.fault.FormulaKind.TheVariants.{Memory}
-use Rattle.fisca_expr_parser.specs.Reading.{Outcome, Reader, ◌>>=◌, reads, ends}
+use Rattle.fisca_expr_parser.specs.Reading.{Reader, ◌>>=◌, reads, ends}
 use Rattle.fisca_lexer.specs.declared.token.Token.{Token}
-use Rattle.fisca_expr_parser.specs.Signs.{signs}
 use Rattle.fisca_expr_parser.specs.declared.mode.Mode.{Mode}
 use Rattle.fisca_ast.specs.declared.tree.Expr.{Expr}
 use Rattle.fisca_ast.specs.Tree.{Tree}
@@ -27,11 +26,3 @@ line_or line (Some t) = t.line
 -- of the token behind which so many are left, or of the last one
 abbrev pub line_in : List Token → ℕ → ℕ
 line_in tokens left = line_or (line_or 1 (slice_get tokens (length tokens - 1))) (slice_get tokens (length tokens - left))
-
-abbrev pub placed : List Token → Outcome Tree → Option FormulaFault
-placed tokens (Ok x) = None
-placed tokens (Err r) = Some (record { line = line_in tokens r.left; kind = r.kind })
-
--- the first fault from the left, with its line
-abbrev pub told : Mode → ℕ → List ℕ → List Token → Option FormulaFault
-told m limit source tokens = placed tokens (whole m limit (signs source tokens))

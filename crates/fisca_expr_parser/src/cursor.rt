@@ -2,6 +2,7 @@
 
 ghost use Rattle.std.specs.Prelude.{◌≡◌, [], ◌∷◌, length, IfOk, MatchOption};
 ghost use Rattle.fisca_expr_parser.specs.Reading as spec;
+ghost use Rattle.fisca_expr_parser.specs.Steps.Reading as steps;
 ghost use Rattle.fisca_expr_parser.specs.Reading.{Reads};
 ghost use Rattle.fisca_expr_parser.specs.Signs.{signs};
 
@@ -67,7 +68,7 @@ impl<'a, 't> Cursor<'a, 't> {
 
     /// The fault of the next token, which does not fit.
     pub fn misfit(&self) -> ParseRefusal
-        ensures { result ≡ record { left = length self.now; kind = spec.misfit self.now } }
+        ensures { result ≡ record { left = length self.now; kind = steps.misfit self.now } }
     {
         let kind = match self.sign() {
             Some(Sign::Word(word)) if is_left_out(word.as_bytes()) => FormulaKind::Unsupported,
@@ -88,7 +89,7 @@ impl<'a, 't> Cursor<'a, 't> {
 
     /// Whether this mark comes next.
     pub fn begins(&self, mark: Mark) -> bool
-        ensures { result ≡ spec.begins mark self.now }
+        ensures { result ≡ steps.begins mark self.now }
     {
         match self.sign() {
             Some(Sign::Mark(next)) => same_mark(next, mark),

@@ -1,7 +1,7 @@
 //! What marks do before and behind expressions.
 
 ghost use Rattle.std.specs.Prelude.{◌≡◌};
-ghost use Rattle.fisca_expr_parser.specs.Marks as spec;
+ghost use Rattle.fisca_expr_parser.specs.Steps.Marks as spec;
 
 use fisca_ast::{Bracket, Comparison, Operator, Prefix, Suffix};
 use fisca_lexer::Mark;
@@ -31,7 +31,7 @@ pub(crate) enum Beginning {
 }
 
 /// Whether two marks are one.
-#[tactic(auto, unfolding(crate::specs::Marks::same_mark))]
+#[tactic(auto, unfolding(crate::specs::Steps::Marks::same_mark))]
 pub(crate) fn same_mark(a: Mark, b: Mark) -> bool
     ensures { result ≡ spec.same_mark a b }
 {

@@ -1,7 +1,7 @@
 //! Which arguments may stand where.
 
 ghost use Rattle.std.specs.Prelude.{◌≡◌};
-ghost use Rattle.fisca_expr_parser.specs.Spelling as spec;
+ghost use Rattle.fisca_expr_parser.specs.Steps.Spelling as spec;
 ghost use Rattle.fisca_ast.specs.Views.{argument_view};
 
 use crate::mode::{Mode, Place};

@@ -3,12 +3,13 @@
 ghost use Rattle.std.specs.Prelude.{◌≡◌, ◌≢◌, ◌≤◌, ◌<◌, ◌-◌, ◌+◌, length, suc, IfOk, IfErr, Some};
 ghost use Rattle.fisca_ast.specs.Tree.{Tree, height};
 ghost use Rattle.fisca_expr_parser.specs.Spelling.{IsExpression};
-ghost use Rattle.fisca_expr_parser.specs.Marks.{beginning_of as beginning_at};
+ghost use Rattle.fisca_expr_parser.specs.Steps.Marks.{beginning_of as beginning_at};
 ghost use Rattle.fisca_expr_parser.specs.Reading as spec;
 ghost use Rattle.fisca_expr_parser.specs.Reading.{Reads, reads};
 ghost use Rattle.fisca_expr_parser.specs.Signs.{signs};
 ghost use Rattle.fisca_ast.specs.Views.{tree, series_view, argument_view};
-ghost use Rattle.fisca_expr_parser.specs.Views.{whole, Finds, line_in, told};
+ghost use Rattle.fisca_expr_parser.specs.Views.{whole, Finds, line_in};
+ghost use Rattle.fisca_expr_parser.specs.Steps.Views.{told};
 
 use crate::cursor::Cursor;
 use crate::made::{

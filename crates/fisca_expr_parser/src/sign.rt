@@ -1,7 +1,7 @@
 //! Tokens without their places, as definitions see them.
 
 ghost use Rattle.std.specs.Prelude.{◌≡◌};
-ghost use Rattle.fisca_expr_parser.specs.Signs as spec;
+ghost use Rattle.fisca_expr_parser.specs.Steps.Signs as spec;
 
 use fisca_ast::Slice;
 use fisca_lexer::{Class, Mark, Token};

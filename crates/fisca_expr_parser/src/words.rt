@@ -2,13 +2,14 @@
 
 ghost use Rattle.std.specs.Prelude.{◌≡◌};
 ghost use Rattle.fisca_ast.specs.Words as spec;
+ghost use Rattle.fisca_ast.specs.Steps.Words as steps;
 
 use fisca_ast::is_name;
 
 /// Whether a word stands for a value: a name, `True` or `False`.
-#[tactic(auto, unfolding(fisca_ast::specs::Words::is_atom))]
+#[tactic(auto, unfolding(fisca_ast::specs::Steps::Words::is_atom))]
 pub(crate) fn is_atom(word: &[u8]) -> bool
-    ensures { result ≡ spec.is_atom word.now }
+    ensures { result ≡ steps.is_atom word.now }
 {
     is_name(word) || word == b"True".as_slice() || word == b"False".as_slice()
 }

@@ -8,7 +8,7 @@ use Rattle.std.specs.Cmp.Lexicographic.{slice_cmp}
 use Rattle.std.specs.Ordering.{nat_cmp}
 use Rattle.std.specs.declared.alloc.Global.{Global}
 use Rattle.std.proofs.lemmas.List.Sums.{fold-append}
-use Rattle.fisca_folder.specs.RulePaths.{is_rule_path}
+use Rattle.fisca_folder.specs.Steps.RulePaths.{is_rule_path}
 use Rattle.fisca_folder.specs.Folder.{Entry, Folder, Found, AreRulePaths, IsListFault, IsListRefusal, files_in, folders_in, found_deeper, found_in, found_on_top, is_folder_in, path_in, with_folder}
 use Rattle.fisca_folder.specs.FolderSteps.{with_entry}
 use Rattle.fisca_folder.specs.declared.folder.FolderFault.{FolderFault}

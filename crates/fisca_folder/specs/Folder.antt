@@ -5,11 +5,12 @@ use Rattle.std.specs.List.{filter, fold, list_any}
 use Rattle.std.specs.Str.{IsUtf8, bytes_eq}
 use Rattle.std.specs.Cmp.Lexicographic.{slice_cmp}
 use Rattle.std.specs.Ordering.{nat_cmp}
-use Rattle.fisca_folder.specs.RulePaths.{is_rule_path}
+use Rattle.fisca_folder.specs.Steps.RulePaths.{is_rule_path}
 use Rattle.fisca_params.specs.Source.{Source}
 use Rattle.fisca_folder.specs.Shown.{shown}
 use Rattle.fisca_folder.specs.declared.folder.FolderFault.{FolderFault}
 use Rattle.fisca_folder.specs.declared.folder.FolderFault.TheVariants.{CannotList, CannotRead, TooLong, TooManyFiles, Memory}
+use Rattle.fisca_folder.specs.Steps.Folder.{counts_as_folder}
 
 -- an entry of a folder: its name, and whether it leads to a folder; `None` where the machine cannot tell, as of a link that
 -- leads nowhere
@@ -32,11 +33,6 @@ slash = 47
 -- the path of an entry
 abbrev pub path_in : List ℕ → Entry → List ℕ
 path_in path entry = path ++ (slash ∷ entry.name)
-
--- whether what stands at this path is taken for a folder. Where the machine cannot tell it is, so that nothing is passed over
--- that may hold files of the rule set, but for what is named as a file of the rule set.
-abbrev pub counts_as_folder : List ℕ → Option Bool → Bool
-counts_as_folder path is_folder = unwrap_or is_folder (not (is_rule_path path))
 
 -- the same of an entry of a folder
 abbrev pub is_folder_in : List ℕ → Entry → Bool

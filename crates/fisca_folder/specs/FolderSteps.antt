@@ -1,9 +1,10 @@
 -- Steps on the way to what a folder holds, which only private functions name.
 use Rattle.std.specs.Prelude.{◌≡◌, ⊤, string_bytes, ℕ, ◌+◌, ◌++◌, ◌∷◌, [], List, length, not, is_some, if◌then◌else◌}
-use Rattle.fisca_folder.specs.RulePaths.{is_rule_path}
+use Rattle.fisca_folder.specs.Steps.RulePaths.{is_rule_path}
 use Rattle.fisca_folder.specs.declared.folder.FolderFault.{FolderFault}
 use Rattle.fisca_folder.specs.declared.folder.FolderFault.TheVariants.{CannotList, CannotRead, TooLong, TooManyFiles, Memory}
-use Rattle.fisca_folder.specs.Folder.{Entry, Folder, Found, counts_as_folder, entries_of, path_in}
+use Rattle.fisca_folder.specs.Folder.{Entry, Folder, Found, entries_of, path_in}
+use Rattle.fisca_folder.specs.Steps.Folder.{counts_as_folder}
 
 -- with one entry of a folder more
 abbrev pub with_entry : List ℕ → Found → Entry → Found

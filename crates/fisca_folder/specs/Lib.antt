@@ -1,4 +1,4 @@
 pub mod Shown
-pub mod RulePaths
 pub mod Folder
 pub mod FolderSteps
+pub mod Steps

@@ -4,7 +4,8 @@ ghost use Rattle.std.specs.Prelude.{◌≡◌, Some, ◌+◌, ◌++◌, ◌≤�
 ghost use Rattle.std.specs.String.{string_cmp};
 ghost use Rattle.std.specs.List.{list_any};
 ghost use Rattle.std.specs.Str.{bytes_eq};
-ghost use Rattle.fisca_folder.specs.Folder.{Folder, AreRulePaths, IsListFault, IsListRefusal, counts_as_folder, found_on_top, found_deeper, found_in, top_of, top_files_of, with_folder};
+ghost use Rattle.fisca_folder.specs.Folder.{Folder, AreRulePaths, IsListFault, IsListRefusal, found_on_top, found_deeper, found_in, top_of, top_files_of, with_folder};
+ghost use Rattle.fisca_folder.specs.Steps.Folder.{counts_as_folder};
 ghost use Rattle.fisca_folder.specs.FolderSteps.{looked_at, with_entry};
 
 use super::folder::{FolderEntry, FolderFault, RuleFolder};

@@ -1,8 +1,9 @@
 //! The paths of files that belong to a rule set.
 
 ghost use Rattle.std.specs.Prelude.{◌≡◌, codes, option_map, option_and_then};
-ghost use Rattle.fisca_folder.specs.RulePaths as spec;
-ghost use Rattle.fisca_params.specs.Paths.{after_start, without_ending};
+ghost use Rattle.fisca_folder.specs.Steps.RulePaths as spec;
+ghost use Rattle.fisca_params.specs.Paths.{after_start};
+ghost use Rattle.fisca_params.specs.Steps.Paths.{without_ending};
 
 use fisca_params::is_parameter_path;
 

@@ -20,12 +20,14 @@ use Rattle.fisca_typing.specs.declared.operations.Arithmetic.{Arithmetic}
 use Rattle.fisca_typing.specs.declared.operations.Arithmetic.TheVariants as arithm
 use Rattle.fisca_typing.specs.declared.operations.Logic.{Logic}
 use Rattle.fisca_typing.specs.declared.operations.Logic.TheVariants as logic
-use Rattle.fisca_typing.specs.Nodes.{Node, negative}
-use Rattle.fisca_typing.specs.Operations.{Operation, on_bools_or_numbers, with_numbers, with_bools, operation, extreme, comparison_of_members, comparison_by, comparison_of, with_levels, operated, prefixed_by, prefixed_value, signed, negated}
+use Rattle.fisca_typing.specs.declared.operations.Unary.{Unary}
+use Rattle.fisca_typing.specs.declared.operations.Unary.TheVariants as unary
+use Rattle.fisca_typing.specs.Nodes.{Node}
+use Rattle.fisca_typing.specs.Operations.{Operation, on_bools_or_numbers, with_numbers, with_bools, operation, extreme, comparison_of_members, comparison_by, comparison_of, with_levels, operated, unary_type, is_just, unary_on, unary_of, prefixed_by, prefixed_value}
 use Rattle.fisca_model.specs.Tables.{Tables}
 use Rattle.fisca_typing.specs.Things.{Thing, Things, Typed, Chosen, Relation, value, period, start, offset, reader, nodes, scale, calculation, enumeration, choices, entity, role, asker, method, library, function, option, text, listed, none, more, value_of, nodes_of, things_of}
-use Rattle.fisca_typing.specs.Types.{is_numeric, common, higher, is_of_members}
-use Rattle.fisca_formula_semantics.specs.Wellformed.{Sort, Within, IsAskable, is_below, IsTyped, AreIndices, choices_of}
+use Rattle.fisca_typing.specs.Types.{is_numeric, is_number, common, higher, is_of_members}
+use Rattle.fisca_formula_semantics.specs.Wellformed.{Sort, Within, IsAskable, has_places, is_below, IsTyped, AreIndices, choices_of}
 use Rattle.fisca_formula_semantics.proofs.Weaken.{weaken}
 
 -- what a result is, if it is none of the faults
@@ -220,7 +222,7 @@ members-good c G cmp.LessEqual e = tt
 members-good c G cmp.Greater e = tt
 members-good c G cmp.GreaterEqual e = tt
 members-good c G cmp.Equal e = λ a b p x y. (refl, e, x, y)
-members-good c G cmp.NotEqual e = λ a b p x y. (refl, (refl, e, x, y))
+members-good c G cmp.NotEqual e = λ a b p x y. (refl, refl, vt.Bool, refl, (refl, e, x, y))
 
 enums-good : (c : Tables) (G : List Sort) (o : Comparison) (e f : ℕ) (b : Bool) → (e == f) ≡ b → OkIs (IsOperation c G (vt.Enum e) (vt.Enum f)) (and_then (if b then Ok (vt.Enum e) else Err kind.BadType) (comparison_by o))
 enums-good c G o e f true same = subst (λ x. OkIs (IsOperation c G (vt.Enum e) (vt.Enum x)) (comparison_of_members o)) (eqb-true e f same) (members-good c G o e)
@@ -250,36 +252,39 @@ operated-good c G by x y are good too =
     then_is (IsGoodValue c G) (IsGood c G) (value_of x) _ (value-good c G x good) (λ a u. then_is (IsGoodValue c G) (IsGood c G) (value_of y) _ (value-good c G y too) (λ b w.
     then_is (IsOperation c G a.value_type b.value_type) (IsGood c G) (by a.value_type b.value_type) _ (are a.value_type b.value_type) (λ o is. levels-good c G a b o u w is)))
 
--- Prefixes
+-- Operations on one value
 
-signed-good : (c : Tables) (G : List Sort) (node : Node → Node) (v : Typed) → ((p : Bool) → IsTyped c G v.node vt.Number p → IsTyped c G (node v.node) vt.Number p) → IsGoodValue c G v → OkIs (IsGood c G) (signed node v)
-signed-good c G node v on good = by v.value_type good where
-  by : (t : ValueType) → IsTyped c G v.node t (is_of_members v.level) → OkIs (IsGood c G) (signed node (record v { value_type = t }))
-  by vt.Number is = on (is_of_members v.level) is
-  by vt.Bool is = tt
-  by (vt.Enum e) is = tt
-
-pub negated-good : (c : Tables) (G : List Sort) (v : Typed) → IsGoodValue c G v → OkIs (IsGood c G) (negated v)
-negated-good c G v good = by v.value_type good where
-  by : (t : ValueType) → IsTyped c G v.node t (is_of_members v.level) → OkIs (IsGood c G) (negated (record v { value_type = t }))
-  by vt.Number is = tt
-  by vt.Bool is = (refl, is)
-  by (vt.Enum e) is = tt
-
-prefixed_by-good : (c : Tables) (G : List Sort) (p : Prefix) (v : Typed) → IsGoodValue c G v → OkIs (IsGood c G) (prefixed_by p v)
-prefixed_by-good c G prefix.Plus v good = signed-good c G (λ n. n) v (λ p is. is) good
-prefixed_by-good c G prefix.Minus v good = signed-good c G negative v (λ p is. (refl, vt.Number, refl, is)) good
-prefixed_by-good c G prefix.Not v good = negated-good c G v good
-
-pub prefixed-good : (c : Tables) (G : List Sort) (p : Prefix) (x : Thing) → IsGood c G x → OkIs (IsGood c G) (prefixed_value p x)
-prefixed-good c G p x good = then_is (IsGoodValue c G) (IsGood c G) (value_of x) _ (value-good c G x good) (prefixed_by-good c G p)
-
--- One or the other
+just-is : (s t : ValueType) → is_just s t ≡ true → t ≡ s
+just-is vt.Number vt.Number e = refl
+just-is vt.Number vt.Bool e = cc
+just-is vt.Number (vt.Enum f) e = cc
+just-is vt.Bool vt.Number e = cc
+just-is vt.Bool vt.Bool e = refl
+just-is vt.Bool (vt.Enum f) e = cc
+just-is (vt.Enum g) t e = cc
 
 pub below-self : (t : ValueType) → is_below t t ≡ true
 below-self vt.Number = refl
 below-self vt.Bool = refl
 below-self (vt.Enum e) = eq-eqb e e refl
+
+pub unary_on-good : (c : Tables) (G : List Sort) (o : Unary) → has_places o ≡ true → (v : Typed) → IsGoodValue c G v → OkIs (IsGood c G) (unary_on o v)
+unary_on-good c G o has v good =
+    if_is (IsGood c G) (is_just (unary_type o) v.value_type) _ _ (λ e. let s = just-is (unary_type o) v.value_type e in
+    (s, has, v.value_type, subst (λ x. is_below v.value_type x ≡ true) s (below-self v.value_type), good)) (λ _. tt)
+
+pub unary-good : (c : Tables) (G : List Sort) (o : Unary) → has_places o ≡ true → (x : Thing) → IsGood c G x → OkIs (IsGood c G) (unary_of o x)
+unary-good c G o has x good = then_is (IsGoodValue c G) (IsGood c G) (value_of x) _ (value-good c G x good) (unary_on-good c G o has)
+
+prefixed_by-good : (c : Tables) (G : List Sort) (p : Prefix) (v : Typed) → IsGoodValue c G v → OkIs (IsGood c G) (prefixed_by p v)
+prefixed_by-good c G prefix.Plus v good = if_is (IsGood c G) (is_number v.value_type) _ _ (λ _. good) (λ _. tt)
+prefixed_by-good c G prefix.Minus v good = unary_on-good c G unary.Minus refl v good
+prefixed_by-good c G prefix.Not v good = unary_on-good c G unary.Not refl v good
+
+pub prefixed-good : (c : Tables) (G : List Sort) (p : Prefix) (x : Thing) → IsGood c G x → OkIs (IsGood c G) (prefixed_value p x)
+prefixed-good c G p x good = then_is (IsGoodValue c G) (IsGood c G) (value_of x) _ (value-good c G x good) (prefixed_by-good c G p)
+
+-- One or the other
 
 abbrev pub fine : ValueType → Result ValueType FormulaKind
 fine t = Ok t

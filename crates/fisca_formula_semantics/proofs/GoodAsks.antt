@@ -19,7 +19,7 @@ use Rattle.fisca_typing.specs.declared.operations.Method.{Method}
 use Rattle.fisca_typing.specs.declared.operations.Method.TheVariants as method
 use Rattle.fisca_typing.specs.declared.operations.Total.{Total}
 use Rattle.fisca_typing.specs.Asks.{usable, variable_of, options_of, asked_type, asked, is_options, is_positional, asked_with, role_in, has_role_by, count_by, takes, total_of, role_by, total_by, settled_positions, method_by, begins_with_text, method_called}
-use Rattle.fisca_typing.specs.Calls.{Given, Positions, by_position, and_keyword, more_keywords, alone, settled, positions, calculation_by}
+use Rattle.fisca_typing.specs.Calls.{CallArgument, Positions, by_position, and_keyword, more_keywords, alone, settled, positions, calculation_by}
 use Rattle.fisca_typing.specs.Names.{Names}
 use Rattle.fisca_typing.specs.Nodes.{Node, Indices, no_index, index, behind}
 use Rattle.fisca_typing.specs.Operations.{numeric_of}
@@ -143,13 +143,13 @@ variable_of-good c entity x =
     then_any (IsVariable c) (text_of x) _ (λ t. then_eq (IsVariable c) (ok_or (variable_named c t) kind.UnknownVariable) _ (λ v e.
     usable-good c entity v v.1.value_type (type-at c v (first-at _ 0 c.variables v (there (variable_named c t) kind.UnknownVariable v e)))))
 
-asked-good : (c : Tables) (G : List Sort) (r : Relation) (l : Level) (v p : Given) (o : Option (Result Thing FormulaKind)) → IsAskable r.whom (is_of_members l) → OkIs (IsGood c G) (asked c r l v p o)
+asked-good : (c : Tables) (G : List Sort) (r : Relation) (l : Level) (v p : CallArgument) (o : Option (Result Thing FormulaKind)) → IsAskable r.whom (is_of_members l) → OkIs (IsGood c G) (asked c r l v p o)
 asked-good c G r l v p o ask =
     then_any (IsGood c G) v.thing _ (λ x. then_is (IsVariable c) (IsGood c G) (variable_of c r.entity x) _ (variable_of-good c r.entity x) (λ f known.
     then_any (IsGood c G) p.thing _ (λ y. then_any (IsGood c G) (period_of y) _ (λ ms. then_any (IsGood c G) (options_of o) _ (λ how.
     then_eq (IsGood c G) (asked_type how f.1) _ (λ t e. (f.1, known, e, ask)))))))
 
-pub asked_with-good : (c : Tables) (G : List Sort) (r : Relation) (l : Level) (gs : List Given) → IsAskable r.whom (is_of_members l) → OkIs (IsGood c G) (asked_with c r l gs)
+pub asked_with-good : (c : Tables) (G : List Sort) (r : Relation) (l : Level) (gs : List CallArgument) → IsAskable r.whom (is_of_members l) → OkIs (IsGood c G) (asked_with c r l gs)
 asked_with-good c G r l [] ask = tt
 asked_with-good c G r l (v ∷ []) ask = tt
 asked_with-good c G r l (v ∷ p ∷ []) ask =
@@ -190,16 +190,16 @@ total-good c G entity t (and_keyword (m ∷ []) k x) good = total_of-good c G t 
 total-good c G entity t (and_keyword (m ∷ n ∷ ss) k x) good = tt
 total-good c G entity t more_keywords good = tt
 
-pub settled_positions-good : (c : Tables) (G : List Sort) (gs : List Given) (f : Positions → Result Thing FormulaKind) → AllGiven c G gs → ((ps : Positions) → GoodPositions c G ps → OkIs (IsGood c G) (f ps)) → OkIs (IsGood c G) (settled_positions gs f)
+pub settled_positions-good : (c : Tables) (G : List Sort) (gs : List CallArgument) (f : Positions → Result Thing FormulaKind) → AllGiven c G gs → ((ps : Positions) → GoodPositions c G ps → OkIs (IsGood c G) (f ps)) → OkIs (IsGood c G) (settled_positions gs f)
 settled_positions-good c G gs f good on = then_is _ (IsGood c G) (settled gs) _ (settled-good c G gs good) (λ ss a. on (positions ss) (positions-good c G ss a))
 
-method_by-good : (c : Names) (G : List Sort) (m : Method) (gs : List Given) → AllGiven c.tables G gs → OkIs (IsGood c.tables G) (method_by c m gs)
+method_by-good : (c : Names) (G : List Sort) (m : Method) (gs : List CallArgument) → AllGiven c.tables G gs → OkIs (IsGood c.tables G) (method_by c m gs)
 method_by-good c G method.HasRole gs good = settled_positions-good c.tables G gs _ good (λ ps _. has_role-good c.tables G ps)
 method_by-good c G method.Members gs good = asked_with-good c.tables G _ level.Members gs refl
 method_by-good c G (method.Total t) gs good = settled_positions-good c.tables G gs _ good (λ ps a. total-good c.tables G c.entity t ps a)
 method_by-good c G method.Count gs good = settled_positions-good c.tables G gs _ good (λ ps _. count-good c.tables G c.entity ps)
 
-pub method_called-good : (c : Names) (G : List Sort) (m : Option Method) (r : Option Relation) (gs : List Given) → IsGoodRelation r → AllGiven c.tables G gs → OkIs (IsGood c.tables G) (method_called c m r gs)
+pub method_called-good : (c : Names) (G : List Sort) (m : Option Method) (r : Option Relation) (gs : List CallArgument) → IsGoodRelation r → AllGiven c.tables G gs → OkIs (IsGood c.tables G) (method_called c m r gs)
 method_called-good c G None None gs ask good = tt
 method_called-good c G None (Some r) gs ask good = asked_with-good c.tables G r level.Own gs ask
 method_called-good c G (Some m) None gs ask good = method_by-good c G m gs good

@@ -1,6 +1,6 @@
 -- What functions give is typed.
 use Rattle.std.proofs.Common.{◌≡◌, ℕ, suc, List, [], ◌∷◌, length, Bool, true, false, refl, sym, subst, arith, Option, Some, None}
-use Rattle.std.specs.Prelude.{⊤, ◌==◌, ◌&&◌, if◌then◌else◌, Result, Ok, Err, codes}
+use Rattle.std.specs.Prelude.{⊤, ℤ, pos, ok_or, ◌==◌, ◌&&◌, if◌then◌else◌, Result, Ok, Err, codes}
 use Rattle.std.proofs.lemmas.Bool.{eqb-true, and_parts}
 use Rattle.fisca_ast.specs.Words.{is}
 use Rattle.fisca_params.specs.Results.{and_then}
@@ -10,17 +10,24 @@ use Rattle.fisca_typing.specs.declared.kinds.Level.{Level}
 use Rattle.fisca_typing.specs.declared.kinds.Level.TheVariants as level
 use Rattle.fisca_model.specs.declared.value_type.ValueType.{ValueType}
 use Rattle.fisca_model.specs.declared.value_type.ValueType.TheVariants as vt
+use Rattle.fisca_typing.specs.declared.operations.Arithmetic.{Arithmetic}
 use Rattle.fisca_typing.specs.declared.operations.Arithmetic.TheVariants as arithm
 use Rattle.fisca_typing.specs.declared.operations.Function.{Function}
 use Rattle.fisca_typing.specs.declared.operations.Function.TheVariants as function
-use Rattle.fisca_typing.specs.Calls.{Given, Settled, Positions, by_position, and_keyword, more_keywords, before_keyword, in_front, put, settled, positions, all_bools, selected, select_typed, select_default, select_values, select_of, default_in, where_by, select_by, alone, two, function_by}
+use Rattle.fisca_typing.specs.declared.operations.Unary.{Unary}
+use Rattle.fisca_typing.specs.declared.operations.Unary.TheVariants as unary
+use Rattle.fisca_typing.specs.Periods.{whole}
+use Rattle.fisca_ast.specs.Tree.{Tree}
+use Rattle.fisca_ast.specs.declared.tree.Operator.{Operator}
+use Rattle.fisca_ast.specs.declared.tree.Operator.TheVariants as operator
+use Rattle.fisca_typing.specs.Calls.{CallArgument, Settled, Positions, by_position, and_keyword, more_keywords, before_keyword, in_front, put, settled, positions, all_bools, selected, select_typed, select_default, select_values, select_of, default_in, where_by, select_by, alone, two, extreme_all, extreme_by, unary_by, operator_by, places_of, round_by, clip_by, function_by}
 use Rattle.fisca_typing.specs.Nodes.{Node}
-use Rattle.fisca_typing.specs.Operations.{extreme, typed_all, common_all, highest, where_of}
+use Rattle.fisca_typing.specs.Operations.{operated, operation, extreme, is_places, typed_all, common_all, highest, where_of}
 use Rattle.fisca_model.specs.Tables.{Tables}
 use Rattle.fisca_typing.specs.Things.{Thing, Things, Typed, none, more, value_of, things_of}
 use Rattle.fisca_typing.specs.Types.{is_bool, common, higher, is_of_members}
-use Rattle.fisca_formula_semantics.specs.Wellformed.{Sort, Within, is_below, IsTyped}
-use Rattle.fisca_formula_semantics.proofs.Good.{OkIs, then_is, then_eq, if_is, IsGood, AreGood, IsGoodValue, value-good, things-good, higher-left, higher-right, raised, operated-good, extreme-good, negated-good, below-self, common-below, fine}
+use Rattle.fisca_formula_semantics.specs.Wellformed.{Sort, Within, has_places, is_below, IsTyped}
+use Rattle.fisca_formula_semantics.proofs.Good.{OkIs, then_is, then_any, then_eq, if_is, IsGood, AreGood, IsGoodValue, value-good, things-good, higher-left, higher-right, raised, operated-good, operation-good, extreme-good, unary-good, below-self, common-below, fine}
 use Rattle.fisca_formula_semantics.proofs.Totals.{bool-is}
 use Rattle.fisca_formula_semantics.proofs.Weaken.{weaken}
 
@@ -156,7 +163,7 @@ select-good c G x y d good too three =
 
 -- Arguments
 
-abbrev pub AllGiven : Tables → List Sort → List Given → Type 0
+abbrev pub AllGiven : Tables → List Sort → List CallArgument → Type 0
 AllGiven c G [] = ⊤
 AllGiven c G (g ∷ gs) = OkIs (IsGood c G) g.thing × AllGiven c G gs
 
@@ -169,7 +176,7 @@ GoodPositions c G (by_position ss) = AllSettled c G ss
 GoodPositions c G (and_keyword ss k x) = AllSettled c G ss × IsGood c G x
 GoodPositions c G more_keywords = ⊤
 
-pub settled-good : (c : Tables) (G : List Sort) (gs : List Given) → AllGiven c G gs → OkIs (AllSettled c G) (settled gs)
+pub settled-good : (c : Tables) (G : List Sort) (gs : List CallArgument) → AllGiven c G gs → OkIs (AllSettled c G) (settled gs)
 settled-good c G [] good = tt
 settled-good c G (g ∷ gs) good =
     then_is (IsGood c G) (AllSettled c G) g.thing _ good.0 (λ x a. then_is (AllSettled c G) (AllSettled c G) (settled gs) _ (settled-good c G gs good.1) (λ ss b. (a, b)))
@@ -235,10 +242,59 @@ select_by-good c G (and_keyword (a ∷ b ∷ []) k x) good = select-good c G a.t
 select_by-good c G (and_keyword (a ∷ b ∷ d ∷ ss) k x) good = tt
 select_by-good c G more_keywords good = tt
 
+extreme_all-good : (c : Tables) (G : List Sort) (o : Arithmetic) (x : Thing) (ss : List Settled) → IsGood c G x → AllSettled c G ss → OkIs (IsGood c G) (extreme_all o x ss)
+extreme_all-good c G o x [] good all = good
+extreme_all-good c G o x (s ∷ ss) good all =
+    then_is (IsGood c G) (IsGood c G) (operated (extreme o) x s.thing) _ (operated-good c G (extreme o) x s.thing (extreme-good c G o) good all.0) (λ y a. extreme_all-good c G o y ss a all.1)
+
+extreme_by-good : (c : Tables) (G : List Sort) (o : Arithmetic) (ps : Positions) → GoodPositions c G ps → OkIs (IsGood c G) (extreme_by o ps)
+extreme_by-good c G o (by_position []) good = tt
+extreme_by-good c G o (by_position (a ∷ [])) good = tt
+extreme_by-good c G o (by_position (a ∷ b ∷ ss)) good = extreme_all-good c G o a.thing (b ∷ ss) good.0 good.1
+extreme_by-good c G o (and_keyword ss k x) good = tt
+extreme_by-good c G o more_keywords good = tt
+
+abbrev HasPlaces : ℤ → Type 0
+HasPlaces n = is_places n ≡ true
+
+places-good : (k : Tree) → OkIs HasPlaces (places_of k)
+places-good k = then_any HasPlaces (ok_or (whole k) kind.BadType) _ (λ n. if_is HasPlaces (is_places n) _ _ (λ e. e) (λ _. tt))
+
+unary_by-good : (c : Tables) (G : List Sort) (o : Unary) (ps : Positions) → has_places o ≡ true → GoodPositions c G ps → OkIs (IsGood c G) (unary_by o ps)
+unary_by-good c G o ps has good = then_is (IsSettled c G) (IsGood c G) (alone ps) _ (alone-good c G ps good) (λ s a. unary-good c G o has s.thing a)
+
+operator_by-good : (c : Tables) (G : List Sort) (o : Operator) (ps : Positions) → GoodPositions c G ps → OkIs (IsGood c G) (operator_by o ps)
+operator_by-good c G o ps good = two-good c G ps _ good (λ a b x y. operated-good c G (operation o) a.thing b.thing (operation-good c G o) x y)
+
+round_by-good : (c : Tables) (G : List Sort) (ps : Positions) → GoodPositions c G ps → OkIs (IsGood c G) (round_by ps)
+round_by-good c G (by_position []) good = tt
+round_by-good c G (by_position (x ∷ [])) good = unary-good c G (unary.Round (pos 0)) refl x.thing good.0
+round_by-good c G (by_position (x ∷ n ∷ [])) good = then_is HasPlaces (IsGood c G) (places_of n.tree) _ (places-good n.tree) (λ k has. unary-good c G (unary.Round k) has x.thing good.0)
+round_by-good c G (by_position (x ∷ n ∷ m ∷ ss)) good = tt
+round_by-good c G (and_keyword ss k x) good = tt
+round_by-good c G more_keywords good = tt
+
+clip_by-good : (c : Tables) (G : List Sort) (ps : Positions) → GoodPositions c G ps → OkIs (IsGood c G) (clip_by ps)
+clip_by-good c G (by_position []) good = tt
+clip_by-good c G (by_position (x ∷ [])) good = tt
+clip_by-good c G (by_position (x ∷ a ∷ [])) good = tt
+clip_by-good c G (by_position (x ∷ a ∷ b ∷ [])) good =
+    then_is (IsGood c G) (IsGood c G) (operated (extreme arithm.Max) x.thing a.thing) _ (operated-good c G (extreme arithm.Max) x.thing a.thing (extreme-good c G arithm.Max) good.0 good.1.0)
+    (λ y u. operated-good c G (extreme arithm.Min) y b.thing (extreme-good c G arithm.Min) u good.1.1.0)
+clip_by-good c G (by_position (x ∷ a ∷ b ∷ d ∷ ss)) good = tt
+clip_by-good c G (and_keyword ss k x) good = tt
+clip_by-good c G more_keywords good = tt
+
 pub function-good : (c : Tables) (G : List Sort) (f : Function) (ps : Positions) → GoodPositions c G ps → OkIs (IsGood c G) (function_by f ps)
 function-good c G function.Where ps good = where_by-good c G ps good
 function-good c G function.Select ps good = select_by-good c G ps good
-function-good c G function.Min ps good = two-good c G ps _ good (λ a b x y. operated-good c G (extreme arithm.Min) a.thing b.thing (extreme-good c G arithm.Min) x y)
-function-good c G function.Max ps good = two-good c G ps _ good (λ a b x y. operated-good c G (extreme arithm.Max) a.thing b.thing (extreme-good c G arithm.Max) x y)
-function-good c G function.Not ps good =
-    then_is (IsSettled c G) (IsGood c G) (alone ps) _ (alone-good c G ps good) (λ s a. then_is (IsGoodValue c G) (IsGood c G) (value_of s.thing) _ (value-good c G s.thing a) (negated-good c G))
+function-good c G function.Min ps good = extreme_by-good c G arithm.Min ps good
+function-good c G function.Max ps good = extreme_by-good c G arithm.Max ps good
+function-good c G function.Clip ps good = clip_by-good c G ps good
+function-good c G function.Not ps good = unary_by-good c G unary.Not ps refl good
+function-good c G function.And ps good = operator_by-good c G operator.And ps good
+function-good c G function.Or ps good = operator_by-good c G operator.Or ps good
+function-good c G function.Floor ps good = unary_by-good c G unary.Floor ps refl good
+function-good c G function.Ceil ps good = unary_by-good c G unary.Ceil ps refl good
+function-good c G function.Round ps good = round_by-good c G ps good
+function-good c G function.Absolute ps good = unary_by-good c G unary.Absolute ps refl good

@@ -8,7 +8,7 @@ use Rattle.fisca_typing.specs.declared.kinds.Level.{Level}
 use Rattle.fisca_typing.specs.declared.kinds.Level.TheVariants as level
 use Rattle.fisca_model.specs.declared.value_type.ValueType.{ValueType}
 use Rattle.fisca_model.specs.declared.value_type.ValueType.TheVariants as vt
-use Rattle.fisca_typing.specs.Formulas.{Scope, start_of, Kept, kept, if_small, with_local, behind_local, returns, of_type, of_entity, returned, Assigned, Formula, Refusal, at, formula_from, formula_of}
+use Rattle.fisca_typing.specs.Formulas.{Scope, start_of, Kept, kept, if_small, with_local, behind_local, returns, of_type, of_entity, returned, Assigned, Formula, RefusedFormula, at, formula_from, formula_of}
 use Rattle.fisca_typing.specs.Names.{Names, Local}
 use Rattle.fisca_typing.specs.Nodes.{Node}
 use Rattle.fisca_typing.specs.Sizes.{Size, size_of, is_small}
@@ -96,7 +96,7 @@ kept-good c G ns (nodes k) leads good = (G, leads, (λ i s e. e), good)
 kept-good c G ns (scale n ms) leads good = (G, leads, (λ i s e. e), good)
 kept-good c G ns (calculation n ms) leads good = tt
 kept-good c G ns (enumeration e) leads good = tt
-kept-good c G ns (choices e) leads good = tt
+kept-good c G ns (choices e) leads good = (G, leads, (λ i s e. e), good)
 kept-good c G ns (entity g) leads good = tt
 kept-good c G ns (role g r) leads good = tt
 kept-good c G ns asker leads good = tt
@@ -155,10 +155,10 @@ returned-good s t e G good =
 
 -- Formulas
 
-abbrev fine : {X : Type 0} → X → Result X Refusal
+abbrev fine : {X : Type 0} → X → Result X RefusedFormula
 fine x = Ok x
 
-steps : {X Y : Type 0} (r : Result X Refusal) (f : X → Result Y Refusal) (y : Y) → and_then r f ≡ fine y → (x : X) × (r ≡ fine x) × (f x ≡ fine y)
+steps : {X Y : Type 0} (r : Result X RefusedFormula) (f : X → Result Y RefusedFormula) (y : Y) → and_then r f ≡ fine y → (x : X) × (r ≡ fine x) × (f x ≡ fine y)
 steps (Ok x) f y e = (x, refl, e)
 steps (Err k) f y e = cc
 

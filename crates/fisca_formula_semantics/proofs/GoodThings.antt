@@ -22,8 +22,8 @@ use Rattle.fisca_model.specs.declared.value_type.ValueType.TheVariants as vt
 use Rattle.fisca_typing.specs.declared.moves.Move.{Move}
 use Rattle.fisca_typing.specs.declared.operations.Method.{Method}
 use Rattle.fisca_typing.specs.Asks.{some_method, method_named, relation_named, to_group, to_holder, to_self}
-use Rattle.fisca_typing.specs.Calls.{Given, Positions, by_position, and_keyword, more_keywords, alone, offset_of, reader_by}
-use Rattle.fisca_typing.specs.Names.{Names, Local, named, local_named, argument_named, has_name, known_word, declared, library_function}
+use Rattle.fisca_typing.specs.Calls.{CallArgument, Positions, by_position, and_keyword, more_keywords, alone, offset_of, reader_by}
+use Rattle.fisca_typing.specs.Names.{Names, Local, named, local_named, argument_named, has_name, known_word, added_word, declared, library_function, added_function}
 use Rattle.fisca_typing.specs.Operations.{operation, comparison_of}
 use Rattle.fisca_typing.specs.Periods.{period_attribute, start_attribute, whole, unit_named}
 use Rattle.fisca_model.specs.Tables.{Tables, otherwise, place_in, members_at, member_named, role_of_constant, roles_at, is_person_at}
@@ -72,6 +72,12 @@ word-known c G t =
     (if_some c G (is t (codes "not_")) _ _ tt (if_some c G (is t (codes "np")) _ _ tt (if_some c G (is t (codes "numpy")) _ _ tt
     (if_some c G (is t (codes "ADD")) _ _ tt (if_some c G (is t (codes "DIVIDE")) _ _ tt tt))))))))))
 
+word-added : (c : Tables) (G : List Sort) (t : List ℕ) → OptionIs c G (added_word t)
+unfolding added_word
+word-added c G t =
+    if_some c G (is t (codes "round_")) _ _ tt (if_some c G (is t (codes "floor")) _ _ tt (if_some c G (is t (codes "ceil")) _ _ tt
+    (if_some c G (is t (codes "abs_")) _ _ tt (if_some c G (is t (codes "clip")) _ _ tt tt))))
+
 enum-some : (c : Tables) (G : List Sort) (o : Option ℕ) → OptionIs c G (option_map enumeration o)
 enum-some c G None = tt
 enum-some c G (Some e) = tt
@@ -88,7 +94,7 @@ declared-some c G t =
 named-good : (n : Names) (G : List Sort) (t : List ℕ) → LocalsGood n.tables G n.locals → OkIs (IsGood n.tables G) (named n t)
 named-good n G t good =
     there_is n.tables G _ kind.UnknownName (or_is n.tables G (local_named n.locals t) _ (local-named n.tables G n.locals t good) (or_is n.tables G (argument_named n t) _ (argument-named n G t)
-    (or_is n.tables G (known_word t) (declared n.tables t) (word-known n.tables G t) (declared-some n.tables G t))))
+    (or_is n.tables G (known_word t) _ (word-known n.tables G t) (or_is n.tables G (declared n.tables t) (added_word t) (declared-some n.tables G t) (word-added n.tables G t)))))
 
 -- Names behind a point
 
@@ -112,12 +118,20 @@ start_attribute-good c G t ms =
     if_is (IsGood c G) (is t (codes "year")) _ _ (λ _. refl) (λ _. if_is (IsGood c G) (is t (codes "month")) _ _ (λ _. refl) (λ _.
     if_is (IsGood c G) (is t (codes "day")) _ _ (λ _. refl) (λ _. tt)))
 
+added-good : (c : Tables) (G : List Sort) (t : List ℕ) → OkIs (IsGood c G) (added_function t)
+unfolding added_function
+added-good c G t =
+    if_is (IsGood c G) (is t (codes "round")) _ _ (λ _. tt) (λ _. if_is (IsGood c G) (is t (codes "floor")) _ _ (λ _. tt) (λ _.
+    if_is (IsGood c G) (is t (codes "ceil")) _ _ (λ _. tt) (λ _. if_is (IsGood c G) (is t (codes "abs")) _ _ (λ _. tt) (λ _.
+    if_is (IsGood c G) (is t (codes "absolute")) _ _ (λ _. tt) (λ _. if_is (IsGood c G) (is t (codes "clip")) _ _ (λ _. tt) (λ _.
+    if_is (IsGood c G) (is t (codes "logical_and")) _ _ (λ _. tt) (λ _. if_is (IsGood c G) (is t (codes "logical_or")) _ _ (λ _. tt) (λ _. tt))))))))
+
 library-good : (c : Tables) (G : List Sort) (t : List ℕ) → OkIs (IsGood c G) (library_function t)
 unfolding library_function
 library-good c G t =
     if_is (IsGood c G) (is t (codes "where")) _ _ (λ _. tt) (λ _. if_is (IsGood c G) (is t (codes "select")) _ _ (λ _. tt) (λ _.
     if_is (IsGood c G) (is t (codes "minimum")) _ _ (λ _. tt) (λ _. if_is (IsGood c G) (is t (codes "maximum")) _ _ (λ _. tt) (λ _.
-    if_is (IsGood c G) (is t (codes "logical_not")) _ _ (λ _. tt) (λ _. tt)))))
+    if_is (IsGood c G) (is t (codes "logical_not")) _ _ (λ _. tt) (λ _. added-good c G t)))))
 
 place-is : (k i : ℕ) → Some k ≡ Some i → k ≡ i
 place-is k i e = cc
@@ -192,10 +206,10 @@ offset-good c G ms more_keywords = tt
 reader-good : (c : Tables) (G : List Sort) (ps : Positions) → OkIs (IsGood c G) (reader_by c ps)
 reader-good c G ps = then_any (IsGood c G) (alone ps) _ (λ s. then_any (IsGood c G) (instant_of s.thing) _ (root-good c G))
 
-not-good : (c : Tables) (G : List Sort) (gs : List Given) → AllGiven c G gs → OkIs (IsGood c G) (not_called gs)
+not-good : (c : Tables) (G : List Sort) (gs : List CallArgument) → AllGiven c G gs → OkIs (IsGood c G) (not_called gs)
 not-good c G gs all = settled_positions-good c G gs (λ ps. Err kind.BadType) all (λ ps _. tt)
 
-called-good : (n : Names) (G : List Sort) (x : Thing) (gs : List Given) → IsGood n.tables G x → AllGiven n.tables G gs → OkIs (IsGood n.tables G) (called n x gs)
+called-good : (n : Names) (G : List Sort) (x : Thing) (gs : List CallArgument) → IsGood n.tables G x → AllGiven n.tables G gs → OkIs (IsGood n.tables G) (called n x gs)
 called-good n G (value v) gs good all = not-good n.tables G gs all
 called-good n G (period ms) gs good all = not-good n.tables G gs all
 called-good n G (start ms) gs good all = not-good n.tables G gs all
@@ -218,22 +232,22 @@ called-good n G (listed xs) gs good all = not-good n.tables G gs all
 
 -- Brackets
 
-elements-good : (c : Tables) (G : List Sort) (gs : List Given) → AllGiven c G gs → OkIs (AreGood c G) (elements gs)
+elements-good : (c : Tables) (G : List Sort) (gs : List CallArgument) → AllGiven c G gs → OkIs (AreGood c G) (elements gs)
 elements-good c G [] all = tt
 elements-good c G (g ∷ gs) all =
     then_is (IsGood c G) (AreGood c G) g.thing _ all.0 (λ x a. if_is (AreGood c G) (is_positional g.keyword) _ _ (λ _. then_is (AreGood c G) (AreGood c G) (elements gs) _ (elements-good c G gs all.1) (λ xs b. (a, b))) (λ _. tt))
 
-only-good : (c : Tables) (G : List Sort) (gs : List Given) → AllGiven c G gs → OkIs (IsGood c G) (only gs)
+only-good : (c : Tables) (G : List Sort) (gs : List CallArgument) → AllGiven c G gs → OkIs (IsGood c G) (only gs)
 only-good c G [] all = tt
 only-good c G (g ∷ []) all = if_is (IsGood c G) (is_positional g.keyword) g.thing _ (λ _. all.0) (λ _. tt)
 only-good c G (g ∷ h ∷ gs) all = tt
 
-brackets-good : (c : Tables) (G : List Sort) (b : Bracket) (gs : List Given) → AllGiven c G gs → OkIs (IsGood c G) (in_brackets b gs)
+brackets-good : (c : Tables) (G : List Sort) (b : Bracket) (gs : List CallArgument) → AllGiven c G gs → OkIs (IsGood c G) (in_brackets b gs)
 brackets-good c G bracket.Round gs all = only-good c G gs all
 brackets-good c G bracket.Square gs all = then_is (AreGood c G) (IsGood c G) (elements gs) _ (elements-good c G gs all) (λ xs a. a)
 brackets-good c G bracket.Curly gs all = tt
 
-suffix-good : (n : Names) (G : List Sort) (s : Suffix) (x : Thing) (gs : List Given) → IsGood n.tables G x → AllGiven n.tables G gs → OkIs (IsGood n.tables G) (with_suffix n s x gs)
+suffix-good : (n : Names) (G : List Sort) (s : Suffix) (x : Thing) (gs : List CallArgument) → IsGood n.tables G x → AllGiven n.tables G gs → OkIs (IsGood n.tables G) (with_suffix n s x gs)
 suffix-good n G suffix.Call x gs good all = called-good n G x gs good all
 suffix-good n G suffix.Subscript x gs good all =
     then_is (IsGood n.tables G) (IsGood n.tables G) (only gs) _ (only-good n.tables G gs all) (λ i a. then_is (AreGoodNodes n.tables G) (IsGood n.tables G) (nodes_of x) _ (nodes-good n.tables G x good) (λ k b.

@@ -1,6 +1,6 @@
 -- Operands of the right type.
 use Rattle.std.proofs.Common.{◌≡◌, ℕ, Bool, true, false, refl, subst}
-use Rattle.std.specs.Prelude.{nat_lt, length, Result, Ok, Err}
+use Rattle.std.specs.Prelude.{nat_lt, length, if◌then◌else◌, Result, Ok, Err}
 use Rattle.std.proofs.lemmas.Bool.{eqb-true}
 use Rattle.fisca_num.specs.Number.{Number, zero_number, one_number}
 use Rattle.fisca_num.specs.declared.faults.NumFault.{NumFault}
@@ -9,13 +9,16 @@ use Rattle.fisca_model.specs.declared.value_type.ValueType.{ValueType}
 use Rattle.fisca_model.specs.declared.value_type.ValueType.TheVariants as vt
 use Rattle.fisca_typing.specs.declared.operations.Arithmetic.{Arithmetic}
 use Rattle.fisca_typing.specs.declared.operations.Logic.{Logic}
+use Rattle.fisca_typing.specs.declared.operations.Unary.{Unary}
+use Rattle.fisca_typing.specs.declared.operations.Unary.TheVariants as unary
+use Rattle.fisca_typing.specs.Operations.{unary_type, is_places}
 use Rattle.fisca_model.specs.Tables.{Tables, members_at}
 use Rattle.fisca_typing.specs.Types.{is_numeric}
-use Rattle.fisca_formula_semantics.specs.Answers.{number_by, arithmetic_of, logic_of, comparison_of, same_of, negative_of, not_of}
+use Rattle.fisca_formula_semantics.specs.Answers.{number_by, arithmetic_of, logic_of, comparison_of, same_of, unary_of}
 use Rattle.fisca_model.specs.Values.{Value, number, bool, member}
 use Rattle.fisca_key_semantics.specs.Dialogues.{Dialogue, gives, fails, stuck, asks, ◌>>=◌, with_number, with_bool, with_member, computed}
 use Rattle.fisca_formula_semantics.specs.Safe.{is_of, IsSafe}
-use Rattle.fisca_formula_semantics.specs.Wellformed.{is_below}
+use Rattle.fisca_formula_semantics.specs.Wellformed.{has_places, is_below}
 
 pub safe_then : (c : Tables) (s t : ValueType) (d : Dialogue) (f : Value → Dialogue) → IsSafe c s d → ((v : Value) → is_of c s v ≡ true → IsSafe c t (f v)) → IsSafe c t (d >>= f)
 safe_then c s t (gives v) f safe on = on v safe
@@ -77,8 +80,13 @@ logic-safe c o x y is it = on_bool c vt.Bool x _ is (λ a. on_bool c vt.Bool y _
 pub same-safe : (c : Tables) (e : ℕ) (x y : Value) → is_of c (vt.Enum e) x ≡ true → is_of c (vt.Enum e) y ≡ true → IsSafe c vt.Bool (same_of x y)
 same-safe c e x y is it = on_member c e vt.Bool x _ is (λ i _. on_member c e vt.Bool y _ it (λ j _. refl))
 
-pub negative-safe : (c : Tables) (s : ValueType) (x : Value) → is_numeric s ≡ true → is_of c s x ≡ true → IsSafe c vt.Number (negative_of x)
-negative-safe c s x p is = on_number c s vt.Number x _ p is (λ a. refl)
-
-pub not-safe : (c : Tables) (x : Value) → is_of c vt.Bool x ≡ true → IsSafe c vt.Bool (not_of x)
-not-safe c x is = on_bool c vt.Bool x _ is (λ b. refl)
+pub unary-safe : (c : Tables) (o : Unary) (x : Value) → has_places o ≡ true → is_of c (unary_type o) x ≡ true → IsSafe c (unary_type o) (unary_of o x)
+unary-safe c unary.Not x has is = on_bool c vt.Bool x _ is (λ b. refl)
+unary-safe c unary.Minus x has is = on_number c vt.Number vt.Number x _ refl is (λ a. refl)
+unary-safe c unary.Floor x has is = on_number c vt.Number vt.Number x _ refl is (λ a. computed-safe c _)
+unary-safe c unary.Ceil x has is = on_number c vt.Number vt.Number x _ refl is (λ a. computed-safe c _)
+unary-safe c (unary.Round places) x has is = if_places (is_places places) _ has (on_number c vt.Number vt.Number x _ refl is (λ a. computed-safe c _)) where
+  if_places : (b : Bool) (d : Dialogue) → b ≡ true → IsSafe c vt.Number d → IsSafe c vt.Number (if b then d else stuck)
+  if_places true d e safe = safe
+  if_places false d e safe = cc
+unary-safe c unary.Absolute x has is = on_number c vt.Number vt.Number x _ refl is (λ a. refl)

@@ -10,6 +10,7 @@ use Rattle.fisca_model.specs.declared.value_type.ValueType.TheVariants as vt
 use Rattle.fisca_typing.specs.Formulas.{Formula}
 use Rattle.fisca_typing.specs.Nodes.{Node, Indices, no_index, index}
 use Rattle.fisca_typing.specs.Nodes as node
+use Rattle.fisca_typing.specs.Operations.{unary_type}
 use Rattle.fisca_model.specs.Tables.{Tables, members_at}
 use Rattle.fisca_key_semantics.specs.Dialogues.{Dialogue, gives}
 use Rattle.fisca_model.specs.Values.{number, bool, member}
@@ -17,7 +18,7 @@ use Rattle.fisca_formula_semantics.specs.Meaning.{Locals, local_at, mean, at_ind
 use Rattle.fisca_model.specs.Groups.{Groups, Point, persons_at, has as has_it}
 use Rattle.fisca_formula_semantics.specs.Safe.{IsSafe}
 use Rattle.fisca_formula_semantics.specs.Wellformed.{Sort, Within, IsTyped, AreIndices, IsTypedFrom, IsTypedFormula, HasMembers, choices_of}
-use Rattle.fisca_formula_semantics.proofs.Operands.{safe_then, safe_below, on_number, on_bool, on_member, computed-safe, arithmetic-safe, comparison-safe, logic-safe, same-safe, negative-safe, not-safe}
+use Rattle.fisca_formula_semantics.proofs.Operands.{safe_then, safe_below, on_number, on_bool, on_member, computed-safe, arithmetic-safe, comparison-safe, logic-safe, same-safe, unary-safe}
 use Rattle.fisca_formula_semantics.proofs.Parameters.{place-safe, scale-safe}
 use Rattle.fisca_formula_semantics.proofs.Questions.{HasPerson, asked-safe, at_start-safe, chosen-safe}
 use Rattle.fisca_formula_semantics.proofs.Totals.{total-safe}
@@ -78,10 +79,8 @@ module _ (c : Tables) (g : Groups) (G : List Sort) (ls : Locals) (have : HasMemb
     mean-safe (node.count r) t a typed p has = as_type c t vt.Number _ typed (computed-safe c _)
     mean-safe (node.total o r n) t a typed p has =
         as_type c t _ _ typed.0 (total-safe c o typed.1 _ (persons_at g p r) typed.2 (λ m. mean-safe n typed.1 true typed.3 (at_person p m) tt))
-    mean-safe (node.negative n) t a typed p has =
-        as_type c t vt.Number _ typed.0 (safe_then c typed.1 vt.Number _ _ (mean-safe n typed.1 a typed.3 p has) (λ x is. negative-safe c typed.1 x typed.2 is))
-    mean-safe (node.opposite n) t a typed p has =
-        as_type c t vt.Bool _ typed.0 (safe_then c vt.Bool vt.Bool _ _ (mean-safe n vt.Bool a typed.1 p has) (λ x is. not-safe c x is))
+    mean-safe (node.unary o n) t a typed p has =
+        as_type c t (unary_type o) _ typed.0 (safe_then c (unary_type o) (unary_type o) _ _ (safe_below c typed.2 (unary_type o) _ typed.3 (mean-safe n typed.2 a typed.4 p has)) (λ x is. unary-safe c o x typed.1 is))
     mean-safe (node.arithmetic o m n) t a typed p has =
         as_type c t vt.Number _ typed.0 (safe_then c typed.1 vt.Number _ _ (mean-safe m typed.1 a typed.5 p has) (λ x is.
         safe_then c typed.2 vt.Number _ _ (mean-safe n typed.2 a typed.6 p has) (λ y it. arithmetic-safe c o typed.1 typed.2 x y typed.3 typed.4 is it)))

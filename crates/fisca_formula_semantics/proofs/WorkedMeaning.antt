@@ -15,7 +15,8 @@ use Rattle.fisca_model.specs.declared.value_type.ValueType.TheVariants as vt
 use Rattle.fisca_typing.specs.declared.moves.Move.TheVariants as step
 use Rattle.fisca_typing.specs.declared.operations.Logic.TheVariants as logic
 use Rattle.fisca_typing.specs.declared.operations.Total.TheVariants as total
-use Rattle.fisca_typing.specs.Nodes.{Node, truth, member, local, ask, has_role, total as of_all, opposite, logic as both_of, same, choose, parameter, no_index, index, literal}
+use Rattle.fisca_typing.specs.declared.operations.Unary.TheVariants as one
+use Rattle.fisca_typing.specs.Nodes.{Node, truth, member, local, ask, has_role, total as of_all, unary, logic as both_of, same, choose, parameter, no_index, index, literal}
 use Rattle.fisca_model.specs.Tables.{Tables, Variable, whole_role, subrole_of}
 use Rattle.fisca_key_semantics.specs.Dialogues.{Dialogue, gives, fails, stuck, asks, ◌>>=◌, with_number, computed, period_mismatch, period_out_of_range, no_member, parameter_undefined}
 use Rattle.fisca_model.specs.Values.{number, bool, member as member_value}
@@ -162,7 +163,7 @@ used_twice : mean_from c g [] (own 4 ∷ []) (same (local 0) (local 0)) (at febr
 used_twice = refl
 
 -- what has no type is stuck
-bool_of_number : means (opposite (literal one_number)) february ≡ stuck
+bool_of_number : means (unary one.Not (literal one_number)) february ≡ stuck
 bool_of_number = refl
 
 unknown_local : means (local 0) february ≡ stuck

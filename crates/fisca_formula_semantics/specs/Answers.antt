@@ -1,7 +1,8 @@
 -- What operations make of values.
 use Rattle.std.specs.Prelude.{Bool, not, ◌&&◌, ◌||◌, ◌==◌, if◌then◌else◌, Result, Ok}
 use Rattle.std.specs.Ordering.{is_lt, is_gt, is_eq}
-use Rattle.fisca_num.specs.Number.{Number, number_cmp, opposite_of}
+use Rattle.fisca_num.specs.Number.{Number, number_cmp, negation_of}
+use Rattle.fisca_num.specs.Rounding.{abs_of, ceil_of, floor_of, number_of_whole, rounded_to}
 use Rattle.fisca_num.specs.declared.faults.NumFault.{NumFault}
 use Rattle.fisca_num.specs.Operations.{sum_of, difference_of, product_of, quotient_of}
 use Rattle.fisca_ast.specs.declared.tree.Comparison.{Comparison}
@@ -10,8 +11,11 @@ use Rattle.fisca_typing.specs.declared.operations.Arithmetic.{Arithmetic}
 use Rattle.fisca_typing.specs.declared.operations.Arithmetic.TheVariants as arith
 use Rattle.fisca_typing.specs.declared.operations.Logic.{Logic}
 use Rattle.fisca_typing.specs.declared.operations.Logic.TheVariants as logic
+use Rattle.fisca_typing.specs.declared.operations.Unary.{Unary}
+use Rattle.fisca_typing.specs.declared.operations.Unary.TheVariants as unary
 use Rattle.fisca_model.specs.Values.{Value, number, bool}
-use Rattle.fisca_key_semantics.specs.Dialogues.{Dialogue, gives, computed, with_number, with_bool, with_member}
+use Rattle.fisca_typing.specs.Operations.{is_places}
+use Rattle.fisca_key_semantics.specs.Dialogues.{Dialogue, gives, stuck, computed, with_number, with_bool, with_member}
 
 abbrev pub lower : Number → Number → Number
 lower a b = if is_gt (number_cmp a b) then b else a
@@ -51,8 +55,11 @@ comparison_of o x y = with_number x (λ a. with_number y (λ b. gives (bool (hol
 abbrev pub same_of : Value → Value → Dialogue
 same_of x y = with_member x (λ i. with_member y (λ j. gives (bool (i == j))))
 
-abbrev pub negative_of : Value → Dialogue
-negative_of x = with_number x (λ a. gives (number (opposite_of a)))
-
-abbrev pub not_of : Value → Dialogue
-not_of x = with_bool x (λ b. gives (bool (not b)))
+-- of one value
+abbrev pub unary_of : Unary → Value → Dialogue
+unary_of unary.Not x = with_bool x (λ b. gives (bool (not b)))
+unary_of unary.Minus x = with_number x (λ a. gives (number (negation_of a)))
+unary_of unary.Floor x = with_number x (λ a. computed (number_of_whole (floor_of a)))
+unary_of unary.Ceil x = with_number x (λ a. computed (number_of_whole (ceil_of a)))
+unary_of (unary.Round places) x = if is_places places then with_number x (λ a. computed (rounded_to places a)) else stuck
+unary_of unary.Absolute x = with_number x (λ a. gives (number (abs_of a)))

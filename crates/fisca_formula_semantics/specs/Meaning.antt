@@ -15,9 +15,9 @@ use Rattle.fisca_typing.specs.Formulas.{Formula}
 use Rattle.fisca_typing.specs.Nodes.{Node, Indices, no_index, index}
 use Rattle.fisca_typing.specs.Nodes as node
 use Rattle.fisca_model.specs.Tables.{Tables}
-use Rattle.fisca_formula_semantics.specs.Answers.{arithmetic_of, logic_of, comparison_of, same_of, negative_of, not_of}
+use Rattle.fisca_formula_semantics.specs.Answers.{arithmetic_of, logic_of, comparison_of, same_of, unary_of}
 use Rattle.fisca_model.specs.Values.{Value, number, bool, member}
-use Rattle.fisca_key_semantics.specs.Dialogues.{Fault, Dialogue, gives, fails, stuck, ◌>>=◌, with_number, with_bool, with_member, fault_of, bad_scale, parameter_undefined, no_member}
+use Rattle.fisca_key_semantics.specs.Dialogues.{OperationFault, Dialogue, gives, fails, stuck, ◌>>=◌, with_number, with_bool, with_member, fault_of, bad_scale, parameter_undefined, no_member}
 use Rattle.fisca_model.specs.Groups.{Groups, Point, has, persons_at}
 use Rattle.fisca_formula_semantics.specs.Questions.{at_period, at_start, part_of, counted, ask_known}
 
@@ -29,14 +29,10 @@ parameter_value (Some (param.Number n)) = gives (number n)
 parameter_value (Some (param.Bool b)) = gives (bool b)
 
 -- sums tell the last three before memory alone
-abbrev pub scale_fault : ParamFault → Fault
-scale_fault (fault.Yaml file f) = bad_scale
-scale_fault (fault.BadParameter file line) = bad_scale
-scale_fault (fault.DuplicateName file line) = bad_scale
-scale_fault fault.BadScale = bad_scale
+abbrev pub scale_fault : ParamFault → OperationFault
 scale_fault fault.Undefined = parameter_undefined
 scale_fault (fault.Number e) = fault_of e
-scale_fault fault.Memory = bad_scale
+scale_fault _ = bad_scale
 
 abbrev pub scale_value : Result Number ParamFault → Dialogue
 scale_value (Ok n) = gives (number n)
@@ -90,8 +86,7 @@ abbrev mutual
   mean c g ls (node.has_role e r) p = gives (bool (has r (g.role_of e p.member)))
   mean c g ls (node.count r) p = counted (length (persons_at g p r))
   mean c g ls (node.total o r a) p = total_over o (λ m. mean c g ls a (at_person p m)) (persons_at g p r)
-  mean c g ls (node.negative a) p = mean c g ls a p >>= negative_of
-  mean c g ls (node.opposite a) p = mean c g ls a p >>= not_of
+  mean c g ls (node.unary o a) p = mean c g ls a p >>= unary_of o
   mean c g ls (node.arithmetic o a b) p = mean c g ls a p >>= λ x. mean c g ls b p >>= λ y. arithmetic_of o x y
   mean c g ls (node.logic o a b) p = mean c g ls a p >>= λ x. mean c g ls b p >>= λ y. logic_of o x y
   mean c g ls (node.comparison o a b) p = mean c g ls a p >>= λ x. mean c g ls b p >>= λ y. comparison_of o x y

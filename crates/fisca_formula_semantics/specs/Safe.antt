@@ -11,13 +11,9 @@ use Rattle.fisca_model.specs.Tables.{variable_type}
 abbrev pub is_of : Tables → ValueType → Value → Bool
 is_of c vt.Number (number n) = true
 is_of c vt.Number (bool b) = true
-is_of c vt.Number (member i) = false
-is_of c vt.Bool (number n) = false
 is_of c vt.Bool (bool b) = true
-is_of c vt.Bool (member i) = false
-is_of c (vt.Enum e) (number n) = false
-is_of c (vt.Enum e) (bool b) = false
 is_of c (vt.Enum e) (member i) = nat_lt i (length (members_at c e))
+is_of _ _ _ = false
 
 -- As long as each question, which is for a variable that there is, is answered by a value of its type, the dialogue ends with a value
 -- of this type or with a fault.

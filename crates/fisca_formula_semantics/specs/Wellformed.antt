@@ -10,6 +10,9 @@ use Rattle.fisca_typing.specs.Asks.{asked_type, takes, gives}
 use Rattle.fisca_typing.specs.Formulas.{Formula}
 use Rattle.fisca_typing.specs.Nodes.{Node, Indices, no_index, index}
 use Rattle.fisca_typing.specs.Nodes as node
+use Rattle.fisca_typing.specs.Operations.{unary_type, is_places}
+use Rattle.fisca_typing.specs.declared.operations.Unary.{Unary}
+use Rattle.fisca_typing.specs.declared.operations.Unary.TheVariants as unary
 use Rattle.fisca_typing.specs.Parameters.{kinds_at, is_number, is_bool}
 use Rattle.fisca_model.specs.Tables.{Tables, members_at}
 use Rattle.fisca_typing.specs.Types.{is_numeric}
@@ -23,14 +26,10 @@ pub record Sort : Type 0 where
 -- each value of the first type is one of the second
 abbrev pub is_below : ValueType → ValueType → Bool
 is_below vt.Number vt.Number = true
-is_below vt.Number vt.Bool = false
-is_below vt.Number (vt.Enum e) = false
 is_below vt.Bool vt.Number = true
 is_below vt.Bool vt.Bool = true
-is_below vt.Bool (vt.Enum e) = false
-is_below (vt.Enum e) vt.Number = false
-is_below (vt.Enum e) vt.Bool = false
 is_below (vt.Enum e) (vt.Enum f) = e == f
+is_below _ _ = false
 
 -- values of persons stand only where persons are
 abbrev pub Within : Bool → Bool → Type 0
@@ -53,6 +52,15 @@ abbrev pub choices_of : Indices → ℕ
 choices_of no_index = 1
 choices_of (index n size is) = size * choices_of is
 
+-- where there are places they are within their limits
+abbrev pub has_places : Unary → Bool
+has_places unary.Not = true
+has_places unary.Minus = true
+has_places unary.Floor = true
+has_places unary.Ceil = true
+has_places (unary.Round places) = is_places places
+has_places unary.Absolute = true
+
 abbrev mutual
   pub IsTyped : Tables → List Sort → Node → ValueType → Bool → Type 0
   IsTyped c G (node.literal n) t at_persons = t ≡ vt.Number
@@ -65,8 +73,7 @@ abbrev mutual
   IsTyped c G (node.has_role e r) t at_persons = t ≡ vt.Bool
   IsTyped c G (node.count r) t at_persons = t ≡ vt.Number
   IsTyped c G (node.total o r a) t at_persons = (t ≡ gives o) × (s : ValueType) × (takes o s ≡ true) × IsTyped c G a s true
-  IsTyped c G (node.negative a) t at_persons = (t ≡ vt.Number) × (s : ValueType) × (is_numeric s ≡ true) × IsTyped c G a s at_persons
-  IsTyped c G (node.opposite a) t at_persons = (t ≡ vt.Bool) × IsTyped c G a vt.Bool at_persons
+  IsTyped c G (node.unary o a) t at_persons = (t ≡ unary_type o) × (has_places o ≡ true) × (s : ValueType) × (is_below s (unary_type o) ≡ true) × IsTyped c G a s at_persons
   IsTyped c G (node.arithmetic o a b) t at_persons =
       (t ≡ vt.Number) × (s : ValueType) × (u : ValueType) × (is_numeric s ≡ true) × (is_numeric u ≡ true) × IsTyped c G a s at_persons × IsTyped c G b u at_persons
   IsTyped c G (node.logic o a b) t at_persons = (t ≡ vt.Bool) × IsTyped c G a vt.Bool at_persons × IsTyped c G b vt.Bool at_persons

@@ -6,7 +6,7 @@ use Rattle.std.specs.List.{starts_with}
 use Rattle.std.specs.Option.{option_or}
 use Rattle.std.specs.Str.Pattern.{LacksTextAt, FindsText, SplitsAroundMatch, RFindsText}
 use Rattle.fisca_grid.proofs.Prefixes.{lacks_front, has_front}
-use Rattle.fisca_grid.specs.Words.{around_first, around_last, with_front}
+use Rattle.fisca_grid.specs.Steps.Words.{around_first, around_last, with_front}
 use denote.Ref.{Bor}
 
 nowhere : (n s : List ℕ) → ((i : ℕ) → i ≤ length s → LacksTextAt n s i) → around_first n s ≡ None

@@ -13,7 +13,8 @@ use Rattle.fisca_grid.specs.declared.axes.AxesFault.{AxesFault}
 use Rattle.fisca_grid.specs.declared.axes.AxesFault.TheVariants.{BadCount, CountsDiffer, TooLarge}
 use Rattle.fisca_grid.specs.Axes.{axis_fault, first_axis_fault, is_count}
 use Rattle.fisca_grid.specs.Grid.{count_of, counts_of, groups_of, size_of, has_two_counts, axes_at, axes_in, grid_fault}
-use Rattle.fisca_grid.specs.Turning.{specs_of, turned}
+use Rattle.fisca_grid.specs.Turning.{specs_of}
+use Rattle.fisca_grid.specs.Steps.Turning.{turned}
 
 fault_head : (o : Option AxesFault) (rest : List AxesFault) → slice_get (cons_option o rest) 0 ≡ option_or o (slice_get rest 0)
 fault_head None rest = refl

@@ -5,7 +5,7 @@ use Rattle.std.proofs.lemmas.Bool.Decides.{Decides-eqb}
 use Rattle.std.proofs.lemmas.Slice.Eq.{starts_is}
 use Rattle.std.specs.List.{starts_with}
 use Rattle.std.specs.Str.Pattern.{LacksTextAt, FindsTextPrefix, StripsPrefix}
-use Rattle.fisca_grid.specs.Condition.{after, past_spaces}
+use Rattle.fisca_grid.specs.Steps.Condition.{after, past_spaces}
 use denote.Ref.{Bor}
 
 -- a text that does not stand at the front of s is no beginning of it

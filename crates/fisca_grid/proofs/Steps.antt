@@ -15,7 +15,8 @@ use Rattle.std.specs.Int.{◌∣◌, IsGcd}
 use Rattle.std.proofs.lemmas.Nat.Gcd.{dvd_trans}
 use Rattle.std.proofs.Math.Nat.{eq-zero_of_zero-dvd, zero-mul, div-le_self, div-mul_cancel, mul-le-mul_left, mul-le-mul_right}
 use Rattle.fisca_grid.specs.declared.axes.AxisSpec.{AxisSpec}
-use Rattle.fisca_grid.specs.Axes.{steps_of, way_of, step_ratio, step_of, IsLine, is_bound}
+use Rattle.fisca_grid.specs.Axes.{steps_of, way_of, step_ratio, step_of, IsLine}
+use Rattle.fisca_grid.specs.Steps.Axes.{is_bound}
 use Rattle.std.proofs.lemmas.Bool.Decides.{nat_tests}
 use Rattle.fisca_num.specs.Integers.{sum-times, difference-times, times_assoc, times_swap, times_pos}
 

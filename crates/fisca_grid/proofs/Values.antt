@@ -6,7 +6,8 @@ use Rattle.fisca_num.specs.declared.faults.NumFault.{NumFault}
 use Rattle.fisca_num.specs.Number.{Number}
 use Rattle.fisca_num.specs.Text.{text_of}
 use Rattle.fisca_grid.specs.Axes.{step_of}
-use Rattle.fisca_grid.specs.AxesRow.{tab, cells, line_of, before_values, values_of, is_kept, row_of, IsMetBy}
+use Rattle.fisca_grid.specs.AxesRow.{tab, cells, line_of, before_values, values_of, row_of, IsMetBy}
+use Rattle.fisca_grid.specs.Steps.AxesRow.{is_kept}
 use Rattle.fisca_grid.specs.Condition.{meets}
 use Rattle.fisca_writer.specs.Row.{Row, Nothing, Line}
 use Rattle.fisca_grid.specs.declared.axes.AxisSpec.{AxisSpec}

@@ -1,5 +1,5 @@
 -- An axis of a grid.
-use Rattle.std.specs.Prelude.{◌≡◌, ℕ, ℤ, ◌+◌, ◌-◌, ◌*◌, ◌%◌, ◌^◌, ◌<◌, ◌≤◌, ◌*ℤ◌, max, pos, unsigned_abs, Bool, ◌&&◌, ◌==◌, nat_le, if◌then◌else◌, List, Option, Some, None, Result, slice_get}
+use Rattle.std.specs.Prelude.{◌≡◌, ℕ, ℤ, ◌+◌, ◌-◌, ◌*◌, ◌^◌, ◌<◌, ◌≤◌, ◌*ℤ◌, max, pos, unsigned_abs, Bool, ◌&&◌, nat_le, if◌then◌else◌, List, Option, Some, None, Result, slice_get}
 use Rattle.std.specs.List.{filter_map}
 use Rattle.fisca_num.specs.declared.faults.NumFault.{NumFault}
 use Rattle.fisca_num.specs.Rational.{Ratio, ratio_sum, ratio_difference, ratio_product}
@@ -8,6 +8,7 @@ use Rattle.fisca_num.specs.Operations.{number_of}
 use Rattle.fisca_grid.specs.declared.axes.AxisSpec.{AxisSpec}
 use Rattle.fisca_grid.specs.declared.axes.AxesFault.{AxesFault}
 use Rattle.fisca_grid.specs.declared.axes.AxesFault.TheVariants.{BadCount, BadBound}
+use Rattle.fisca_grid.specs.Steps.Axes.{is_bound}
 
 -- into how many steps an axis divides the way from `min` to `max`: one fewer than its values, and one where it has one value
 abbrev pub steps_of : AxisSpec → ℕ
@@ -24,10 +25,6 @@ step_ratio axis place = ratio_sum (ratio_of axis.min) (ratio_product (record { n
 -- the same as a number. It is always one, by the limits on axes
 abbrev pub step_of : AxisSpec → ℕ → Result Number NumFault
 step_of axis place = number_of (step_ratio axis place)
-
--- a bound of an axis has a size of at most 10^9 and at most three decimals
-abbrev pub is_bound : Number → Bool
-is_bound v = (1000 % v.denominator == 0) && nat_le (unsigned_abs v.numerator) (1000000000 * v.denominator)
 
 -- an axis has from 1 to 1,048,576 values
 abbrev pub is_count : ℕ → Bool

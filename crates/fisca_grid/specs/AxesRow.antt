@@ -1,7 +1,7 @@
 -- The lines of a grid's axes, and the condition on one of them.
-use Rattle.std.specs.Prelude.{◌≡◌, ◌<◌, IfOk, Bool, true, false, ℕ, List, [], ◌∷◌, ◌++◌, Option, Some, None, option_map, slice_get, drop, Result, Ok, Err, if◌then◌else◌}
+use Rattle.std.specs.Prelude.{◌≡◌, ◌<◌, IfOk, Bool, true, ℕ, List, [], ◌∷◌, ◌++◌, Option, Some, None, option_map, slice_get, drop, Result, Ok, Err, if◌then◌else◌}
 use Rattle.std.specs.Fmt.{decimal}
-use Rattle.std.specs.Option.{option_map_or, ForSome}
+use Rattle.std.specs.Option.{ForSome}
 use Rattle.std.specs.declared.convert.Infallible.{Infallible}
 use Rattle.fisca_num.specs.declared.faults.NumFault.{NumFault}
 use Rattle.fisca_num.specs.Number.{Number}
@@ -12,6 +12,7 @@ use Rattle.fisca_grid.specs.Condition.{meets}
 use Rattle.fisca_writer.specs.Row.{Row, Nothing, Line}
 use Rattle.fisca_grid.specs.declared.axes.AxisSpec.{AxisSpec}
 use Rattle.fisca_grid.specs.declared.condition.Filter.{Filter}
+use Rattle.fisca_grid.specs.Steps.AxesRow.{is_kept}
 
 abbrev pub tab : ℕ
 tab = 9
@@ -37,11 +38,6 @@ before_values (Err fault) rest = None
 abbrev pub values_of : List (AxisSpec × ℕ) → Option (List Number)
 values_of [] = Some []
 values_of (at ∷ rest) = before_values (step_of at.0 at.1) (values_of rest)
-
--- the value of the axis that a condition speaks of meets it, if there is a condition
-abbrev pub is_kept : Option Filter → List Number → Bool
-is_kept None values = true
-is_kept (Some filter) values = option_map_or (meets filter.condition) (slice_get values filter.axis) false
 
 -- the line of values that meet the condition, and nothing for others
 abbrev pub row_of : Option Filter → ℕ → Option (List Number) → Row Infallible

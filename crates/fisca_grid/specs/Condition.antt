@@ -1,5 +1,5 @@
 -- How a condition on an axis is read, and when a value meets it.
-use Rattle.std.specs.Prelude.{ℕ, Bool, true, false, List, [], ◌∷◌, length, drop, Option, Some, None, option_and_then, Result, Ok, Err, if◌then◌else◌, ◌==◌, nat_eq, codes}
+use Rattle.std.specs.Prelude.{ℕ, Bool, true, false, List, [], ◌∷◌, length, drop, Option, Some, None, option_and_then, Result, Ok, Err, if◌then◌else◌, nat_eq, codes}
 use Rattle.std.specs.List.{starts_with}
 use Rattle.std.specs.declared.cmp.Ordering.{Ordering}
 use Rattle.std.specs.declared.cmp.Ordering.TheVariants.{Less, Greater}
@@ -10,6 +10,7 @@ use Rattle.fisca_num.specs.Literal.{number_of_literal}
 use Rattle.fisca_grid.specs.declared.condition.AxisComparison.{AxisComparison}
 use Rattle.fisca_grid.specs.declared.condition.AxisCondition.{AxisCondition}
 use Rattle.fisca_grid.specs.declared.condition.AxisComparison.TheVariants.{AtLeast, AtMost, Equal, NotEqual, Above, Below}
+use Rattle.fisca_grid.specs.Steps.Condition.{after, past_spaces}
 
 -- a value that stands so to the constant meets the comparison
 abbrev pub is_met_by : AxisComparison → Ordering → Bool
@@ -25,15 +26,6 @@ is_met_by Above Greater = true
 is_met_by Above other = false
 is_met_by Below Less = true
 is_met_by Below other = false
-
--- the text without this beginning, where it begins so
-abbrev pub after : List ℕ → List ℕ → Option (List ℕ)
-after beginning text = if starts_with nat_eq text beginning then Some (drop (length beginning) text) else None
-
--- the text without its leading spaces
-abbrev pub past_spaces : List ℕ → List ℕ
-past_spaces [] = []
-past_spaces (b ∷ bs) = if b == 32 then past_spaces bs else b ∷ bs
 
 -- the first of these signs that begins the text, with what follows it
 abbrev pub first_sign : List (AxisComparison × List ℕ) → List ℕ → Option (AxisComparison × List ℕ)

@@ -1,5 +1,6 @@
 pub mod Axes
 pub mod Grid
+pub mod Steps
 pub mod Turning
 pub mod AxesFault
 pub mod Condition

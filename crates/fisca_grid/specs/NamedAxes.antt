@@ -1,31 +1,16 @@
 -- The axes that words describe, and their names.
-use Rattle.std.specs.Prelude.{ℕ, ◌+◌, ◌||◌, Bool, false, List, [], ◌∷◌, map, Option, Some, None, option_map, option_and_then}
-use Rattle.std.specs.List.{list_any}
-use Rattle.std.specs.Option.{option_or, option_map_or}
-use Rattle.std.specs.Str.{bytes_eq}
+use Rattle.std.specs.Prelude.{ℕ, ◌+◌, List, [], ◌∷◌, Option, Some, None, option_map, option_and_then}
+use Rattle.std.specs.Option.{option_or}
 use Rattle.fisca_grid.specs.Condition.{condition_of}
 use Rattle.fisca_grid.specs.Words.{axis_of}
 use Rattle.fisca_grid.specs.declared.axes.AxisSpec.{AxisSpec}
 use Rattle.fisca_grid.specs.declared.condition.AxisCondition.{AxisCondition}
 use Rattle.fisca_grid.specs.declared.condition.Filter.{Filter}
 
--- the name of the axis that a word describes
-abbrev pub name_of : List ℕ → List ℕ
-name_of word = option_map_or (λ named. named.0) (axis_of word) []
-
 -- the axes that the words describe, as each has to
 abbrev pub specs_of : List (List ℕ) → Option (List AxisSpec)
 specs_of [] = Some []
 specs_of (word ∷ words) = option_and_then (λ named. option_map (λ specs. named.1 ∷ specs) (specs_of words)) (axis_of word)
-
--- each axis is a group of its own
-abbrev pub own_groups : List AxisSpec → List ℕ
-own_groups = map (λ axis. 1)
-
--- two of the names are the same
-abbrev pub has_twins : List (List ℕ) → Bool
-has_twins [] = false
-has_twins (name ∷ names) = list_any (λ other. bytes_eq other name) names || has_twins names
 
 -- a condition on the axis at an index
 abbrev pub filter_on : ℕ → AxisCondition → Filter

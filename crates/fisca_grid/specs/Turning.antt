@@ -9,10 +9,6 @@ use Rattle.fisca_grid.specs.declared.turning.Turning.{Turning}
 abbrev pub specs_of : List Axis → List AxisSpec
 specs_of = map (λ axis. axis.spec)
 
--- an axis, and its place after so many turns
-abbrev pub turned : ℕ → Axis → AxisSpec × ℕ
-turned turns axis = (axis.spec, turns % axis.spec.count)
-
 -- an axis with its place at a position
 abbrev pub placed : ℕ → Turning → AxisSpec × ℕ
 placed position t = (t.axis.spec, (position / t.pace) % t.axis.spec.count)

@@ -4,7 +4,8 @@ ghost use Rattle.std.specs.Prelude.{◌≡◌, ◌≢◌, ℕ, ◌≤◌, ◌<�
 ghost use Rattle.std.specs.Int.{◌∣◌, IsGcd};
 ghost use Rattle.fisca_num.specs.Number.{number_cmp};
 ghost use Rattle.fisca_num.specs.Operations.{number_of};
-ghost use Rattle.fisca_grid.specs.Axes.{axis_fault, is_bound, step_of, IsLine};
+ghost use Rattle.fisca_grid.specs.Axes.{axis_fault, step_of, IsLine};
+ghost use Rattle.fisca_grid.specs.Steps.Axes.{is_bound};
 
 use fisca_num::Fraction;
 use std::alloc::{AllocError, AllocFailed};

@@ -9,7 +9,7 @@ ghost use Rattle.fisca_grid.specs.AxesRow.{values_of, cells, tab, line_of, IsMet
 use super::condition::Filter;
 use super::grid::Axes;
 use fisca_num::Fraction;
-use fisca_writer::{Groups, RowFault, Rows, Selection};
+use fisca_writer::{GroupLengths, RowFault, Rows, Selection};
 use std::alloc::{AllocError, Global};
 use std::convert::Infallible;
 
@@ -49,7 +49,7 @@ impl Rows for AxisRows {
 
     ghost refused = { λ _ _ _. ⊤ };
 
-    fn groups(&self) -> Groups {
+    fn groups(&self) -> GroupLengths {
         self.axes.groups()
     }
 

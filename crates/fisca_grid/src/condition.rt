@@ -1,7 +1,8 @@
 //! The condition on an axis's values.
 
 ghost use Rattle.std.specs.Prelude.{◌≡◌, ℕ, ◌<◌, MatchOption, Some, None, length, option_map};
-ghost use Rattle.fisca_grid.specs.Condition.{after, past_spaces, comparison_of, comparison_in, condition_of, is_met_by};
+ghost use Rattle.fisca_grid.specs.Condition.{comparison_of, comparison_in, condition_of, is_met_by};
+ghost use Rattle.fisca_grid.specs.Steps.Condition.{after, past_spaces};
 
 use fisca_num::Fraction;
 use std::cmp::Ordering;

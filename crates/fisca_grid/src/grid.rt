@@ -6,12 +6,13 @@ ghost use Rattle.std.specs.List.{list_any};
 ghost use Rattle.fisca_num.specs.Number.{number_cmp};
 ghost use Rattle.fisca_grid.specs.Axes.{first_axis_fault, step_of};
 ghost use Rattle.fisca_grid.specs.Grid.{groups_of, count_of, counts_of, has_two_counts, size_of, axes_in, axes_at, leading_in, grid_fault, axes_fault};
-ghost use Rattle.fisca_grid.specs.Turning.{specs_of, axes_of, turned, placed};
+ghost use Rattle.fisca_grid.specs.Turning.{specs_of, axes_of, placed};
+ghost use Rattle.fisca_grid.specs.Steps.Turning.{turned};
 
 use super::axes::{AxesFault, Axis, AxisSpec};
 use super::turning::Turning;
 use fisca_num::Fraction;
-use fisca_writer::Groups;
+use fisca_writer::GroupLengths;
 use std::alloc::{AllocError, Global};
 use std::cmp::Ordering;
 use std::marker::Model;
@@ -102,7 +103,7 @@ fn spread(
     alloc: Global,
     axes: &[Axis],
     lengths: &[u32],
-) -> Result<(Vec<Turning>, Groups), AllocError>
+) -> Result<(Vec<Turning>, GroupLengths), AllocError>
     requires grouped { sum lengths.now ≡ length axes.now }
     requires alike { list_any has_two_counts (groups_of (specs_of axes.now) lengths.now) ≡ false }
     requires some { 0 < size_of (groups_of (specs_of axes.now) lengths.now) }
@@ -113,7 +114,7 @@ fn spread(
     ensures groups { IfOk result (λ spread. spread.1 ≡ counts_of (groups_of (specs_of axes.now) lengths.now)) }
 {
     let mut turning = Vec::with_capacity(alloc, axes.len())?;
-    let mut groups = Groups::new();
+    let mut groups = GroupLengths::new();
     let mut rest = axes;
     for length in lengths {
         let (group, others) = rest.split_at(*length as usize);
@@ -130,7 +131,7 @@ fn spread(
 pub struct Axes {
     axes: Vec<Turning>,
     lengths: Vec<u32>,
-    groups: Groups,
+    groups: GroupLengths,
 }
 
 impl Model for Axes {
@@ -180,7 +181,7 @@ impl Axes {
     }
 
     /// The lengths of its groups, as numbers of values.
-    pub fn groups(&self) -> Groups
+    pub fn groups(&self) -> GroupLengths
         ensures { result ≡ counts_of self.now }
     {
         self.groups.copied()

@@ -3,7 +3,8 @@
 ghost use Rattle.std.specs.Prelude.{◌≡◌, map, option_map, IfOk, string_bytes};
 ghost use Rattle.std.specs.List.{list_any};
 ghost use Rattle.std.specs.Str.{bytes_eq};
-ghost use Rattle.fisca_grid.specs.NamedAxes.{name_of, specs_of, own_groups, has_twins, filter_from};
+ghost use Rattle.fisca_grid.specs.NamedAxes.{specs_of, filter_from};
+ghost use Rattle.fisca_grid.specs.Steps.NamedAxes.{name_of, own_groups, has_twins};
 
 use super::axes::AxisSpec;
 use super::condition::{Filter, read_condition};

@@ -3,7 +3,8 @@
 ghost use Rattle.std.specs.Prelude.{◌≡◌, ℕ, ◌<◌, MatchOption, Some, None, length, option_map};
 ghost use Rattle.std.specs.List.{list_all};
 ghost use Rattle.std.specs.Char.{is_ascii_digit};
-ghost use Rattle.fisca_grid.specs.Words.{around_first, around_last, is_word_byte, is_identifier, count_of, bounds_of, spec_of, axis_of};
+ghost use Rattle.fisca_grid.specs.Words.{count_of, bounds_of, spec_of, axis_of};
+ghost use Rattle.fisca_grid.specs.Steps.Words.{around_first, around_last, is_word_byte, is_identifier};
 
 use super::axes::AxisSpec;
 use fisca_num::Fraction;

@@ -2,3 +2,4 @@ pub mod Grouped
 pub mod Homes
 pub mod Lookup
 pub mod Rosters
+pub mod Steps

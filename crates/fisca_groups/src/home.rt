@@ -2,6 +2,7 @@
 
 ghost use Rattle.std.specs.Prelude.{◌≡◌, ◌≤◌, length, replicate, slice_get, Some, None, IfOk};
 ghost use Rattle.fisca_groups.specs.Homes as spec;
+ghost use Rattle.fisca_groups.specs.Steps.Homes as steps;
 ghost use Rattle.fisca_groups.specs.Lookup.{if_held};
 
 use fisca_model::RolePlace;
@@ -65,7 +66,7 @@ impl Homes {
 
     /// Whether a group holds this person.
     pub fn is_held(&self, person: usize) -> bool
-        ensures { result ≡ spec.is_held self.now person }
+        ensures { result ≡ steps.is_held self.now person }
     {
         match self.items.as_slice().get(person) {
             Some(home) => home.is_some(),

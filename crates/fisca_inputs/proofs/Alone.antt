@@ -5,8 +5,10 @@ use Rattle.std.specs.List.{AllByRecursion, list_all, list_any}
 use Rattle.std.proofs.lemmas.Bool.{and_parts, eqb-true}
 use Rattle.fisca_params.specs.Results.{and_then}
 use Rattle.fisca_time.specs.Period.{Span}
-use Rattle.fisca_inputs.specs.Defaults.{and_row, beside, beside_by, count_of, first_line, row_key, row_of, row_with, rows_with, rows_of, with_defaults}
-use Rattle.fisca_inputs.specs.Entries.{Entries, has, key, put, put_all, same_key}
+use Rattle.fisca_inputs.specs.Defaults.{and_row, beside, beside_by, row_key, row_with, rows_with, rows_of, with_defaults}
+use Rattle.fisca_inputs.specs.Steps.Defaults.{count_of, first_line, row_of}
+use Rattle.fisca_inputs.specs.Entries.{Entries, key, same_key}
+use Rattle.fisca_inputs.specs.Steps.Entries.{has, put, put_all}
 use Rattle.fisca_inputs.specs.Rules.{Rule}
 use Rattle.fisca_inputs.specs.declared.given.Given.{Given}
 use Rattle.fisca_model.specs.declared.value.Value.{Value}

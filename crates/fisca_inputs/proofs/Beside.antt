@@ -9,7 +9,8 @@ use Rattle.fisca_params.specs.Results.{and_then}
 use Rattle.fisca_time.specs.Period.{span_cmp}
 use Rattle.fisca_model.specs.Tables.{otherwise}
 use Rattle.fisca_model.specs.contracts.key.KeyEq.TheImpl.Laws.{laws-law}
-use Rattle.fisca_inputs.specs.Defaults.{count_of, first_line, row_key, row_of, row_with, and_row, rows_with, rows_of, beside, beside_by, with_defaults}
+use Rattle.fisca_inputs.specs.Defaults.{row_key, row_with, and_row, rows_with, rows_of, beside, beside_by, with_defaults}
+use Rattle.fisca_inputs.specs.Steps.Defaults.{count_of, first_line, row_of}
 use Rattle.fisca_inputs.specs.Entries.{Entries, key, same_key, value_at}
 use Rattle.fisca_inputs.specs.Rules.{Rule}
 use Rattle.fisca_inputs.specs.Totals.{default_for, is_beside, value_or_default}

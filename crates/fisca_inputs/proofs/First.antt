@@ -12,8 +12,10 @@ use Rattle.fisca_params.specs.Results.{and_then}
 use Rattle.fisca_time.specs.Period.{span_cmp}
 use Rattle.fisca_model.specs.Tables.{otherwise}
 use Rattle.fisca_model.specs.contracts.key.KeyEq.TheImpl.Laws.{laws-law}
-use Rattle.fisca_inputs.specs.Defaults.{HaveFirst, and_row, beside, row_of}
-use Rattle.fisca_inputs.specs.Entries.{Entries, key, same_key, has, value_at, put, put_all}
+use Rattle.fisca_inputs.specs.Defaults.{HaveFirst, and_row, beside}
+use Rattle.fisca_inputs.specs.Steps.Defaults.{row_of}
+use Rattle.fisca_inputs.specs.Entries.{Entries, key, same_key, value_at}
+use Rattle.fisca_inputs.specs.Steps.Entries.{has, put, put_all}
 use Rattle.fisca_inputs.specs.Rules.{Rule}
 use Rattle.fisca_inputs.specs.declared.given.Given.{Given}
 use Rattle.fisca_model.specs.declared.value.Value.{Value}

@@ -17,7 +17,8 @@ use Rattle.indexmap.specs.IndexMap.{set_value_at}
 use Rattle.fisca_time.specs.Period.{span_cmp}
 use Rattle.fisca_model.specs.contracts.key.KeyEq.TheImpl.Laws.{laws-law}
 use Rattle.fisca_inputs.specs.Anew.{set_keys}
-use Rattle.fisca_inputs.specs.Entries.{Entries, has, same_key, value_at}
+use Rattle.fisca_inputs.specs.Entries.{Entries, same_key, value_at}
+use Rattle.fisca_inputs.specs.Steps.Entries.{has}
 use Rattle.fisca_inputs.specs.Places.{AreNumbered, AreOccupied, AreOnce, Pages, StandsAt, number_at, number_in, number_of, numbered_from, page_key}
 use Rattle.fisca_model.specs.declared.value.Value.{Value}
 use Rattle.fisca_model.specs.declared.key.Key.{Key}

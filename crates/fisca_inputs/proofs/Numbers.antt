@@ -4,7 +4,7 @@ use Rattle.std.specs.Prelude.{pos, Ok}
 use Rattle.fisca_num.specs.Rational.{IsSame, ratio_difference}
 use Rattle.fisca_num.specs.Number.{Number, ratio_of, whole_number}
 use Rattle.fisca_num.specs.Operations.{number_of, difference_of, only_number_of}
-use Rattle.fisca_inputs.specs.Sharing.{part_ratio}
+use Rattle.fisca_inputs.specs.Steps.Sharing.{part_ratio}
 
 abbrev pub whole : (n : ℕ) → n < 2 ^ 63 → Number
 whole n h = whole_number (pos n) h

@@ -9,7 +9,7 @@ use Rattle.std.specs.declared.cmp.Ordering.TheVariants.{Less, Equal, Greater}
 use Rattle.fisca_time.specs.Instant.{date_cmp}
 use Rattle.fisca_time.specs.Period.{start_of, unit_of}
 use Rattle.fisca_time.specs.Unit.{unit_cmp}
-use Rattle.fisca_inputs.specs.Order.{length_of, given_cmp, put_in_order}
+use Rattle.fisca_inputs.specs.Steps.Order.{length_of, given_cmp, put_in_order}
 use Rattle.fisca_inputs.specs.Ranks.{Rank, rank_cmp}
 use Rattle.fisca_inputs.specs.Rules.{Rule}
 use Rattle.fisca_inputs.specs.declared.given.Given.{Given}

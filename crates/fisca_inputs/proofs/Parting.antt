@@ -7,7 +7,7 @@ use Rattle.fisca_num.specs.Rational.{over}
 use Rattle.fisca_num.specs.Number.{Number}
 use Rattle.fisca_num.specs.Operations.{number_of, number_over, quotient_of, only_number_of}
 use Rattle.fisca_num.specs.declared.faults.NumFault.{NumFault}
-use Rattle.fisca_inputs.specs.Sharing.{part_ratio}
+use Rattle.fisca_inputs.specs.Steps.Sharing.{part_ratio}
 use Rattle.fisca_inputs.proofs.Numbers.{whole}
 
 whole_is : (n : ℕ) (h : n < 2 ^ 63) → number_over (pos n) (pos 1) ≡ Ok (whole n h)

@@ -2,7 +2,8 @@
 use Rattle.std.proofs.Common.{◌≡◌, ℕ, ◌<◌, [], ◌∷◌, ◌++◌, length, sym, ap}
 use Rattle.std.specs.Prelude.{Ok}
 use Rattle.std.proofs.lemmas.Bool.{lt-ltb}
-use Rattle.fisca_inputs.specs.Entries.{Entries, limit, put}
+use Rattle.fisca_inputs.specs.Entries.{Entries, limit}
+use Rattle.fisca_inputs.specs.Steps.Entries.{put}
 use Rattle.fisca_model.specs.declared.key.Key.{Key}
 use Rattle.fisca_model.specs.declared.value.Value.{Value}
 

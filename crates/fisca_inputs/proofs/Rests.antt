@@ -6,7 +6,8 @@ use Rattle.fisca_num.specs.Operations.{difference_of}
 use Rattle.fisca_num.specs.declared.faults.NumFault.{NumFault}
 use Rattle.fisca_inputs.specs.Entries.{Entries, value_at}
 use Rattle.fisca_inputs.specs.Faults.{at_line}
-use Rattle.fisca_inputs.specs.Sharing.{computed, without, rest_of, count_free}
+use Rattle.fisca_inputs.specs.Sharing.{rest_of, count_free}
+use Rattle.fisca_inputs.specs.Steps.Sharing.{computed, without}
 use Rattle.fisca_inputs.specs.declared.fault.SituationFault.{SituationFault}
 use Rattle.fisca_inputs.specs.declared.fault.SituationKind.TheVariants.{BadValue, Memory}
 use Rattle.fisca_model.specs.declared.value.Value.{Value}

@@ -4,8 +4,9 @@ use Rattle.std.specs.Prelude.{Ok, Err, nat_lt}
 use Rattle.std.specs.List.{range_with_len}
 use Rattle.std.proofs.lemmas.Option.{slice_get-map}
 use Rattle.fisca_time.specs.Period.{Span}
-use Rattle.fisca_inputs.specs.Defaults.{row_of}
-use Rattle.fisca_inputs.specs.Entries.{Entries, key, has, limit, put_free}
+use Rattle.fisca_inputs.specs.Steps.Defaults.{row_of}
+use Rattle.fisca_inputs.specs.Entries.{Entries, key, limit}
+use Rattle.fisca_inputs.specs.Steps.Entries.{has, put_free}
 use Rattle.fisca_inputs.specs.Faults.{at_line}
 use Rattle.fisca_inputs.specs.declared.fault.SituationKind.TheVariants.{TooMany}
 use Rattle.fisca_model.specs.declared.value.Value.{Value}

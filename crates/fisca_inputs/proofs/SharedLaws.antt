@@ -8,10 +8,12 @@ use Rattle.fisca_params.specs.Results.{and_then}
 use Rattle.fisca_inputs.specs.Defaults.{rows_of, with_defaults}
 use Rattle.fisca_inputs.specs.Entries.{Entries, key, value_at}
 use Rattle.fisca_inputs.specs.Inputs.{inputs_of}
-use Rattle.fisca_inputs.specs.Order.{in_order}
+use Rattle.fisca_inputs.specs.Steps.Order.{in_order}
 use Rattle.fisca_inputs.specs.Faults.{at_line}
-use Rattle.fisca_inputs.specs.Rules.{Rule, is_longer}
-use Rattle.fisca_inputs.specs.Sharing.{all_shared, shared, parts_of, over_parts, divided_value, alone}
+use Rattle.fisca_inputs.specs.Rules.{Rule}
+use Rattle.fisca_inputs.specs.Steps.Rules.{is_longer}
+use Rattle.fisca_inputs.specs.Sharing.{all_shared, shared, over_parts, divided_value, alone}
+use Rattle.fisca_inputs.specs.Steps.Sharing.{parts_of}
 use Rattle.fisca_inputs.specs.Totals.{AddUpTo, value_or_default}
 use Rattle.fisca_inputs.specs.declared.fault.SituationFault.{SituationFault}
 use Rattle.fisca_inputs.specs.declared.fault.SituationKind.TheVariants.{PeriodMismatch}

@@ -13,9 +13,11 @@ use Rattle.fisca_num.specs.declared.faults.NumFault.{NumFault}
 use Rattle.fisca_params.specs.Results.{and_then}
 use Rattle.fisca_model.specs.Tables.{otherwise}
 use Rattle.fisca_model.specs.contracts.key.KeyEq.TheImpl.Laws.{laws-law}
-use Rattle.fisca_inputs.specs.Entries.{Entries, same_key, value_at, put_all}
+use Rattle.fisca_inputs.specs.Entries.{Entries, same_key, value_at}
+use Rattle.fisca_inputs.specs.Steps.Entries.{put_all}
 use Rattle.fisca_inputs.specs.Faults.{at_line}
-use Rattle.fisca_inputs.specs.Sharing.{computed, without, rest_of, count_free, part_ratio, share_of, spread, divided}
+use Rattle.fisca_inputs.specs.Sharing.{rest_of, count_free, divided}
+use Rattle.fisca_inputs.specs.Steps.Sharing.{computed, without, part_ratio, share_of, spread}
 use Rattle.fisca_inputs.specs.Totals.{IsOver, HasOver, total_of, AddUpTo}
 use Rattle.fisca_inputs.specs.declared.fault.SituationFault.{SituationFault}
 use Rattle.fisca_inputs.specs.declared.fault.SituationKind.TheVariants.{InconsistentInput}

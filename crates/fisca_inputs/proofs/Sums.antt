@@ -8,7 +8,7 @@ use Rattle.fisca_num.specs.Number.{Number, ratio_of}
 use Rattle.fisca_num.specs.Operations.{number_of, difference_of, is_number_of}
 use Rattle.fisca_num.specs.Reduced.{cancel_right}
 use Rattle.fisca_num.specs.Value.{IsNumberOf}
-use Rattle.fisca_inputs.specs.Sharing.{part_ratio}
+use Rattle.fisca_inputs.specs.Steps.Sharing.{part_ratio}
 use Rattle.fisca_inputs.specs.Totals.{IsOver}
 
 -- two fractions over natural parts

@@ -17,14 +17,18 @@ use Rattle.fisca_model.specs.Tables.{Tables}
 use Rattle.fisca_model.specs.declared.value_type.ValueType.{ValueType}
 use Rattle.fisca_model.specs.declared.value_type.ValueType.TheVariants as vt
 use Rattle.fisca_time.specs.Period.{subs}
-use Rattle.fisca_inputs.specs.Defaults.{count_of, first_line, row_of, row_with, rows_of, beside, beside_by, with_defaults}
-use Rattle.fisca_inputs.specs.Entries.{Entries, key, same_key, value_at, has, limit, put, put_free, put_all}
+use Rattle.fisca_inputs.specs.Defaults.{row_with, rows_of, beside, beside_by, with_defaults}
+use Rattle.fisca_inputs.specs.Steps.Defaults.{count_of, first_line, row_of}
+use Rattle.fisca_inputs.specs.Entries.{Entries, key, same_key, value_at, limit}
+use Rattle.fisca_inputs.specs.Steps.Entries.{has, put, put_free, put_all}
 use Rattle.fisca_inputs.specs.Faults.{at_line}
 use Rattle.fisca_inputs.specs.Inputs.{inputs_of}
-use Rattle.fisca_inputs.specs.Order.{given_cmp, put_in_order, in_order_with, in_order}
-use Rattle.fisca_inputs.specs.Rules.{Rule, is_longer}
+use Rattle.fisca_inputs.specs.Steps.Order.{given_cmp, put_in_order, in_order_with, in_order}
+use Rattle.fisca_inputs.specs.Rules.{Rule}
+use Rattle.fisca_inputs.specs.Steps.Rules.{is_longer}
 use Rattle.fisca_model.specs.Seen.{value_seen}
-use Rattle.fisca_inputs.specs.Sharing.{rest_of, count_free, share_of, spread, divided_value, alone, parts_of, over_parts, own_key, shared_by, all_shared}
+use Rattle.fisca_inputs.specs.Sharing.{rest_of, count_free, divided_value, alone, over_parts, own_key, shared_by, all_shared}
+use Rattle.fisca_inputs.specs.Steps.Sharing.{share_of, spread, parts_of}
 use Rattle.fisca_inputs.specs.Typed.{is_typed, IsValueOf, GivensTyped, EntriesTyped, DefaultsTyped}
 use Rattle.fisca_inputs.specs.declared.fault.SituationFault.{SituationFault}
 use Rattle.fisca_inputs.specs.declared.fault.SituationKind.TheVariants.{InconsistentInput, PeriodMismatch, TooMany}

@@ -17,7 +17,7 @@ use Rattle.fisca_model.specs.declared.value.Value.TheVariants as v
 use Rattle.fisca_inputs.specs.Entries.{key}
 use Rattle.fisca_inputs.specs.Faults.{at_line}
 use Rattle.fisca_inputs.specs.Inputs.{inputs_of, and_given, without_marked}
-use Rattle.fisca_inputs.specs.Order.{in_order}
+use Rattle.fisca_inputs.specs.Steps.Order.{in_order}
 use Rattle.fisca_inputs.specs.Rules.{Rule, is_accepted}
 use Rattle.fisca_inputs.proofs.Numbers.{whole, difference_is, part_is}
 

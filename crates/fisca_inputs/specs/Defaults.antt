@@ -1,32 +1,19 @@
 -- Defaults beside another member's input.
-use Rattle.std.specs.Prelude.{◌≡◌, ◌<◌, true, ℕ, ◌==◌, List, [], ◌∷◌, ◌++◌, map, if◌then◌else◌, slice_get, Option, Some, None, Result, Ok}
-use Rattle.std.specs.List.{range_with_len, list_any}
-use Rattle.std.specs.Option.{unwrap_or}
+use Rattle.std.specs.Prelude.{◌≡◌, ◌<◌, true, ℕ, List, [], ◌∷◌, ◌++◌, if◌then◌else◌, slice_get, Option, Some, None, Result, Ok}
+use Rattle.std.specs.List.{list_any}
 use Rattle.fisca_params.specs.Results.{and_then}
-use Rattle.fisca_time.specs.Period.{Span}
-use Rattle.fisca_inputs.specs.Entries.{Entries, key, same_key, has, put_all}
+use Rattle.fisca_inputs.specs.Entries.{Entries, key, same_key}
+use Rattle.fisca_inputs.specs.Steps.Entries.{has, put_all}
 use Rattle.fisca_inputs.specs.Rules.{Rule}
 use Rattle.fisca_inputs.specs.declared.fault.SituationFault.{SituationFault}
 use Rattle.fisca_inputs.specs.declared.given.Given.{Given}
 use Rattle.fisca_model.specs.declared.key.Key.{Key}
 use Rattle.fisca_model.specs.declared.value.Value.{Value}
-
--- the line of the first input of a variable, in the order of the file
-abbrev pub first_line : List Given → ℕ → ℕ
-first_line [] x = 0
-first_line (g ∷ gs) x = if g.variable == x then g.line else first_line gs x
-
--- the keys of all members at one period
-abbrev pub row_of : ℕ → ℕ → Span → List Key
-row_of x count p = map (λ m. key x m p) (range_with_len 0 count)
+use Rattle.fisca_inputs.specs.Steps.Defaults.{first_line, row_of, count_of}
 
 abbrev pub row_with : ℕ → Option Value → List Key → Entries → Result Entries SituationFault
 row_with line None ks es = Ok es
 row_with line (Some x) ks es = put_all line x ks es
-
--- how many persons or groups there are of a kind
-abbrev pub count_of : List ℕ → ℕ → ℕ
-count_of counts entity = unwrap_or (slice_get counts entity) 0
 
 abbrev pub beside_by : Option Rule → List ℕ → List Given → Key → Entries → Result Entries SituationFault
 beside_by None counts gs k es = Ok es

@@ -3,12 +3,12 @@ pub mod Defaults
 pub mod Entries
 pub mod Faults
 pub mod Inputs
-pub mod Order
 pub mod Outcomes
 pub mod Overlaps
 pub mod Places
 pub mod Ranks
 pub mod Rules
 pub mod Sharing
+pub mod Steps
 pub mod Totals
 pub mod Typed

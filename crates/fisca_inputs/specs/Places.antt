@@ -3,7 +3,8 @@ use Rattle.std.specs.Prelude.{◌≡◌, ℕ, suc, ◌/◌, ◌%◌, if◌then�
 use Rattle.std.specs.List.{IsDistinct}
 use Rattle.std.specs.Map.{keys_of, lookup}
 use Rattle.std.specs.Option.{unwrap_or}
-use Rattle.fisca_inputs.specs.Entries.{Entries, has, key, same_key}
+use Rattle.fisca_inputs.specs.Entries.{Entries, key, same_key}
+use Rattle.fisca_inputs.specs.Steps.Entries.{has}
 use Rattle.fisca_model.specs.declared.value.Value.{Value}
 use Rattle.fisca_model.specs.declared.key.Key.{Key}
 

@@ -1,14 +1,12 @@
 -- What inputs turn on of a variable, and the periods that one is given for.
-use Rattle.std.specs.Prelude.{ℕ, Bool, true, false, ◌&&◌, ◌||◌, nat_lt, length, Option, Some, None}
+use Rattle.std.specs.Prelude.{ℕ, Bool, true, false, ◌&&◌, ◌||◌, Option, Some, None}
 use Rattle.fisca_model.specs.Periods.{fits}
-use Rattle.fisca_symbols.specs.declared.variable.DefaultValue.{DefaultValue}
-use Rattle.fisca_symbols.specs.declared.variable.DefaultValue.TheVariants as default
 use Rattle.fisca_symbols.specs.declared.variable.SetInput.{SetInput}
 use Rattle.fisca_symbols.specs.declared.variable.Variable.{Variable}
-use Rattle.fisca_time.specs.Period.{Span, subs}
+use Rattle.fisca_time.specs.Period.{Span}
 use Rattle.fisca_time.specs.declared.unit.Unit.{Unit}
 use Rattle.fisca_model.specs.declared.value.Value.{Value}
-use Rattle.fisca_model.specs.declared.value.Value.TheVariants as v
+use Rattle.fisca_inputs.specs.Steps.Rules.{default_of, is_longer}
 
 -- its entity, its definition period, how longer inputs are shared, and what stands beside another member's input
 pub record Rule : Type 0 where
@@ -17,20 +15,8 @@ pub record Rule : Type 0 where
   pub set_input : Option SetInput
   pub default : Option Value
 
--- days and texts have no inputs here
-abbrev pub default_of : DefaultValue → Option Value
-default_of (default.Number n) = Some (v.Number n)
-default_of (default.Bool b) = Some (v.Bool b)
-default_of (default.Member i) = Some (v.Member i)
-default_of (default.Date d) = None
-default_of (default.Text t) = None
-
 abbrev pub rule_of : Variable → Rule
 rule_of x = record { entity = x.entity; unit = x.definition_period; set_input = x.set_input; default = default_of x.default_value }
-
--- the period has more than one of the variable's definition periods
-abbrev pub is_longer : Unit → Span → Bool
-is_longer unit p = nat_lt 1 (length (subs p unit))
 
 abbrev pub is_some_rule : Option SetInput → Bool
 is_some_rule None = false

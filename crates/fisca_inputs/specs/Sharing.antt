@@ -1,38 +1,24 @@
 -- Given inputs, one after another, as values of keys.
-use Rattle.std.specs.Prelude.{ℕ, suc, pos, ◌*◌, ◌==◌, List, [], ◌∷◌, map, if◌then◌else◌, slice_get, Option, Some, None, Result, Ok, Err}
-use Rattle.std.specs.Ordering.{int_eq}
+use Rattle.std.specs.Prelude.{ℕ, suc, List, [], ◌∷◌, if◌then◌else◌, slice_get, Option, Some, None, Result, Ok, Err}
 use Rattle.fisca_model.specs.Periods.{fits, key_period}
 use Rattle.fisca_num.specs.Number.{Number}
-use Rattle.fisca_num.specs.Rational.{Ratio}
-use Rattle.fisca_num.specs.Operations.{number_of, difference_of}
-use Rattle.fisca_num.specs.declared.faults.NumFault.{NumFault}
 use Rattle.fisca_params.specs.Results.{and_then}
 use Rattle.fisca_symbols.specs.declared.variable.SetInput.{SetInput}
 use Rattle.fisca_symbols.specs.declared.variable.SetInput.TheVariants as sharing
-use Rattle.fisca_time.specs.Period.{subs}
-use Rattle.fisca_time.specs.declared.unit.Unit.{Unit}
-use Rattle.fisca_inputs.specs.Entries.{Entries, key, value_at, has, put, put_all}
+use Rattle.fisca_inputs.specs.Entries.{Entries, key, value_at}
+use Rattle.fisca_inputs.specs.Steps.Entries.{has, put, put_all}
 use Rattle.fisca_inputs.specs.Faults.{at_line}
-use Rattle.fisca_inputs.specs.Rules.{Rule, is_longer}
+use Rattle.fisca_inputs.specs.Rules.{Rule}
+use Rattle.fisca_inputs.specs.Steps.Rules.{is_longer}
 use Rattle.fisca_inputs.specs.declared.fault.SituationFault.{SituationFault}
 use Rattle.fisca_inputs.specs.declared.fault.SituationKind.TheVariants.{UnknownVariable, BadValue, PeriodMismatch, InconsistentInput}
 use Rattle.fisca_inputs.specs.declared.given.Given.{Given}
 use Rattle.fisca_model.specs.declared.key.Key.{Key}
 use Rattle.fisca_model.specs.declared.value.Value.{Value}
 use Rattle.fisca_model.specs.declared.value.Value.TheVariants as v
-
--- what is too wide is a bad value
-abbrev pub computed : ℕ → Result Number NumFault → Result Number SituationFault
-computed line (Ok n) = Ok n
-computed line (Err e) = Err (at_line line BadValue)
+use Rattle.fisca_inputs.specs.Steps.Sharing.{without, spread, parts_of}
 
 -- Dividing
-
-abbrev pub without : ℕ → Option Value → Number → Result Number SituationFault
-without line None n = Ok n
-without line (Some (v.Number m)) n = computed line (difference_of n m)
-without line (Some (v.Bool b)) n = Err (at_line line BadValue)
-without line (Some (v.Member i)) n = Err (at_line line BadValue)
 
 -- a number less the values that these keys have, one after another
 abbrev pub rest_of : ℕ → Entries → List Key → Number → Result Number SituationFault
@@ -42,19 +28,6 @@ rest_of line es (k ∷ ks) n = and_then (without line (value_at es k) n) (rest_o
 abbrev pub count_free : Entries → List Key → ℕ
 count_free es [] = 0
 count_free es (k ∷ ks) = if has es k then count_free es ks else suc (count_free es ks)
-
--- one of so many equal parts of a number
-abbrev pub part_ratio : Number → ℕ → Ratio
-part_ratio n count = record { numerator = n.numerator; denominator = n.denominator * count }
-
-abbrev pub share_of : ℕ → Number → ℕ → Result Number SituationFault
-share_of line n count = computed line (number_of (part_ratio n count))
-
--- equally over those that have none; where all have one, nothing may be left
-abbrev pub spread : ℕ → ℕ → List Key → Entries → Number → Result Entries SituationFault
-spread line count ks es n =
-    if count == 0 then (if int_eq n.numerator (pos 0) then Ok es else Err (at_line line InconsistentInput))
-    else and_then (share_of line n count) (λ share. put_all line (v.Number share) ks es)
 
 -- the number less what the parts have already is shared over those that have nothing
 abbrev pub divided : ℕ → Number → List Key → Entries → Result Entries SituationFault
@@ -70,13 +43,6 @@ divided_value line (v.Member i) ks es = Err (at_line line BadValue)
 -- of its own definition period: no two of one key
 abbrev pub alone : ℕ → Key → Value → Entries → Result Entries SituationFault
 alone line k x es = if has es k then Err (at_line line InconsistentInput) else put line k x es
-
--- the keys of the parts of a period by the definition period, in order of time
-abbrev pub parts_by : Unit → Given → List Key
-parts_by unit g = map (λ p. key g.variable g.member p) (subs g.period unit)
-
-abbrev pub parts_of : Rule → Given → List Key
-parts_of r g = parts_by r.unit g
 
 -- dispatched, each part that has no value gets the whole
 abbrev pub over_parts : Option SetInput → Given → List Key → Entries → Result Entries SituationFault

@@ -4,7 +4,8 @@ use Rattle.std.specs.List.{AllZip, list_any}
 use Rattle.fisca_num.specs.Number.{Number, ratio_of}
 use Rattle.fisca_num.specs.Rational.{IsSame}
 use Rattle.fisca_model.specs.Tables.{otherwise}
-use Rattle.fisca_inputs.specs.Defaults.{count_of, row_key}
+use Rattle.fisca_inputs.specs.Defaults.{row_key}
+use Rattle.fisca_inputs.specs.Steps.Defaults.{count_of}
 use Rattle.fisca_inputs.specs.Entries.{Entries, same_key, value_at}
 use Rattle.fisca_inputs.specs.Rules.{Rule}
 use Rattle.fisca_model.specs.declared.key.Key.{Key}

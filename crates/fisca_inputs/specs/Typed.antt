@@ -14,14 +14,9 @@ use Rattle.fisca_model.specs.declared.value.Value.{Value}
 -- A value of just this type: for a number no bool serves. A member of an Enum is one that it has.
 abbrev pub is_just : Tables → ValueType → meaning.Value → Bool
 is_just c vt.Number (meaning.number n) = true
-is_just c vt.Number (meaning.bool b) = false
-is_just c vt.Number (meaning.member i) = false
-is_just c vt.Bool (meaning.number n) = false
 is_just c vt.Bool (meaning.bool b) = true
-is_just c vt.Bool (meaning.member i) = false
-is_just c (vt.Enum e) (meaning.number n) = false
-is_just c (vt.Enum e) (meaning.bool b) = false
 is_just c (vt.Enum e) (meaning.member i) = nat_lt i (length (members_at c e))
+is_just _ _ _ = false
 
 -- days and texts have no values
 abbrev pub is_typed : Tables → Option ValueType → meaning.Value → Bool

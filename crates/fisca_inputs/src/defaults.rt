@@ -4,9 +4,11 @@ ghost use Rattle.std.specs.Prelude.{◌≡◌, ◌≢◌, map};
 ghost use Rattle.std.specs.List.{AllByRecursion};
 ghost use Rattle.std.specs.Map.{keys_of};
 ghost use Rattle.fisca_inputs.specs.Defaults as spec;
-ghost use Rattle.fisca_inputs.specs.Entries as entries;
+ghost use Rattle.fisca_inputs.specs.Steps.Defaults as steps;
+ghost use Rattle.fisca_inputs.specs.Steps.Entries as entries;
 ghost use Rattle.fisca_inputs.specs.Outcomes.{Becomes};
 ghost use Rattle.fisca_inputs.specs.Rules as rules;
+ghost use Rattle.fisca_inputs.specs.Steps.Rules as rules_steps;
 
 use crate::fault::{SituationFault, SituationKind};
 use crate::given::Given;
@@ -18,7 +20,7 @@ use fisca_symbols::{DefaultValue, Variable};
 
 /// The line of the first given input of a variable; 0 where there is none.
 fn first_line(givens: &[Given], variable: usize) -> usize
-    ensures { result ≡ spec.first_line givens.now variable }
+    ensures { result ≡ steps.first_line givens.now variable }
 {
     for given in givens {
         if given.variable == variable {
@@ -30,7 +32,7 @@ fn first_line(givens: &[Given], variable: usize) -> usize
 
 /// The default of a variable, which days and texts have not.
 fn default_of(default: &DefaultValue<'_>) -> Option<Value>
-    ensures { result ≡ rules.default_of default.now }
+    ensures { result ≡ rules_steps.default_of default.now }
 {
     match default {
         DefaultValue::Number(number) => Some(Value::Number(*number)),
@@ -42,7 +44,7 @@ fn default_of(default: &DefaultValue<'_>) -> Option<Value>
 
 /// How many members an entity has.
 fn count_of(counts: &[u32], entity: usize) -> u32
-    ensures { result ≡ spec.count_of counts.now entity }
+    ensures { result ≡ steps.count_of counts.now entity }
 {
     match counts.get(entity) {
         Some(count) => *count,
@@ -52,7 +54,7 @@ fn count_of(counts: &[u32], entity: usize) -> u32
 
 /// A refusal of a default: `TooMany` is told of the line of the variable's first input.
 fn of_first(refusal: SituationFault, givens: &[Given], variable: usize) -> SituationFault
-    ensures too_many { refusal.kind ≡ SituationKind.TooMany → result ≡ record { line = spec.first_line givens.now variable; kind = SituationKind.TooMany } }
+    ensures too_many { refusal.kind ≡ SituationKind.TooMany → result ≡ record { line = steps.first_line givens.now variable; kind = SituationKind.TooMany } }
     ensures other { refusal.kind ≢ SituationKind.TooMany → result ≡ refusal }
 {
     if refusal.kind == SituationKind::TooMany {
@@ -70,7 +72,7 @@ impl Inputs {
         value: &Value,
         key: Key,
     ) -> Result<(), SituationFault>
-        ensures { Becomes (entries.put_free (spec.first_line givens.now key.variable) value.now key self.old) self.new result }
+        ensures { Becomes (entries.put_free (steps.first_line givens.now key.variable) value.now key self.old) self.new result }
     {
         let variable = key.variable;
         match self.put_free(0, *value, key) {
@@ -89,7 +91,7 @@ impl Inputs {
         count: u32,
     ) -> Result<(), SituationFault>
         requires { spec.HaveFirst self.old (key.now, first) }
-        ensures { Becomes (entries.put_all (spec.first_line givens.now key.now.variable) value.now (spec.row_of key.now.variable count key.now.period) self.old) self.new result }
+        ensures { Becomes (entries.put_all (steps.first_line givens.now key.now.variable) value.now (steps.row_of key.now.variable count key.now.period) self.old) self.new result }
     {
         for member in first..count {
             let here = Key {

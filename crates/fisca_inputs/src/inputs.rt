@@ -7,6 +7,7 @@ ghost use Rattle.fisca_inputs.specs.Anew.{set_keys};
 ghost use Rattle.fisca_inputs.specs.Inputs.{without_marked};
 ghost use Rattle.fisca_inputs.specs.Defaults.{HaveFirst, and_row, row_key, rows_of};
 ghost use Rattle.fisca_inputs.specs.Entries as spec;
+ghost use Rattle.fisca_inputs.specs.Steps.Entries as steps;
 ghost use Rattle.fisca_inputs.specs.Outcomes.{Becomes};
 
 use crate::fault::{SituationFault, SituationKind};
@@ -64,8 +65,8 @@ impl Inputs {
 
     /// One entry more, of a key that has none. `TooMany` at this line where there are a hundred thousand.
     pub(crate) fn put(&mut self, line: usize, key: Key, value: Value) -> Result<(), SituationFault>
-        requires { spec.has self.old key ≡ false }
-        ensures { Becomes (spec.put line key value self.old) self.new result }
+        requires { steps.has self.old key ≡ false }
+        ensures { Becomes (steps.put line key value self.old) self.new result }
     {
         if self.table.entries.len() >= LIMIT {
             return Err(SituationFault {
@@ -84,7 +85,7 @@ impl Inputs {
         value: Value,
         key: Key,
     ) -> Result<(), SituationFault>
-        ensures { Becomes (spec.put_free line value key self.old) self.new result }
+        ensures { Becomes (steps.put_free line value key self.old) self.new result }
     {
         if self.table.has(&key) {
             return Ok(());
@@ -161,7 +162,7 @@ fn first_with(first: u32, member: u32) -> u32
 /// Notes a row in which a member has a value.
 fn note_member(rows: &mut Numbers, row: Key, member: u32) -> Result<(), AllocError>
     ensures keys { OnOk result (keys_of rows.new.entries ≡ and_row (keys_of rows.old.entries) row) }
-    ensures first { OnOk result ((es : spec.Entries) → spec.has es (spec.key row.variable member row.period) ≡ true → AllByRecursion (HaveFirst es) rows.old.entries → AllByRecursion (HaveFirst es) rows.new.entries) }
+    ensures first { OnOk result ((es : spec.Entries) → steps.has es (spec.key row.variable member row.period) ≡ true → AllByRecursion (HaveFirst es) rows.old.entries → AllByRecursion (HaveFirst es) rows.new.entries) }
 {
     let first = rows.entry(row)?.or_insert(0);
     *first = first_with(*first, member);

@@ -3,9 +3,11 @@
 ghost use Rattle.std.specs.Prelude.{◌≡◌, ℕ, List, [], false, Some, Ok};
 ghost use Rattle.fisca_inputs.specs.Entries.{Entries, value_at};
 ghost use Rattle.fisca_inputs.specs.Inputs.{inputs_of};
-ghost use Rattle.fisca_inputs.specs.Order.{in_order};
-ghost use Rattle.fisca_inputs.specs.Rules.{Rule, is_longer};
-ghost use Rattle.fisca_inputs.specs.Sharing.{all_shared, shared, parts_of};
+ghost use Rattle.fisca_inputs.specs.Steps.Order.{in_order};
+ghost use Rattle.fisca_inputs.specs.Rules.{Rule};
+ghost use Rattle.fisca_inputs.specs.Steps.Rules.{is_longer};
+ghost use Rattle.fisca_inputs.specs.Sharing.{all_shared, shared};
+ghost use Rattle.fisca_inputs.specs.Steps.Sharing.{parts_of};
 ghost use Rattle.fisca_inputs.specs.Totals.{AddUpTo, value_or_default};
 ghost use Rattle.fisca_inputs.specs.declared.given.Given.{Given};
 ghost use Rattle.fisca_model.specs.declared.value.Value.TheVariants as v;

@@ -1,7 +1,7 @@
 //! Marks of variables.
 
 ghost use Rattle.std.specs.Prelude.{◌≡◌};
-ghost use Rattle.fisca_inputs.specs.Inputs.{is_marked as is_marked_at};
+ghost use Rattle.fisca_inputs.specs.Steps.Inputs.{is_marked as is_marked_at};
 
 /// Whether the variable at this place has a mark, as those have that are neutralised: marks stand by the places of variables, and there is
 /// none past the last. This project's own rule.

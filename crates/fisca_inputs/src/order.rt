@@ -3,7 +3,7 @@
 ghost use Rattle.std.specs.Prelude.{◌≡◌, map, IfOk, OnOk};
 ghost use Rattle.std.specs.BTreeMap.{insert_entry};
 ghost use Rattle.fisca_inputs.specs.Ranks.{rank_cmp};
-ghost use Rattle.fisca_inputs.specs.Order as spec;
+ghost use Rattle.fisca_inputs.specs.Steps.Order as spec;
 ghost use Rattle.fisca_inputs.specs.Rules.{rule_of};
 ghost use Rattle.fisca_time.specs.Period.{start_of, unit_of};
 

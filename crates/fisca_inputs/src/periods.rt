@@ -2,6 +2,7 @@
 
 ghost use Rattle.std.specs.Prelude.{◌≡◌};
 ghost use Rattle.fisca_inputs.specs.Rules as spec;
+ghost use Rattle.fisca_inputs.specs.Steps.Rules as steps;
 ghost use Rattle.fisca_model.specs.Periods as asking;
 
 use fisca_model::fits;
@@ -10,7 +11,7 @@ use fisca_time::{Period, Unit};
 
 /// Whether a period has more than one of this unit in it.
 pub(crate) fn is_longer(unit: Unit, period: Period) -> bool
-    ensures { result ≡ spec.is_longer unit period }
+    ensures { result ≡ steps.is_longer unit period }
 {
     match period.sub_count(unit) {
         Ok(count) => count > 1,

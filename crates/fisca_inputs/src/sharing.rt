@@ -1,10 +1,11 @@
 //! Given inputs over the parts of their periods.
 
 ghost use Rattle.std.specs.Prelude.{◌≡◌, ◌≢◌, ◌<◌, length, slice_get, Some, Ok, IfOk, IfErr};
-ghost use Rattle.fisca_inputs.specs.Entries as entries;
+ghost use Rattle.fisca_inputs.specs.Steps.Entries as entries;
 ghost use Rattle.fisca_inputs.specs.Outcomes.{Answers, Becomes};
 ghost use Rattle.fisca_inputs.specs.Rules.{rule_of};
 ghost use Rattle.fisca_inputs.specs.Sharing as spec;
+ghost use Rattle.fisca_inputs.specs.Steps.Sharing as steps;
 
 use crate::fault::{SituationFault, SituationKind};
 use crate::given::Given;
@@ -24,7 +25,7 @@ pub(crate) fn fault(line: usize, kind: SituationKind) -> SituationFault
 
 /// A number that was worked out; what is too wide is a bad value.
 fn computed(line: usize, number: Result<Fraction, NumFault>) -> Result<Fraction, SituationFault>
-    ensures { result ≡ spec.computed line number }
+    ensures { result ≡ steps.computed line number }
 {
     match number {
         Ok(number) => Ok(number),
@@ -34,7 +35,7 @@ fn computed(line: usize, number: Result<Fraction, NumFault>) -> Result<Fraction,
 
 /// A number less a value.
 fn without(line: usize, value: Value, number: Fraction) -> Result<Fraction, SituationFault>
-    ensures { result ≡ spec.without line (Some value) number }
+    ensures { result ≡ steps.without line (Some value) number }
 {
     match value {
         Value::Number(other) => computed(line, number.sub(other)),
@@ -44,8 +45,8 @@ fn without(line: usize, value: Value, number: Fraction) -> Result<Fraction, Situ
 
 /// The key of the part of a given input at a place in order of time.
 fn part_at(given: &Given, unit: Unit, i: u32) -> Key
-    requires { i < length (spec.parts_by unit given.now) }
-    ensures { slice_get (spec.parts_by unit given.now) i ≡ Some result }
+    requires { i < length (steps.parts_by unit given.now) }
+    ensures { slice_get (steps.parts_by unit given.now) i ≡ Some result }
 {
     Key {
         variable: given.variable,
@@ -57,7 +58,7 @@ fn part_at(given: &Given, unit: Unit, i: u32) -> Key
 /// One of so many equal parts of a number.
 fn share_of(line: usize, number: Fraction, count: u32) -> Result<Fraction, SituationFault>
     requires { 0 < count }
-    ensures { result ≡ spec.share_of line number count }
+    ensures { result ≡ steps.share_of line number count }
 {
     match Fraction::new(i64::from(count), 1) {
         Ok(parts) => computed(line, number.div(parts)),
@@ -81,8 +82,8 @@ impl Inputs {
         count: u32,
         value: &Value,
     ) -> Result<(), SituationFault>
-        requires { count ≡ length (spec.parts_by unit given.now) }
-        ensures { Becomes (entries.put_all given.now.line value.now (spec.parts_by unit given.now) self.old) self.new result }
+        requires { count ≡ length (steps.parts_by unit given.now) }
+        ensures { Becomes (entries.put_all given.now.line value.now (steps.parts_by unit given.now) self.old) self.new result }
     {
         for i in 0..count {
             self.put_free(given.line, *value, part_at(given, unit, i))?;
@@ -98,9 +99,9 @@ impl Inputs {
         count: u32,
         number: Fraction,
     ) -> Result<Rest, SituationFault>
-        requires { count ≡ length (spec.parts_by unit given.now) }
-        ensures number { Answers (λ r. r.number) (spec.rest_of given.now.line self.now (spec.parts_by unit given.now) number) result }
-        ensures free { IfOk result (λ r. r.free ≡ spec.count_free self.now (spec.parts_by unit given.now)) }
+        requires { count ≡ length (steps.parts_by unit given.now) }
+        ensures number { Answers (λ r. r.number) (spec.rest_of given.now.line self.now (steps.parts_by unit given.now) number) result }
+        ensures free { IfOk result (λ r. r.free ≡ spec.count_free self.now (steps.parts_by unit given.now)) }
     {
         let mut rest = Rest { number, free: 0 };
         for i in 0..count {
@@ -120,8 +121,8 @@ impl Inputs {
         count: u32,
         rest: Rest,
     ) -> Result<(), SituationFault>
-        requires { count ≡ length (spec.parts_by unit given.now) }
-        ensures { Becomes (spec.spread given.now.line rest.free (spec.parts_by unit given.now) self.old rest.number) self.new result }
+        requires { count ≡ length (steps.parts_by unit given.now) }
+        ensures { Becomes (steps.spread given.now.line rest.free (steps.parts_by unit given.now) self.old rest.number) self.new result }
     {
         if rest.free == 0 {
             if rest.number.numerator() == 0 {
@@ -135,8 +136,8 @@ impl Inputs {
 
     /// Divides a given input over the parts of its period.
     fn divide(&mut self, given: &Given, unit: Unit, count: u32) -> Result<(), SituationFault>
-        requires { count ≡ length (spec.parts_by unit given.now) }
-        ensures { Becomes (spec.divided_value given.now.line given.now.value (spec.parts_by unit given.now) self.old) self.new result }
+        requires { count ≡ length (steps.parts_by unit given.now) }
+        ensures { Becomes (spec.divided_value given.now.line given.now.value (steps.parts_by unit given.now) self.old) self.new result }
     {
         match given.value {
             Value::Number(number) => {
@@ -155,8 +156,8 @@ impl Inputs {
         unit: Unit,
         count: u32,
     ) -> Result<(), SituationFault>
-        requires { count ≡ length (spec.parts_by unit given.now) }
-        ensures { Becomes (spec.over_parts rule given.now (spec.parts_by unit given.now) self.old) self.new result }
+        requires { count ≡ length (steps.parts_by unit given.now) }
+        ensures { Becomes (spec.over_parts rule given.now (steps.parts_by unit given.now) self.old) self.new result }
     {
         match rule {
             Some(SetInput::DivideByPeriod) => self.divide(given, unit, count),

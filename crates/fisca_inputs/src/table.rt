@@ -4,8 +4,10 @@ ghost use Rattle.std.specs.Prelude.{◌≡◌, ◌<◌, ◌≤◌, ◌%◌, ◌=
 ghost use Rattle.std.specs.Bool.{OnTrue};
 ghost use Rattle.std.proofs.Props.{props};
 ghost use Rattle.fisca_inputs.specs.Entries as spec;
+ghost use Rattle.fisca_inputs.specs.Steps.Entries as steps;
 ghost use Rattle.fisca_inputs.specs.Anew.{set_keys};
-ghost use Rattle.fisca_inputs.specs.Inputs.{is_marked as is_marked_at, without_marked};
+ghost use Rattle.fisca_inputs.specs.Inputs.{without_marked};
+ghost use Rattle.fisca_inputs.specs.Steps.Inputs.{is_marked as is_marked_at};
 ghost use Rattle.fisca_inputs.specs.Places.{AreNumbered, AreOccupied, AreOnce, StandsAt, number_of, page_key};
 ghost use Rattle.fisca_model.specs.declared.key.Key as declared;
 
@@ -126,8 +128,8 @@ fn renumber(pages: &mut Pages, key: &Key, number: u32)
 fn renumber_all(pages: &mut Pages, entries: &[(Key, Value)])
     requires once { AreOnce entries.now }
     requires few { length entries.now < 4_294_967_296 }
-    requires noted { (k : declared.Key) → spec.has entries.now k ≡ true → 0 < number_of pages.old.entries k }
-    requires free { (k : declared.Key) → spec.has entries.now k ≡ false → number_of pages.old.entries k ≡ 0 }
+    requires noted { (k : declared.Key) → steps.has entries.now k ≡ true → 0 < number_of pages.old.entries k }
+    requires free { (k : declared.Key) → steps.has entries.now k ≡ false → number_of pages.old.entries k ≡ 0 }
     ensures { AreNumbered pages.new.entries entries.now }
 {
     for (place, entry) in entries.iter().enumerate() {
@@ -181,7 +183,7 @@ impl Table {
     /// The place of the entry of a key.
     #[inline(always)]
     fn place(&self, key: &Key) -> Option<usize>
-        ensures { MatchOption result (spec.has self.now.entries.items key.now ≡ false) (StandsAt self.now.entries.items key.now) }
+        ensures { MatchOption result (steps.has self.now.entries.items key.now ≡ false) (StandsAt self.now.entries.items key.now) }
     {
         if !self.occupied[bucket_of(key)] {
             return None;
@@ -198,7 +200,7 @@ impl Table {
 
     /// Whether a key has a value.
     pub(crate) fn has(&self, key: &Key) -> bool
-        ensures { result ≡ spec.has self.now.entries.items key.now }
+        ensures { result ≡ steps.has self.now.entries.items key.now }
     {
         self.place(key).is_some()
     }
@@ -216,7 +218,7 @@ impl Table {
 
     /// One entry more, of a key that has none. Where memory is refused, none.
     pub(crate) fn append(&mut self, alloc: Global, key: Key, value: Value) -> Result<(), AllocError>
-        requires { spec.has self.old.entries.items key ≡ false }
+        requires { steps.has self.old.entries.items key ≡ false }
         ensures ok { OnOk result (self.new.entries.items ≡ self.old.entries.items ++ (key, value) ∷ []) }
         ensures err { OnErr result (self.new.entries.items ≡ self.old.entries.items) }
     {

@@ -3,6 +3,7 @@ use Rattle.std.specs.Prelude.{Result}
 use Rattle.fisca_ast.specs.declared.fault.FormulaKind.{FormulaKind}
 use Rattle.fisca_model.specs.declared.value_type.ValueType.{ValueType}
 use Rattle.fisca_model.specs.declared.value_type.ValueType.TheVariants as vt
+use Rattle.fisca_typing.specs.declared.operations.Unary.TheVariants as unary
 use Rattle.fisca_typing.specs.Nodes as node
 use Rattle.fisca_typing.specs.Operations as spec
 use Rattle.fisca_ir.specs.declared.operations.Operation.{Operation}
@@ -16,7 +17,7 @@ operation_view (operation.Arithmetic o) = record { gives = vt.Number; node = nod
 operation_view (operation.Logic o) = record { gives = vt.Bool; node = node.logic o }
 operation_view (operation.Comparison o) = record { gives = vt.Bool; node = node.comparison o }
 operation_view operation.Same = record { gives = vt.Bool; node = node.same }
-operation_view operation.Differs = record { gives = vt.Bool; node = λ a b. node.opposite (node.same a b) }
+operation_view operation.Differs = record { gives = vt.Bool; node = λ a b. node.unary unary.Not (node.same a b) }
 
 -- the operation on two types of operands
 abbrev pub by : Dyadic → ValueType → ValueType → Result spec.Operation FormulaKind

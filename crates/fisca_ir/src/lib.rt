@@ -10,16 +10,16 @@ mod thing;
 mod types;
 
 pub use made::{
-    arithmetic, ask, choose, comparison, copy_indices, count, date_part, has_role, logic, negative,
-    opposite, parameter_node, push_index, same, scale_sum, total,
+    arithmetic, ask, choose, comparison, copy_indices, count, date_part, has_role, logic,
+    parameter_node, push_index, same, scale_sum, total, unary,
 };
 pub use node::{Ask, Index, Node, Pair, Parameter, ScaleSum, Totalled};
 pub use operations::{
-    Dyadic, common_all, highest, negated, numeric_of, operated, prefixed_value, where_of,
+    Dyadic, common_all, highest, numeric_of, operated, prefixed_value, unary_of, where_of,
 };
 pub use parts::{
     instant_of, nodes_of, option_of, period_of, role_of, text_of, things_of, value_of,
 };
-pub use periods::{offset_by, offset_by_unit, period_attribute, start_attribute};
+pub use periods::{offset_by, offset_by_unit, period_attribute, places_of, start_attribute};
 pub use thing::{Chosen, Relation, Thing, Typed};
-pub use types::{common, higher, is_bool, is_numeric, is_of_members};
+pub use types::{common, higher, is_bool, is_number, is_numeric, is_of_members};

@@ -7,7 +7,7 @@ use crate::node::{Ask, Index, Node, Pair, Parameter, ScaleSum, Totalled};
 use fisca_ast::Comparison;
 use fisca_model::RolePlace;
 use fisca_params::NodeId;
-use fisca_typing::{Arithmetic, Asking, DatePart, Logic, Move, Total, Whom};
+use fisca_typing::{Arithmetic, Asking, DatePart, Logic, Move, Total, Unary, Whom};
 use std::alloc::{AllocError, Global};
 use std::rc::Rc;
 
@@ -66,18 +66,11 @@ pub fn total(
     Ok(Node::Total(total, Box::new(alloc, Totalled { role, values })?))
 }
 
-/// The number with the other sign.
-pub fn negative(alloc: Global, inside: Node) -> Result<Node, AllocError>
-    ensures { IfOk result (λ n. node n ≡ spec.negative (node inside)) }
+/// A value of one.
+pub fn unary(alloc: Global, operation: Unary, inside: Node) -> Result<Node, AllocError>
+    ensures { IfOk result (λ n. node n ≡ spec.unary operation (node inside)) }
 {
-    Ok(Node::Negative(Box::new(alloc, inside)?))
-}
-
-/// The bool that the other is not.
-pub fn opposite(alloc: Global, inside: Node) -> Result<Node, AllocError>
-    ensures { IfOk result (λ n. node n ≡ spec.opposite (node inside)) }
-{
-    Ok(Node::Opposite(Box::new(alloc, inside)?))
+    Ok(Node::Unary(operation, Box::new(alloc, inside)?))
 }
 
 /// A number of two.

@@ -3,7 +3,7 @@ use fisca_ast::Comparison;
 use fisca_model::RolePlace;
 use fisca_num::Fraction;
 use fisca_params::NodeId;
-use fisca_typing::{Arithmetic, Asking, DatePart, Logic, Move, Total, Whom};
+use fisca_typing::{Arithmetic, Asking, DatePart, Logic, Move, Total, Unary, Whom};
 use std::rc::Rc;
 
 /// What is worked out for an expression. Enums, their members, variables and entities are given by their places, and a
@@ -28,10 +28,8 @@ pub enum Node {
     Count(Option<Box<RolePlace>>),
     /// What values of the group's persons come to.
     Total(Total, Box<Totalled>),
-    /// The number with the other sign.
-    Negative(Box<Node>),
-    /// `True` for `False`, `False` for `True`.
-    Opposite(Box<Node>),
+    /// A value of one.
+    Unary(Unary, Box<Node>),
     /// A number of two.
     Arithmetic(Arithmetic, Box<Pair>),
     /// A bool of two.
@@ -65,7 +63,7 @@ impl Drop for Node {
                 Node::HasRole(_, _) => return,
                 Node::Count(_) => return,
                 Node::Total(_, _) => return,
-                Node::Negative(_) | Node::Opposite(_) => return,
+                Node::Unary(_, _) => return,
                 Node::Arithmetic(_, _) => return,
                 Node::Logic(_, _) => return,
                 Node::Comparison(_, _) => return,

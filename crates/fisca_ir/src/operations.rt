@@ -10,10 +10,10 @@ use crate::made;
 use crate::node::Node;
 use crate::parts::value_of;
 use crate::thing::{Thing, Typed};
-use crate::types::{common, higher, is_bool, is_numeric};
+use crate::types::{common, higher, is_bool, is_number, is_numeric};
 use fisca_ast::{Comparison, FormulaKind, Operator, Prefix};
 use fisca_model::ValueType;
-use fisca_typing::{Arithmetic, Level, Logic};
+use fisca_typing::{Arithmetic, Level, Logic, Unary};
 use std::alloc::{AllocError, Global};
 
 /// An operation on two operands of types that fit it.
@@ -147,7 +147,7 @@ fn made_of(alloc: Global, operation: Operation, left: Node, right: Node) -> Resu
         Operation::Same => made::same(alloc, left, right),
         Operation::Differs => {
             let same = made::same(alloc, left, right)?;
-            made::opposite(alloc, same)
+            made::unary(alloc, Unary::Not, same)
         }
     }
 }
@@ -185,18 +185,38 @@ pub fn operated(
     with_levels(alloc, left, right, operation)
 }
 
-/// The bool that another is not, or `BadType`.
-pub fn negated(alloc: Global, value: Typed) -> Result<Thing, FormulaKind>
-    ensures { Gives thing (spec.negated (typed value)) result }
+/// Whether an operation is on values of this type: `not` on bools, all else on numbers.
+fn takes(operation: Unary, value_type: ValueType) -> bool
+    ensures { result ≡ spec.is_just (spec.unary_type operation) value_type }
 {
-    if !is_bool(value.value_type) {
+    match operation {
+        Unary::Not => is_bool(value_type),
+        Unary::Minus | Unary::Floor | Unary::Ceil | Unary::Round(_) | Unary::Absolute => {
+            is_number(value_type)
+        }
+    }
+}
+
+/// An operation on one value, or `BadType` where the value is of another type.
+fn unary_on(alloc: Global, operation: Unary, value: Typed) -> Result<Thing, FormulaKind>
+    ensures { Gives thing (spec.unary_on operation (typed value)) result }
+{
+    if !takes(operation, value.value_type) {
         return Err(FormulaKind::BadType);
     }
     Ok(Thing::Value(Typed {
-        value_type: ValueType::Bool,
+        value_type: value.value_type,
         level: value.level,
-        node: made::opposite(alloc, value.node)?,
+        node: made::unary(alloc, operation, value.node)?,
     }))
+}
+
+/// An operation on what a thing stands for, or `BadType`: signs, places and parts are of numbers alone, and `not` of
+/// bools.
+pub fn unary_of(alloc: Global, operation: Unary, inside: Thing) -> Result<Thing, FormulaKind>
+    ensures { Gives thing (spec.unary_of operation (thing inside)) result }
+{
+    unary_on(alloc, operation, value_of(inside)?)
 }
 
 /// A prefix and what a thing stands for, or `BadType`: signs go before numbers alone.
@@ -204,17 +224,16 @@ pub fn prefixed_value(alloc: Global, prefix: Prefix, inside: Thing) -> Result<Th
     ensures { Gives thing (spec.prefixed_value prefix (thing inside)) result }
 {
     let value = value_of(inside)?;
-    match (prefix, value.value_type) {
-        (Prefix::Not, _) => negated(alloc, value),
-        (Prefix::Plus, ValueType::Number) => Ok(Thing::Value(value)),
-        (Prefix::Minus, ValueType::Number) => Ok(Thing::Value(Typed {
-            value_type: ValueType::Number,
-            level: value.level,
-            node: made::negative(alloc, value.node)?,
-        })),
-        (Prefix::Plus | Prefix::Minus, ValueType::Bool | ValueType::Enum(_)) => Err(
-            FormulaKind::BadType,
-        ),
+    match prefix {
+        Prefix::Plus => {
+            if is_number(value.value_type) {
+                Ok(Thing::Value(value))
+            } else {
+                Err(FormulaKind::BadType)
+            }
+        }
+        Prefix::Minus => unary_on(alloc, Unary::Minus, value),
+        Prefix::Not => unary_on(alloc, Unary::Not, value),
     }
 }
 

@@ -4,6 +4,7 @@ ghost use Rattle.fisca_num.specs.Literal.{number_of_literal};
 ghost use Rattle.fisca_ast.specs.Views.{argument_view, series_of, series_view, tree as tree_of};
 ghost use Rattle.fisca_ast.specs.Outcomes.{Gives};
 ghost use Rattle.fisca_ir.specs.Views.{thing};
+ghost use Rattle.fisca_typing.specs.Calls.{places_of as places_written};
 ghost use Rattle.fisca_typing.specs.Periods as spec;
 
 use crate::made;
@@ -12,7 +13,7 @@ use fisca_ast::{Argument, Arguments, Bracket, Expr, FormulaKind, Prefix};
 use fisca_model::ValueType;
 use fisca_num::Fraction;
 use fisca_time::Unit;
-use fisca_typing::{DatePart, Level, Move};
+use fisca_typing::{DatePart, Level, Move, is_places};
 use std::alloc::Global;
 
 /// One move further.
@@ -240,4 +241,18 @@ pub fn offset_by_unit(moves: Vec<Move>, count: &Expr, unit: &[u8]) -> Result<Thi
         return Err(FormulaKind::BadType);
     };
     moved(moves, Move::OffsetBy(number.numerator(), unit))
+}
+
+/// How many decimal places are written, from -9 to 9, or `BadType`.
+pub fn places_of(count: &Expr) -> Result<i8, FormulaKind>
+    ensures { Gives (λ n. n) (places_written (tree_of count.now)) result }
+{
+    let Some(number) = whole(count) else {
+        return Err(FormulaKind::BadType);
+    };
+    let places = number.numerator();
+    if !is_places(places) {
+        return Err(FormulaKind::BadType);
+    }
+    Ok(places as i8)
 }

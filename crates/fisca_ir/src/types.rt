@@ -17,6 +17,16 @@ pub fn is_numeric(value_type: ValueType) -> bool
     }
 }
 
+/// Whether the type is that of numbers alone, which bools are none of here.
+pub fn is_number(value_type: ValueType) -> bool
+    ensures { result ≡ spec.is_number value_type }
+{
+    match value_type {
+        ValueType::Number => true,
+        ValueType::Bool | ValueType::Enum(_) => false,
+    }
+}
+
 /// Whether the type is that of bools.
 pub fn is_bool(value_type: ValueType) -> bool
     ensures { result ≡ spec.is_bool value_type }

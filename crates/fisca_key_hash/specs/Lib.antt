@@ -1,1 +1,2 @@
 pub mod KeyHashes
+pub mod Steps

@@ -1,7 +1,7 @@
 //! The hash of keys.
 
 ghost use Rattle.std.specs.Prelude.{◌≡◌, ◌<◌};
-ghost use Rattle.fisca_key_hash.specs.KeyHashes.{placed, word};
+ghost use Rattle.fisca_key_hash.specs.Steps.KeyHashes.{placed, word};
 
 use std::hash::Hasher;
 
@@ -37,7 +37,7 @@ impl Default for KeyHasher {
 }
 
 impl Hasher for KeyHasher {
-    ghost use Rattle.fisca_key_hash.specs.KeyHashes as spec;
+    ghost use Rattle.fisca_key_hash.specs.Steps.KeyHashes as spec;
 
     ghost write = { spec.write };
 

@@ -72,7 +72,7 @@ module _ (src : Sources) where
     abbrev W : Oracle
     W = value_within src (left_below stack)
 
-    pub left_fault : (f : d.Fault) → r ≡ d.fails f → ends_below src stack key q ≡ Err (named key f)
+    pub left_fault : (f : d.OperationFault) → r ≡ d.fails f → ends_below src stack key q ≡ Err (named key f)
     left_fault f e = ap (settled_below stack key) (ends_so ∙ ap (λ x. outcome W (of_key key x)) e)
 
     -- it asks for j

@@ -3,7 +3,7 @@ use Rattle.std.specs.Prelude.{◌≡◌, ◌⊎◌, ℕ, zero, suc, Bool, Option
 use Rattle.std.specs.Coded.{Coded, Coded-set, code_by, coded_option, coded_ℕ, coded_ℤ, coded_bool, coded×, coded⊎}
 use mathlib.Core.Logic.{inl, inr}
 use mathlib.Core.Path.{refl, ap}
-use Rattle.fisca_key_semantics.specs.Dialogues.{Dialogue, Dialogue-set, Fault, zero_divisor, too_wide, parameter_undefined, bad_scale, no_member, period_mismatch, period_out_of_range}
+use Rattle.fisca_key_semantics.specs.Dialogues.{Dialogue, Dialogue-set, OperationFault, zero_divisor, too_wide, parameter_undefined, bad_scale, no_member, period_mismatch, period_out_of_range}
 use Rattle.fisca_model.specs.Values.{Value, number, bool, member, Key}
 use Rattle.fisca_num.specs.Number.{Number, same_number}
 use Rattle.fisca_time.specs.Period.{Span, eternity, months, days}
@@ -72,7 +72,7 @@ key_coded : Coded Key
 key_coded = code_by (ℕ × (ℕ × Span)) (coded× coded_ℕ (coded× coded_ℕ span_coded)) (λ k. (k.variable, (k.member, k.period))) (λ p. record { variable = p.0; member = p.1.0; period = p.1.1 }) (λ _. refl)
 
 -- a mismatch is told of a key, and each other fault has a number
-abbrev fault_cases : Fault → Key ⊎ ℕ
+abbrev fault_cases : OperationFault → Key ⊎ ℕ
 fault_cases (period_mismatch k) = inl k
 fault_cases zero_divisor = inr 0
 fault_cases too_wide = inr 1
@@ -81,7 +81,7 @@ fault_cases bad_scale = inr 3
 fault_cases no_member = inr 4
 fault_cases period_out_of_range = inr 5
 
-abbrev fault_at : ℕ → Fault
+abbrev fault_at : ℕ → OperationFault
 fault_at zero = zero_divisor
 fault_at (suc zero) = too_wide
 fault_at (suc (suc zero)) = parameter_undefined
@@ -89,11 +89,11 @@ fault_at (suc (suc (suc zero))) = bad_scale
 fault_at (suc (suc (suc (suc zero)))) = no_member
 fault_at (suc (suc (suc (suc (suc n))))) = period_out_of_range
 
-abbrev fault_of : Key ⊎ ℕ → Fault
+abbrev fault_of : Key ⊎ ℕ → OperationFault
 fault_of (inl k) = period_mismatch k
 fault_of (inr n) = fault_at n
 
-fault_back : (e : Fault) → fault_of (fault_cases e) ≡ e
+fault_back : (e : OperationFault) → fault_of (fault_cases e) ≡ e
 fault_back (period_mismatch k) = refl
 fault_back zero_divisor = refl
 fault_back too_wide = refl
@@ -102,7 +102,7 @@ fault_back bad_scale = refl
 fault_back no_member = refl
 fault_back period_out_of_range = refl
 
-fault_coded : Coded Fault
+fault_coded : Coded OperationFault
 fault_coded = code_by (Key ⊎ ℕ) (coded⊎ key_coded coded_ℕ) fault_cases fault_of fault_back
 
 pub dialogues_are_a_set : IsSet Dialogue

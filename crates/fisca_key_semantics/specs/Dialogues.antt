@@ -6,18 +6,18 @@ use Rattle.fisca_num.specs.declared.faults.NumFault.TheVariants as num
 use Rattle.fisca_model.specs.Values.{Value, Key, number, bool, member}
 
 -- All but the mismatch of a period belong to the key whose formula it is.
-pub data Fault : Type 0 where
-  zero_divisor : Fault
-  too_wide : Fault
-  parameter_undefined : Fault
-  bad_scale : Fault
-  no_member : Fault
-  period_mismatch : Key → Fault
-  period_out_of_range : Fault
+pub data OperationFault : Type 0 where
+  zero_divisor : OperationFault
+  too_wide : OperationFault
+  parameter_undefined : OperationFault
+  bad_scale : OperationFault
+  no_member : OperationFault
+  period_mismatch : Key → OperationFault
+  period_out_of_range : OperationFault
 
 pub data Dialogue : Type 0 where
   gives : Value → Dialogue
-  fails : Fault → Dialogue
+  fails : OperationFault → Dialogue
   -- an operand of a wrong type or level, a name that stands for nothing, or a member that is not there
   stuck : Dialogue
   asks : Key → (Value → Dialogue) → Dialogue
@@ -48,7 +48,7 @@ with_member (bool b) f = stuck
 with_member (member i) f = f i
 
 -- operations on numbers tell the first two alone
-abbrev pub fault_of : NumFault → Fault
+abbrev pub fault_of : NumFault → OperationFault
 fault_of num.ZeroDivisor = zero_divisor
 fault_of num.TooWide = too_wide
 fault_of num.NotANumber = too_wide

@@ -5,7 +5,7 @@ use Rattle.fisca_key_semantics.specs.Dialogues as d
 use Rattle.fisca_model.specs.Causes.{Fault, fault_at, zero_divisor, too_wide, parameter_undefined, bad_scale, no_member, period_mismatch, period_out_of_range, stuck}
 
 -- all but the mismatch of a period are told of the key whose formula it is
-abbrev pub named : Key → d.Fault → Fault
+abbrev pub named : Key → d.OperationFault → Fault
 named key d.zero_divisor = fault_at zero_divisor key
 named key d.too_wide = fault_at too_wide key
 named key d.parameter_undefined = fault_at parameter_undefined key

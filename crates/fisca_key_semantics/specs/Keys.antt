@@ -6,14 +6,9 @@ use Rattle.fisca_model.specs.Values.{Key}
 
 abbrev pub same_span : Span → Span → Bool
 same_span eternity eternity = true
-same_span eternity (months v g m) = false
-same_span eternity (days g m) = false
-same_span (months u f n) eternity = false
 same_span (months u f n) (months v g m) = (rank u == rank v) && ((f == g) && (n == m))
-same_span (months u f n) (days g m) = false
-same_span (days f n) eternity = false
-same_span (days f n) (months v g m) = false
 same_span (days f n) (days g m) = (f == g) && (n == m)
+same_span _ _ = false
 
 abbrev pub same_key : Key → Key → Bool
 same_key a b = (a.variable == b.variable) && ((a.member == b.member) && same_span a.period b.period)

@@ -5,7 +5,7 @@ use Rattle.std.proofs.Math.Seq.{take-add}
 use Rattle.std.proofs.lemmas.Str.{IsAscii-append}
 use Rattle.std.proofs.lemmas.Str.Ascii.{IsAscii-cons, IsAscii-nil}
 use Rattle.std.specs.Str.{IsAscii}
-use Rattle.fisca_ast.specs.Strings.{begins}
+use Rattle.fisca_ast.specs.Steps.Strings.{begins}
 
 one_ascii : (bs : List ℕ) → begins 46 bs ≡ true → IsAscii (take 1 bs)
 one_ascii [] h = IsAscii-nil

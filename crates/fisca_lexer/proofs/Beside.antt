@@ -3,7 +3,8 @@ use Rattle.std.proofs.Common.{◌≡◌, ℕ, List, [], ◌∷◌, ◌++◌, Boo
 use Rattle.std.specs.Prelude.{◌&&◌, if◌then◌else◌}
 use Rattle.std.specs.List.Retain.{DedupsFrom, IsDeduped}
 use Rattle.fisca_lexer.specs.declared.token.Token.{Token}
-use Rattle.fisca_lexer.specs.Texts.{beside, is_quoted, begins_line, put_before, joined}
+use Rattle.fisca_lexer.specs.Texts.{put_before, joined}
+use Rattle.fisca_lexer.specs.Steps.Texts.{beside, is_quoted, begins_line}
 
 taken : {X : Type 0} (b : Bool) (x y : X) → b ≡ true → (if b then x else y) ≡ x
 taken b x y e = ap (λ b. if b then x else y) e

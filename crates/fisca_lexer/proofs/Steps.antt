@@ -4,7 +4,7 @@ use Rattle.std.specs.Prelude.{Ok, Err, Some, None}
 use Rattle.fisca_lexer.specs.declared.token.Token.{Token}
 use Rattle.fisca_lexer.specs.declared.layout.Layout.{Layout}
 use Rattle.fisca_lexer.specs.Tokens.{Lexed, put, in_front, behind, after_piece, tokens_from}
-use Rattle.fisca_lexer.specs.Pieces.{front}
+use Rattle.fisca_lexer.specs.Steps.Pieces.{front}
 
 pub put_more : (old new : List Token) (t : Token) → new ≡ old ++ t ∷ [] → (o : Lexed) → behind new o ≡ behind old (in_front t o)
 put_more old new t e (Ok us) = ap (λ ts. Ok (ts ++ us)) e ∙ ap Ok (append_assoc old (t ∷ []) us)

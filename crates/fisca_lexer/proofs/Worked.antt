@@ -9,10 +9,13 @@ use Rattle.fisca_lexer.specs.declared.token.Class.TheVariants as class
 use Rattle.fisca_lexer.specs.declared.token.Mark.TheVariants as mark
 use Rattle.fisca_lexer.specs.declared.token.Form.TheVariants as form
 use Rattle.fisca_lexer.specs.declared.token.Token.{Token}
-use Rattle.fisca_lexer.specs.Layout.{go_to, at_line}
-use Rattle.fisca_lexer.specs.Pieces.{front, piece, number_len, begins_number, begins_exponent}
+use Rattle.fisca_lexer.specs.Layout.{at_line}
+use Rattle.fisca_lexer.specs.Steps.Layout.{go_to}
+use Rattle.fisca_lexer.specs.Pieces.{piece}
+use Rattle.fisca_lexer.specs.Steps.Pieces.{front, number_len, begins_number, begins_exponent}
 use Rattle.fisca_lexer.specs.Texts.{joined}
-use Rattle.fisca_lexer.specs.Tokens.{tokens, tokens_from}
+use Rattle.fisca_lexer.specs.Tokens.{tokens_from}
+use Rattle.fisca_lexer.specs.Steps.Tokens.{tokens}
 
 -- a token within a line, and the first of a line
 abbrev within : ℕ → ℕ → ℕ → Class → Token

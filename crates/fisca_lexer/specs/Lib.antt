@@ -1,5 +1,5 @@
 pub mod Layout
-pub mod Marks
 pub mod Pieces
+pub mod Steps
 pub mod Texts
 pub mod Tokens

@@ -1,5 +1,5 @@
 -- The tokens of a text: the piece in front, and the tokens of what follows it.
-use Rattle.std.specs.Prelude.{◌≡◌, ◌≢◌, ℕ, zero, suc, ◌+◌, ◌^◌, List, [], ◌∷◌, ◌++◌, length, drop, nat_lt, if◌then◌else◌, Option, Some, None, Result, Ok, Err}
+use Rattle.std.specs.Prelude.{◌≡◌, ◌≢◌, ℕ, zero, suc, ◌+◌, List, [], ◌∷◌, ◌++◌, drop, Option, Some, None, Result, Ok, Err}
 use Rattle.std.specs.declared.vec.Vec.{Vec}
 use Rattle.std.specs.declared.alloc.Global.{Global}
 use Rattle.fisca_ast.specs.declared.fault.FormulaKind.{FormulaKind}
@@ -8,8 +8,8 @@ use Rattle.fisca_ast.specs.declared.fault.FormulaFault.{FormulaFault}
 use Rattle.fisca_lexer.specs.declared.token.Piece.{Piece}
 use Rattle.fisca_lexer.specs.declared.token.Token.{Token}
 use Rattle.fisca_lexer.specs.declared.layout.Layout.{Layout}
-use Rattle.fisca_lexer.specs.Layout.{Step, step, start, at_line}
-use Rattle.fisca_lexer.specs.Pieces.{front}
+use Rattle.fisca_lexer.specs.Layout.{Step, step, at_line}
+use Rattle.fisca_lexer.specs.Steps.Pieces.{front}
 
 abbrev pub Lexed : Type 0
 Lexed = Result (List Token) FormulaFault
@@ -36,10 +36,6 @@ unfoldable pub tokens_from : ℕ → ℕ → Layout → List ℕ → Lexed
 tokens_from n at l [] = Ok []
 tokens_from zero at l (b ∷ bs) = Err (at_line l.line kind.Syntax)
 tokens_from (suc n) at l (b ∷ bs) = after_piece (tokens_from n) at l (b ∷ bs) (front (b ∷ bs))
-
--- a text of more than 1 MiB is not read
-abbrev pub tokens : List ℕ → Lexed
-tokens text = if nat_lt (2 ^ 20) (length text) then Err (at_line 1 kind.TooLong) else tokens_from (length text) 0 start text
 
 -- The answer of `tokens`: the tokens, or the first fault, where memory sufficed.
 abbrev pub Lexes : Result (Vec Token Global) FormulaFault → Lexed → Type 0

@@ -2,9 +2,10 @@
 
 ghost use Rattle.std.specs.Prelude.{◌≡◌, ◌≤◌, ◌<◌, length, take, IfOk, Ok, true};
 ghost use Rattle.std.specs.List.{prefix_len};
-ghost use Rattle.fisca_lexer.specs.Marks.{single};
+ghost use Rattle.fisca_lexer.specs.Steps.Marks.{single};
 ghost use Rattle.fisca_ast.specs.Strings as comments;
 ghost use Rattle.fisca_lexer.specs.Pieces as spec;
+ghost use Rattle.fisca_lexer.specs.Steps.Pieces as steps;
 ghost use Rattle.fisca_lexer.specs.declared.token.Form.TheVariants as form;
 
 use crate::marks::{pair, single};
@@ -15,20 +16,20 @@ use fisca_ast::{FormulaKind, begins, string_len};
 use unicode_ident::is_xid_start;
 
 fn is_word_byte(b: u8) -> bool
-    ensures { result ≡ spec.is_word_byte b }
+    ensures { result ≡ steps.is_word_byte b }
 {
     b.is_ascii_alphanumeric() || b == b'_'
 }
 
 fn is_blank(b: u8) -> bool
-    ensures { result ≡ spec.is_blank b }
+    ensures { result ≡ steps.is_blank b }
 {
     b == b' ' || b == b'\t'
 }
 
 /// How many bytes of a word stand in front.
 fn word_len(text: &[u8]) -> usize
-    ensures value { result ≡ prefix_len spec.is_word_byte text.now }
+    ensures value { result ≡ prefix_len steps.is_word_byte text.now }
     ensures within { result ≤ length text.now }
 {
     text.iter().take_while(|b| is_word_byte(**b)).count()
@@ -36,7 +37,7 @@ fn word_len(text: &[u8]) -> usize
 
 /// How many blanks stand in front.
 fn blank_len(text: &[u8]) -> usize
-    ensures value { result ≡ prefix_len spec.is_blank text.now }
+    ensures value { result ≡ prefix_len steps.is_blank text.now }
     ensures within { result ≤ length text.now }
 {
     text.iter().take_while(|b| is_blank(**b)).count()
@@ -59,7 +60,7 @@ fn line_len(text: &[u8]) -> usize
 
 /// How many line feeds a text has.
 fn line_feeds(text: &[u8]) -> usize
-    ensures value { result ≡ spec.line_feeds text.now }
+    ensures value { result ≡ steps.line_feeds text.now }
     ensures within { result ≤ length text.now }
 {
     text.iter().filter(|b| **b == b'\n').count()
@@ -79,7 +80,7 @@ fn token(class: Class, size: usize) -> Piece
 /// The text in quotes behind a prefix of this length.
 fn string(text: &[u8], prefix: usize) -> Result<Piece, FormulaKind>
     requires { prefix ≤ length text.now }
-    ensures value { result ≡ spec.string prefix text.now }
+    ensures value { result ≡ steps.string prefix text.now }
     ensures within { IfOk result (λ p. p.length ≤ length text.now) }
     ensures lines { IfOk result (λ p. p.lines ≤ p.length) }
     ensures further { IfOk result (λ p. prefix < p.length) }
@@ -100,7 +101,7 @@ fn string(text: &[u8], prefix: usize) -> Result<Piece, FormulaKind>
 /// The word of this length in front, or the text in quotes whose prefix it is.
 fn word(text: &[u8], size: usize) -> Result<Piece, FormulaKind>
     requires { size ≤ length text.now }
-    ensures value { result ≡ spec.word size text.now }
+    ensures value { result ≡ steps.word size text.now }
     ensures within { IfOk result (λ p. p.length ≤ length text.now) }
     ensures lines { IfOk result (λ p. p.lines ≤ p.length) }
     ensures further { IfOk result (λ p. size ≤ p.length) }
@@ -120,7 +121,7 @@ fn word(text: &[u8], size: usize) -> Result<Piece, FormulaKind>
 
 /// The character in front, past ASCII.
 fn character(text: &[u8]) -> u32
-    ensures value { result ≡ spec.character text.now }
+    ensures value { result ≡ steps.character text.now }
 {
     let low = |b: u8| u32::from(b % 64);
     match text {
@@ -133,7 +134,7 @@ fn character(text: &[u8]) -> u32
 
 /// Whether the character of this number is a letter that could begin a name.
 fn is_letter(code: u32) -> bool
-    ensures { result ≡ spec.is_letter code }
+    ensures { result ≡ steps.is_letter code }
 {
     match char::from_u32(code) {
         Some(letter) => is_xid_start(letter),
@@ -143,7 +144,7 @@ fn is_letter(code: u32) -> bool
 
 /// Why nothing can be read in front.
 fn unread(text: &[u8]) -> FormulaKind
-    ensures { result ≡ spec.unread text.now }
+    ensures { result ≡ steps.unread text.now }
 {
     match text {
         [b'%' | b'\\', ..] => FormulaKind::Unsupported,
@@ -154,7 +155,7 @@ fn unread(text: &[u8]) -> FormulaKind
 
 /// The mark of one byte in front.
 fn one_mark(text: &[u8], byte: u8) -> Result<Piece, FormulaKind>
-    ensures value { result ≡ spec.one_mark text.now (single byte) }
+    ensures value { result ≡ steps.one_mark text.now (single byte) }
     ensures length { IfOk result (λ p. (p.length ≡ 1) × (p.lines ≡ 0)) }
 {
     match single(byte) {
@@ -165,7 +166,7 @@ fn one_mark(text: &[u8], byte: u8) -> Result<Piece, FormulaKind>
 
 /// The longer mark in front.
 fn marked(text: &[u8]) -> Result<Piece, FormulaKind>
-    ensures value { result ≡ spec.marked text.now }
+    ensures value { result ≡ steps.marked text.now }
     ensures within { IfOk result (λ p. p.length ≤ length text.now) }
     ensures lines { IfOk result (λ p. p.lines ≡ 0) }
     ensures some { IfOk result (λ p. 0 < p.length) }
@@ -182,8 +183,8 @@ fn marked(text: &[u8]) -> Result<Piece, FormulaKind>
 
 /// The blanks in front.
 fn blanks(text: &[u8]) -> Piece
-    ensures value { Ok result ≡ spec.blanks (prefix_len spec.is_blank text.now) text.now }
-    ensures length { (result.length ≡ prefix_len spec.is_blank text.now) × (result.lines ≡ 0) }
+    ensures value { Ok result ≡ steps.blanks (prefix_len steps.is_blank text.now) text.now }
+    ensures length { (result.length ≡ prefix_len steps.is_blank text.now) × (result.lines ≡ 0) }
     ensures within { result.length ≤ length text.now }
 {
     let size = blank_len(text);
@@ -201,7 +202,7 @@ fn blanks(text: &[u8]) -> Piece
 
 /// A line end of this length.
 fn line_end(size: usize) -> Piece
-    ensures { Ok result ≡ spec.line_end size }
+    ensures { Ok result ≡ steps.line_end size }
 {
     Piece {
         form: Form::LineEnd,
@@ -224,7 +225,7 @@ fn comment(text: &[u8]) -> Piece
 
 /// What stands in front, where it is no number and no word.
 fn other(text: &[u8]) -> Result<Piece, FormulaKind>
-    ensures value { result ≡ spec.other text.now }
+    ensures value { result ≡ steps.other text.now }
     ensures within { IfOk result (λ p. p.length ≤ length text.now) }
     ensures lines { IfOk result (λ p. p.lines ≤ p.length) }
     ensures some { IfOk result (λ p. 0 < p.length) }
@@ -248,7 +249,7 @@ fn other(text: &[u8]) -> Result<Piece, FormulaKind>
 
 /// The piece in front, a number, a word or something else, or why none can be read.
 fn written(text: &[u8]) -> Result<Piece, FormulaKind>
-    ensures value { result ≡ spec.front text.now }
+    ensures value { result ≡ steps.front text.now }
     ensures within { IfOk result (λ p. p.length ≤ length text.now) }
     ensures lines { IfOk result (λ p. p.lines ≤ p.length) }
     ensures some { IfOk result (λ p. 0 < p.length) }
@@ -266,7 +267,7 @@ fn written(text: &[u8]) -> Result<Piece, FormulaKind>
 /// The piece in front, or why none can be read. Spaces and line ends are more than half of all pieces, so they are looked for
 /// first.
 pub(crate) fn front(text: &[u8]) -> Result<Piece, FormulaKind>
-    ensures value { result ≡ spec.front text.now }
+    ensures value { result ≡ steps.front text.now }
     ensures within { IfOk result (λ p. p.length ≤ length text.now) }
     ensures lines { IfOk result (λ p. p.lines ≤ p.length) }
     ensures some { IfOk result (λ p. 0 < p.length) }

@@ -2,6 +2,7 @@
 
 ghost use Rattle.std.specs.Prelude.{◌≡◌, ◌≢◌, ◌≤◌, ◌<◌, ◌+◌, ◌^◌, MatchResult, OnOk, Ok, Err, Some};
 ghost use Rattle.fisca_lexer.specs.Layout as spec;
+ghost use Rattle.fisca_lexer.specs.Steps.Layout as steps;
 ghost use Rattle.fisca_lexer.specs.declared.token.Form.TheVariants as form;
 
 use crate::levels::Levels;
@@ -35,14 +36,14 @@ pub(crate) struct Layout {
 
 /// Whether a bracket that opens.
 fn opens(mark: Mark) -> bool
-    ensures { result ≡ spec.opens mark }
+    ensures { result ≡ steps.opens mark }
 {
     matches!(mark, Mark::Open | Mark::OpenList | Mark::OpenMap)
 }
 
 /// Whether a bracket that closes.
 fn closes(mark: Mark) -> bool
-    ensures { result ≡ spec.closes mark }
+    ensures { result ≡ steps.closes mark }
 {
     matches!(mark, Mark::Close | Mark::CloseList | Mark::CloseMap)
 }
@@ -50,7 +51,7 @@ fn closes(mark: Mark) -> bool
 /// How many brackets are open behind a token.
 fn depth_after(class: Class, depth: usize) -> usize
     requires { depth < 2 ^ 63 }
-    ensures value { result ≡ spec.depth_after class depth }
+    ensures value { result ≡ steps.depth_after class depth }
     ensures bound { result ≤ depth + 1 }
 {
     match class {
@@ -63,7 +64,7 @@ fn depth_after(class: Class, depth: usize) -> usize
 
 /// What stands before the next piece behind these blanks.
 fn behind_blanks(margin: Margin, blanks: Margin) -> Margin
-    ensures { result ≡ spec.behind_blanks margin blanks }
+    ensures { result ≡ steps.behind_blanks margin blanks }
 {
     match margin {
         Margin::Tokens => Margin::Tokens,
@@ -74,7 +75,7 @@ fn behind_blanks(margin: Margin, blanks: Margin) -> Margin
 
 /// What stands before the first piece of a line.
 fn line_start(depth: usize) -> Margin
-    ensures { result ≡ spec.line_start depth }
+    ensures { result ≡ steps.line_start depth }
 {
     if depth == 0 {
         Margin::Spaces(0)
@@ -147,7 +148,7 @@ impl Layout {
 
     /// Goes past blanks.
     pub fn pass_blanks(&mut self, blanks: Margin)
-        ensures { self.new ≡ record self.old { margin = spec.behind_blanks self.old.margin blanks } }
+        ensures { self.new ≡ record self.old { margin = steps.behind_blanks self.old.margin blanks } }
     {
         self.margin = behind_blanks(self.margin, blanks);
     }
@@ -155,7 +156,7 @@ impl Layout {
     /// Goes past the end of a line, which has so many line feeds.
     pub fn end_line(&mut self, feeds: usize)
         requires { self.old.line + feeds < 2 ^ 32 }
-        ensures { self.new ≡ record self.old { line = self.old.line + feeds; margin = spec.line_start self.old.depth } }
+        ensures { self.new ≡ record self.old { line = self.old.line + feeds; margin = steps.line_start self.old.depth } }
     {
         self.line += feeds as u32;
         self.margin = line_start(self.depth);

@@ -1,7 +1,7 @@
 //! Open indentations.
 
 ghost use Rattle.std.specs.Prelude.{◌≡◌, ◌≤◌, OnOk, OnErr, IfOk};
-ghost use Rattle.fisca_lexer.specs.Layout as spec;
+ghost use Rattle.fisca_lexer.specs.Steps.Layout as spec;
 
 use std::alloc::{AllocError, Global};
 use std::marker::Model;

@@ -4,6 +4,7 @@ ghost use Rattle.std.specs.Prelude.{◌≡◌, ◌≢◌, ◌≤◌, ◌<◌, �
 ghost use Rattle.fisca_lexer.specs.Layout.{start, step};
 ghost use Rattle.fisca_lexer.specs.declared.layout.Layout.{Layout as State};
 ghost use Rattle.fisca_lexer.specs.Tokens as spec;
+ghost use Rattle.fisca_lexer.specs.Steps.Tokens as steps;
 ghost use Rattle.fisca_lexer.specs.Tokens.{Lexes, Lexed};
 
 use crate::front::front;
@@ -63,7 +64,7 @@ fn take(
 /// behind a tab. `TooLong`, at line 1, comes before all others, where the text has more than 1 MiB. `Memory`, at line 0,
 /// comes only where a growth was refused.
 pub fn tokens(alloc: Global, text: &str) -> Result<Vec<Token>, FormulaFault>
-    ensures { Lexes result (spec.tokens text.now) }
+    ensures { Lexes result (steps.tokens text.now) }
 {
     let bytes = text.as_bytes();
     if bytes.len() > LONGEST {

@@ -1,7 +1,7 @@
 //! Marks, in front of a text.
 
 ghost use Rattle.std.specs.Prelude.{◌≡◌};
-ghost use Rattle.fisca_lexer.specs.Marks as spec;
+ghost use Rattle.fisca_lexer.specs.Steps.Marks as spec;
 
 use crate::token::Mark;
 

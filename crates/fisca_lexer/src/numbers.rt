@@ -2,7 +2,7 @@
 
 ghost use Rattle.std.specs.Prelude.{◌≡◌, ◌≤◌, ◌<◌, length, false, true, take, IfOk};
 ghost use Rattle.std.specs.Str.{IsAscii};
-ghost use Rattle.fisca_lexer.specs.Pieces as spec;
+ghost use Rattle.fisca_lexer.specs.Steps.Pieces as spec;
 
 use crate::token::{Class, Form, Piece};
 use fisca_ast::{FormulaKind, begins};

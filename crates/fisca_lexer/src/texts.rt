@@ -2,12 +2,13 @@
 
 ghost use Rattle.std.specs.Prelude.{◌≡◌, true, false};
 ghost use Rattle.fisca_lexer.specs.Texts as spec;
+ghost use Rattle.fisca_lexer.specs.Steps.Texts as steps;
 
 use crate::token::{Class, Token};
 
 /// Whether both are texts in quotes, the second beside the first.
 fn beside(token: &Token, next: &Token) -> bool
-    ensures { result ≡ spec.beside token.now next.now }
+    ensures { result ≡ steps.beside token.now next.now }
 {
     matches!(token.class, Class::Quoted)
         && next.indent.is_none()
@@ -21,7 +22,7 @@ pub fn join_texts(tokens: &mut Vec<Token>)
 {
     tokens.dedup_by(
         |next: &mut Token, last: &mut Token| -> bool
-            ensures test { result ≡ spec.beside last.old next.old }
+            ensures test { result ≡ steps.beside last.old next.old }
             ensures joined { result ≡ true → last.new ≡ record last.old { end = next.old.end } }
             ensures apart { result ≡ false → (last.new ≡ last.old) × (next.new ≡ next.old) }
         {

@@ -1,7 +1,7 @@
 -- What a node says before k is what it means, and then k.
 use Rattle.std.proofs.Common.{◌≡◌, ℕ, ◌+◌, ◌*◌, List, [], ◌∷◌, Option, Some, None, Result, Ok, Err, true, false, refl, sym, ap, ap₂, ◌∙◌, slice_get}
 use Rattle.fisca_num.specs.Number.{Number}
-use Rattle.fisca_formula_semantics.specs.Answers.{arithmetic_of, logic_of, comparison_of, same_of, negative_of, not_of}
+use Rattle.fisca_formula_semantics.specs.Answers.{arithmetic_of, logic_of, comparison_of, same_of, unary_of}
 use Rattle.fisca_model.specs.Values.{Value, number, bool, member}
 use Rattle.fisca_key_semantics.specs.Dialogues.{Dialogue, gives, fails, stuck, asks, ◌>>=◌, with_number, with_member}
 use Rattle.fisca_formula_semantics.specs.Meaning.{mean, at_index, at_person, in_turn, from_first, total_over, chosen, local_at}
@@ -95,8 +95,7 @@ module _ (c : Tables) (g : Groups) (E : Locals) (ls : meaning.Locals) (h : (i : 
     says_on (node.has_role e r) p k = refl
     says_on (node.count r) p k = refl
     says_on (node.total o r a) p k = total_on o _ _ (λ m j. says_on a (at_person p m) j) (persons_at g p r) k
-    says_on (node.negative a) p k = says_on a p _ ∙ sym (assoc (mean c g ls a p) negative_of k)
-    says_on (node.opposite a) p k = says_on a p _ ∙ sym (assoc (mean c g ls a p) not_of k)
+    says_on (node.unary o a) p k = says_on a p _ ∙ sym (assoc (mean c g ls a p) (unary_of o) k)
     says_on (node.arithmetic o a b) p k = says_on a p _ ∙ next (mean c g ls a p) _ _ (λ x. says_on b p _ ∙ sym (assoc (mean c g ls b p) (arithmetic_of o x) k)) ∙ sym (assoc (mean c g ls a p) _ k)
     says_on (node.logic o a b) p k = says_on a p _ ∙ next (mean c g ls a p) _ _ (λ x. says_on b p _ ∙ sym (assoc (mean c g ls b p) (logic_of o x) k)) ∙ sym (assoc (mean c g ls a p) _ k)
     says_on (node.comparison o a b) p k = says_on a p _ ∙ next (mean c g ls a p) _ _ (λ x. says_on b p _ ∙ sym (assoc (mean c g ls b p) (comparison_of o x) k)) ∙ sym (assoc (mean c g ls a p) _ k)

@@ -12,7 +12,8 @@ use Rattle.fisca_typing.specs.declared.operations.Arithmetic.{Arithmetic}
 use Rattle.fisca_machine.specs.declared.pending.Operation.TheVariants as operation
 use Rattle.fisca_machine.specs.declared.plan.Operand.{Operand}
 use Rattle.fisca_machine.specs.declared.plan.PlanStep.{PlanStep}
-use Rattle.fisca_machine.specs.Plans.{has_plan, is_operand, made, operands, then_operand, then_steps}
+use Rattle.fisca_machine.specs.Plans.{has_plan, is_operand, operands, then_operand, then_steps}
+use Rattle.fisca_machine.specs.Steps.Plans.{made}
 use Rattle.fisca_machine.specs.Running.{After, Locals, says}
 
 steps_behind : (ss : List PlanStep) (s : PlanStep) (k : After) → then_steps (ss ++ s ∷ []) k ≡ then_steps ss (then_steps (s ∷ []) k)

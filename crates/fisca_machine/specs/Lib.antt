@@ -1,4 +1,5 @@
 pub mod Plans
 pub mod Running
+pub mod Steps
 pub mod Weights
-pub mod World
+pub mod Context

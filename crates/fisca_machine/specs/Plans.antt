@@ -1,8 +1,8 @@
 -- What is made of known values and of the values of keys, one after another.
-use Rattle.std.specs.Prelude.{◌≡◌, ℕ, Bool, true, false, ◌&&◌, List, [], ◌∷◌, ◌++◌, Option, Some, None}
+use Rattle.std.specs.Prelude.{◌≡◌, ℕ, Bool, true, false, ◌&&◌, List, [], ◌∷◌, ◌++◌}
 use Rattle.fisca_model.specs.Seen.{key_seen, value_seen}
 use Rattle.fisca_key_semantics.specs.Dialogues.{Dialogue, gives, fails, stuck, asks, ◌>>=◌}
-use Rattle.fisca_model.specs.Values.{Value, bool}
+use Rattle.fisca_model.specs.Values.{bool}
 use Rattle.fisca_model.specs.Groups.{Groups, Point}
 use Rattle.fisca_typing.specs.Nodes as node
 use Rattle.fisca_typing.specs.Nodes.{Node, Indices, no_index, index}
@@ -13,8 +13,7 @@ use Rattle.fisca_typing.specs.declared.asking.Whom.{Whom}
 use Rattle.fisca_typing.specs.declared.asking.Whom.TheVariants as whom
 use Rattle.fisca_ops.specs.Casts.{cast}
 use Rattle.fisca_ops.specs.Ended.{fault_seen}
-use Rattle.fisca_machine.specs.Running.{After, Locals, applied, says}
-use Rattle.fisca_machine.specs.declared.pending.Operation.{Operation}
+use Rattle.fisca_machine.specs.Running.{After, Locals, says}
 use Rattle.fisca_machine.specs.declared.plan.Operand.{Operand}
 use Rattle.fisca_machine.specs.declared.plan.Operand.TheVariants as operand
 use Rattle.fisca_machine.specs.declared.plan.Plan.{Plan}
@@ -22,16 +21,12 @@ use Rattle.fisca_machine.specs.declared.plan.PlanStep.{PlanStep}
 use Rattle.fisca_machine.specs.declared.progress.Progress.{Progress}
 use Rattle.fisca_machine.specs.declared.progress.Stop.{Stop}
 use Rattle.fisca_machine.specs.declared.progress.Stop.TheVariants as stop
+use Rattle.fisca_machine.specs.Steps.Plans.{made}
 
 -- a key's value is asked for
 abbrev pub then_operand : Operand → After → Dialogue
 then_operand (operand.Known v) k = k (value_seen v)
 then_operand (operand.Asked key) k = asks (key_seen key) k
-
--- what is made of the value so far and of an operand; without an operation it is the operand
-abbrev pub made : Option Operation → Value → Value → Dialogue
-made None x y = gives y
-made (Some o) x y = applied o x y
 
 -- each step makes a value of that before it and of its operand
 abbrev pub then_steps : List PlanStep → After → After
@@ -80,8 +75,7 @@ is_simple (node.ask v w how ms) = is_plain w how
 is_simple (node.has_role e r) = false
 is_simple (node.count r) = false
 is_simple (node.total o r a) = false
-is_simple (node.negative a) = false
-is_simple (node.opposite a) = false
+is_simple (node.unary o a) = false
 is_simple (node.arithmetic o a b) = false
 is_simple (node.logic o a b) = false
 is_simple (node.comparison o a b) = false

@@ -1,7 +1,7 @@
 -- What a machine has still to do, told with what comes after it.
 use Rattle.std.specs.Prelude.{◌≡◌, ℕ, zero, suc, ◌+◌, ◌*◌, ◌==◌, if◌then◌else◌, List, [], ◌∷◌, drop, slice_get, length, Option, Some, None}
 use Rattle.fisca_model.specs.Seen.{key_seen, value_seen}
-use Rattle.fisca_formula_semantics.specs.Answers.{arithmetic_of, logic_of, comparison_of, same_of, negative_of, not_of}
+use Rattle.fisca_formula_semantics.specs.Answers.{arithmetic_of, logic_of, comparison_of, same_of, unary_of}
 use Rattle.fisca_model.specs.Values.{Value, number, bool, member}
 use Rattle.fisca_key_semantics.specs.Dialogues.{Dialogue, gives, fails, stuck, asks, ◌>>=◌, with_number, with_member, computed, no_member}
 use Rattle.fisca_formula_semantics.specs.Meaning.{at_person, at_place, chosen, parameter_value, scale_value}
@@ -24,14 +24,13 @@ use Rattle.fisca_ops.specs.Casts.{cast}
 use Rattle.fisca_ops.specs.Ended.{fault_seen}
 use Rattle.fisca_ops.specs.Parts.{shared}
 use Rattle.fisca_ops.specs.Persons.{persons_from}
-use Rattle.fisca_ops.specs.Totals.{beginning, step_of}
-use Rattle.fisca_machine.specs.World.{tables, groups}
+use Rattle.fisca_ops.specs.Totals.{step_of}
+use Rattle.fisca_ops.specs.Steps.Totals.{beginning}
+use Rattle.fisca_machine.specs.Context.{tables, groups}
 use Rattle.fisca_machine.specs.declared.pending.At.{At}
 use Rattle.fisca_machine.specs.declared.pending.Frame.{Frame}
 use Rattle.fisca_machine.specs.declared.pending.Kept.{Kept}
 use Rattle.fisca_machine.specs.declared.pending.Kept.TheVariants as kept
-use Rattle.fisca_machine.specs.declared.pending.Operation.{Operation}
-use Rattle.fisca_machine.specs.declared.pending.Operation.TheVariants as operation
 use Rattle.fisca_machine.specs.declared.pending.Pending.{Pending}
 use Rattle.fisca_machine.specs.declared.pending.Pending.TheVariants as then
 use Rattle.fisca_machine.specs.declared.machine.Control.{Control}
@@ -39,7 +38,8 @@ use Rattle.fisca_machine.specs.declared.machine.Control.TheVariants.{Eval, Give}
 use Rattle.fisca_machine.specs.declared.machine.Step.{Step}
 use Rattle.fisca_machine.specs.declared.machine.Step.TheVariants as step
 use Rattle.fisca_machine.specs.declared.machine.Machine.{Machine}
-use Rattle.fisca_machine.specs.declared.world.World.{World}
+use Rattle.fisca_machine.specs.declared.context.Context.{Context}
+use Rattle.fisca_machine.specs.Steps.Running.{applied}
 
 -- what comes after a value
 abbrev pub After : Type 0
@@ -48,12 +48,6 @@ After = Value → Dialogue
 -- what a local says, by how many with a value come before it
 abbrev pub Locals : Type 0
 Locals = ℕ → Point → After → Dialogue
-
-abbrev pub applied : Operation → Value → Value → Dialogue
-applied (operation.Arithmetic o) = arithmetic_of o
-applied (operation.Logic o) = logic_of o
-applied (operation.Comparison o) = comparison_of o
-applied operation.Same = same_of
 
 abbrev pub before : Dialogue → After → Dialogue
 before d k = d >>= k
@@ -100,8 +94,7 @@ abbrev mutual
   says c g ls (node.has_role e r) p k = k (bool (has r (g.role_of e p.member)))
   says c g ls (node.count r) p k = counted (length (persons_at g p r)) >>= k
   says c g ls (node.total o r a) p k = total_then o (λ m. says c g ls a (at_person p m)) (persons_at g p r) k
-  says c g ls (node.negative a) p k = says c g ls a p (λ x. negative_of x >>= k)
-  says c g ls (node.opposite a) p k = says c g ls a p (λ x. not_of x >>= k)
+  says c g ls (node.unary o a) p k = says c g ls a p (λ x. unary_of o x >>= k)
   says c g ls (node.arithmetic o a b) p k = says c g ls a p (λ x. says c g ls b p (λ y. arithmetic_of o x y >>= k))
   says c g ls (node.logic o a b) p k = says c g ls a p (λ x. says c g ls b p (λ y. logic_of o x y >>= k))
   says c g ls (node.comparison o a b) p k = says c g ls a p (λ x. says c g ls b p (λ y. comparison_of o x y >>= k))
@@ -128,11 +121,11 @@ abbrev pub point : Frame → At → Point
 point f at = record { entity = f.entity; member = f.member; person = at.person; period = f.period }
 
 -- a node of a formula with these locals, so many of which are seen
-abbrev pub saying : World → List Held → Frame → Held → At → After → Dialogue
+abbrev pub saying : Context → List Held → Frame → Held → At → After → Dialogue
 saying w ns f e at k = says (tables w) (groups w) (says_below (tables w) (groups w) ns at.visible) (node e) (point f at) k
 
 -- the same for a person
-abbrev pub saying_for : World → List Held → Frame → Held → At → ℕ → After → Dialogue
+abbrev pub saying_for : Context → List Held → Frame → Held → At → ℕ → After → Dialogue
 saying_for w ns f e at m = says (tables w) (groups w) (says_below (tables w) (groups w) ns at.visible) (node e) (at_person (point f at) m)
 
 -- a parameter's indices, places and moves
@@ -145,11 +138,11 @@ from zero is = is
 from (suc n) no_index = no_index
 from (suc n) (index m size is) = from n is
 
-abbrev pub choosing : World → List Held → Frame → Indices → ℕ → At → (ℕ → Dialogue) → Dialogue
+abbrev pub choosing : Context → List Held → Frame → Indices → ℕ → At → (ℕ → Dialogue) → Dialogue
 choosing w ns f is i at h = chooses (tables w) (groups w) (says_below (tables w) (groups w) ns at.visible) is i (point f at) h
 
 -- the first one is there now
-abbrev pub choosing_behind : World → List Held → Frame → Indices → ℕ → At → (ℕ → Dialogue) → After
+abbrev pub choosing_behind : Context → List Held → Frame → Indices → ℕ → At → (ℕ → Dialogue) → After
 choosing_behind w ns f no_index i at h = λ x. stuck
 choosing_behind w ns f (index n size is) i at h = λ x. with_member x (λ j. choosing w ns f is (i * size + j) at h)
 
@@ -157,51 +150,35 @@ choosing_behind w ns f (index n size is) i at h = λ x. with_member x (λ j. cho
 
 -- what is kept on top
 abbrev pub on_value : List Kept → (Value → After) → After
-on_value [] h = λ y. stuck
 on_value (kept.Value v ∷ vs) h = h (value_seen v)
-on_value (kept.Day d ∷ vs) h = λ y. stuck
-on_value (kept.Sum s ∷ vs) h = λ y. stuck
-on_value (kept.Frame f ∷ vs) h = λ y. stuck
+on_value _ _ = λ y. stuck
 
 abbrev pub on_day : List Kept → (CivilDate → After) → After
-on_day [] h = λ y. stuck
-on_day (kept.Value v ∷ vs) h = λ y. stuck
 on_day (kept.Day d ∷ vs) h = h d.date
-on_day (kept.Sum s ∷ vs) h = λ y. stuck
-on_day (kept.Frame f ∷ vs) h = λ y. stuck
+on_day _ _ = λ y. stuck
 
 abbrev pub on_sum : List Kept → (Span → Number → After) → After
-on_sum [] h = λ y. stuck
-on_sum (kept.Value v ∷ vs) h = λ y. stuck
-on_sum (kept.Day d ∷ vs) h = λ y. stuck
 on_sum (kept.Sum s ∷ vs) h = h s.period s.sum
-on_sum (kept.Frame f ∷ vs) h = λ y. stuck
+on_sum _ _ = λ y. stuck
 
 abbrev pub on_frame : List Kept → After → After
-on_frame [] h = λ y. stuck
-on_frame (kept.Value v ∷ vs) h = λ y. stuck
-on_frame (kept.Day d ∷ vs) h = λ y. stuck
-on_frame (kept.Sum s ∷ vs) h = λ y. stuck
 on_frame (kept.Frame f ∷ vs) h = h
+on_frame _ _ = λ y. stuck
 
 abbrev pub below_frame : {X : Type 0} → X → List Kept → (Frame → List Kept → X) → X
-below_frame none [] h = none
-below_frame none (kept.Value v ∷ vs) h = none
-below_frame none (kept.Day d ∷ vs) h = none
-below_frame none (kept.Sum s ∷ vs) h = none
 below_frame none (kept.Frame f ∷ vs) h = h f vs
+below_frame none _ _ = none
 
 abbrev pub behind : {X : Type 0} → List X → List X
 behind [] = []
 behind (x ∷ xs) = xs
 
 -- what the formula on top does with a value
-abbrev pub top : World → List Held → Frame → List Pending → List Kept → After
+abbrev pub top : Context → List Held → Frame → List Pending → List Kept → After
 top w ns f [] vs = λ x. stuck
 top w ns f (then.Right o b at ∷ ks) vs = λ x. saying w ns f b.now at (λ y. applied o x y >>= top w ns f ks vs)
 top w ns f (then.Apply o ∷ ks) vs = on_value vs (λ x y. applied o x y >>= top w ns f ks (behind vs))
-top w ns f (then.Negative ∷ ks) vs = λ x. negative_of x >>= top w ns f ks vs
-top w ns f (then.Opposite ∷ ks) vs = λ x. not_of x >>= top w ns f ks vs
+top w ns f (then.Unary o ∷ ks) vs = λ x. unary_of o x >>= top w ns f ks vs
 top w ns f (then.Choose a b at ∷ ks) vs = λ x. chosen x (saying w ns f a.now at (top w ns f ks vs)) (saying w ns f b.now at (top w ns f ks vs))
 top w ns f (then.Turn o t i at ∷ ks) vs =
     on_value vs (λ sum x. step_of o sum x >>= λ s. turn_then (step_of o) (saying_for w ns f t.now.values at) (persons_from (groups w) f.entity f.member t.now.role i) s (top w ns f ks (behind vs)))
@@ -216,12 +193,11 @@ top w ns f (then.Scale a ∷ ks) vs = on_day vs (λ day x. scale_by (tables w) a
 top w ns f (then.Return ms t ∷ ks) vs = on_frame vs (cast t)
 
 -- what the formulas below do with a value
-abbrev pub waits : World → List Held → Frame → List Pending → List Kept → List After
+abbrev pub waits : Context → List Held → Frame → List Pending → List Kept → List After
 waits w ns f [] vs = []
 waits w ns f (then.Right o b at ∷ ks) vs = waits w ns f ks vs
 waits w ns f (then.Apply o ∷ ks) vs = waits w ns f ks (behind vs)
-waits w ns f (then.Negative ∷ ks) vs = waits w ns f ks vs
-waits w ns f (then.Opposite ∷ ks) vs = waits w ns f ks vs
+waits w ns f (then.Unary o ∷ ks) vs = waits w ns f ks vs
 waits w ns f (then.Choose a b at ∷ ks) vs = waits w ns f ks vs
 waits w ns f (then.Turn o t i at ∷ ks) vs = waits w ns f ks (behind vs)
 waits w ns f (then.First o t i at ∷ ks) vs = waits w ns f ks vs
@@ -231,14 +207,14 @@ waits w ns f (then.Index a next i at ∷ ks) vs = waits w ns f ks (behind vs)
 waits w ns f (then.Scale a ∷ ks) vs = waits w ns f ks (behind vs)
 waits w ns f (then.Return ms t ∷ ks) vs = below_frame [] vs (λ h ys. top w ms.now h ks ys ∷ waits w ms.now h ks ys)
 
-abbrev pub rest : World → Machine → After
+abbrev pub rest : Context → Machine → After
 rest w m = top w m.locals.now m.frame m.stack m.kept
 
-abbrev pub waiting : World → Machine → List After
+abbrev pub waiting : Context → Machine → List After
 waiting w m = waits w m.locals.now m.frame m.stack m.kept
 
 -- what a machine does from here on
-abbrev pub resume : World → Machine → Control → Dialogue
+abbrev pub resume : Context → Machine → Control → Dialogue
 resume w m (Eval e at) = saying w m.locals.now m.frame e.now at (rest w m)
 resume w m Give = rest w m (value_seen m.value)
 

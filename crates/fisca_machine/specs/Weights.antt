@@ -7,7 +7,7 @@ use Rattle.fisca_typing.specs.Nodes as node
 use Rattle.fisca_typing.specs.Nodes.{Node, Indices, no_index, index}
 use Rattle.fisca_ops.specs.Persons.{persons_from}
 use Rattle.fisca_machine.specs.Running.{behind, below_frame, from, parametric}
-use Rattle.fisca_machine.specs.World.{groups}
+use Rattle.fisca_machine.specs.Context.{groups}
 use Rattle.fisca_machine.specs.declared.pending.At.{At}
 use Rattle.fisca_machine.specs.declared.pending.Frame.{Frame}
 use Rattle.fisca_machine.specs.declared.pending.Kept.{Kept}
@@ -16,7 +16,7 @@ use Rattle.fisca_machine.specs.declared.pending.Pending.TheVariants as then
 use Rattle.fisca_machine.specs.declared.machine.Control.{Control}
 use Rattle.fisca_machine.specs.declared.machine.Control.TheVariants.{Eval, Give}
 use Rattle.fisca_machine.specs.declared.machine.Machine.{Machine}
-use Rattle.fisca_machine.specs.declared.world.World.{World}
+use Rattle.fisca_machine.specs.declared.context.Context.{Context}
 
 abbrev pub persons_weight : ℕ → List ℕ → ℕ
 persons_weight each [] = 1
@@ -33,8 +33,7 @@ abbrev mutual
   weight g f ls (node.has_role e r) = 1
   weight g f ls (node.count r) = 1
   weight g f ls (node.total o r a) = 1 + persons_weight (weight g f ls a) (persons_from g f.entity f.member r 0)
-  weight g f ls (node.negative a) = weight g f ls a + 2
-  weight g f ls (node.opposite a) = weight g f ls a + 2
+  weight g f ls (node.unary o a) = weight g f ls a + 2
   weight g f ls (node.arithmetic o a b) = weight g f ls a + (weight g f ls b + 3)
   weight g f ls (node.logic o a b) = weight g f ls a + (weight g f ls b + 3)
   weight g f ls (node.comparison o a b) = weight g f ls a + (weight g f ls b + 3)
@@ -55,23 +54,22 @@ unfoldable pub weight_below : Groups → Frame → List Held → ℕ → ℕ →
 weight_below g f ns zero i = 0
 weight_below g f ns (suc n) i = if i == n then weight_or g f (weight_below g f ns n) (slice_get ns n) else weight_below g f ns n i
 
-abbrev pub weighing : World → List Held → Frame → Held → At → ℕ
+abbrev pub weighing : Context → List Held → Frame → Held → At → ℕ
 weighing w ns f e at = weight (groups w) f (weight_below (groups w) f ns at.visible) (node e)
 
-abbrev pub indices_weighing : World → List Held → Frame → Indices → At → ℕ
+abbrev pub indices_weighing : Context → List Held → Frame → Indices → At → ℕ
 indices_weighing w ns f is at = indices_weight (groups w) f (weight_below (groups w) f ns at.visible) is
 
 -- those behind the first
-abbrev pub weighing_behind : World → List Held → Frame → Indices → At → ℕ
+abbrev pub weighing_behind : Context → List Held → Frame → Indices → At → ℕ
 weighing_behind w ns f no_index at = 1
 weighing_behind w ns f (index n size is) at = indices_weighing w ns f is at
 
-abbrev pub stack_weight : World → List Held → Frame → List Pending → List Kept → ℕ
+abbrev pub stack_weight : Context → List Held → Frame → List Pending → List Kept → ℕ
 stack_weight w ns f [] vs = 0
 stack_weight w ns f (then.Right o b at ∷ ks) vs = weighing w ns f b.now at + 2 + stack_weight w ns f ks vs
 stack_weight w ns f (then.Apply o ∷ ks) vs = 1 + stack_weight w ns f ks (behind vs)
-stack_weight w ns f (then.Negative ∷ ks) vs = 1 + stack_weight w ns f ks vs
-stack_weight w ns f (then.Opposite ∷ ks) vs = 1 + stack_weight w ns f ks vs
+stack_weight w ns f (then.Unary o ∷ ks) vs = 1 + stack_weight w ns f ks vs
 stack_weight w ns f (then.Choose a b at ∷ ks) vs = weighing w ns f a.now at + weighing w ns f b.now at + 1 + stack_weight w ns f ks vs
 stack_weight w ns f (then.Turn o t i at ∷ ks) vs =
     persons_weight (weighing w ns f t.now.values at) (persons_from (groups w) f.entity f.member t.now.role i) + stack_weight w ns f ks (behind vs)
@@ -83,6 +81,6 @@ stack_weight w ns f (then.Index a next i at ∷ ks) vs = weighing_behind w ns f 
 stack_weight w ns f (then.Scale a ∷ ks) vs = 1 + stack_weight w ns f ks (behind vs)
 stack_weight w ns f (then.Return ms t ∷ ks) vs = 1 + below_frame 0 vs (λ h ys. stack_weight w ms.now h ks ys)
 
-abbrev pub load : World → Machine → Control → ℕ
+abbrev pub load : Context → Machine → Control → ℕ
 load w m (Eval e at) = weighing w m.locals.now m.frame e.now at + stack_weight w m.locals.now m.frame m.stack m.kept
 load w m Give = stack_weight w m.locals.now m.frame m.stack m.kept

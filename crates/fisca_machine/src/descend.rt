@@ -6,18 +6,19 @@ ghost use Rattle.fisca_formula_semantics.specs.Questions.{counted as counts};
 ghost use Rattle.fisca_groups.specs.Grouped.{grouped};
 ghost use Rattle.fisca_ops.specs.Persons.{persons_from};
 ghost use Rattle.fisca_ops.specs.Ended.{IsMoving, ended};
-ghost use Rattle.fisca_machine.specs.Running.{before, rest, waiting, resume, Told, saying, says_below, point, applied, top};
+ghost use Rattle.fisca_machine.specs.Running.{before, rest, waiting, resume, Told, saying, says_below, point, top};
+ghost use Rattle.fisca_machine.specs.Steps.Running.{applied};
 ghost use Rattle.fisca_machine.specs.Weights.{load, stack_weight, weighing, weight_below};
-ghost use Rattle.fisca_machine.specs.World.{tables, groups};
+ghost use Rattle.fisca_machine.specs.Context.{tables, groups};
 
+use crate::context::Context;
 use crate::found::{date_part, local_at};
 use crate::machine::{Control, Machine, Step};
 use crate::pending::{At, Operation, Pending};
-use crate::world::World;
 use fisca_ir::{Node, Pair};
 use fisca_members::Members;
 use fisca_model::{RolePlace, Value};
-use fisca_ops::{Fault, count_of, counted, has, role_of};
+use fisca_ops::{OperationFault, count_of, counted, has, role_of};
 
 /// The role that is wanted, where one is.
 fn role_wanted(role: &Option<Box<RolePlace>>) -> Option<RolePlace>
@@ -35,7 +36,7 @@ fn count_from(
     entity: usize,
     group: u32,
     role: Option<RolePlace>,
-) -> Result<Value, Fault>
+) -> Result<Value, OperationFault>
     ensures { ended result ≡ counts (length (persons_from (grouped members.now) entity group role 0)) }
 {
     counted(count_of(members, entity, group, role))
@@ -45,13 +46,13 @@ impl<'a> Machine<'a> {
     /// A value or a fault is there at once.
     pub(crate) fn ends(
         &mut self,
-        world: &World<'_, '_, '_>,
-        outcome: Result<Value, Fault>,
+        context: &Context<'_, '_, '_>,
+        outcome: Result<Value, OperationFault>,
     ) -> Result<Control<'a>, Step>
-        ensures same { IfOk result (λ k. resume world.now self.new k ≡ (before (ended outcome) (rest world.now self.old))) }
-        ensures waits { OnOk result (waiting world.now self.new ≡ (waiting world.now self.old)) }
-        ensures lighter { IfOk result (λ k. load world.now self.new k < 1 + stack_weight world.now self.old.locals.now self.old.frame self.old.stack self.old.kept) }
-        ensures stop { IfErr result (λ s. Told s (before (ended outcome) (rest world.now self.old)) (rest world.now self.new) (waiting world.now self.old) (waiting world.now self.new)) }
+        ensures same { IfOk result (λ k. resume context.now self.new k ≡ (before (ended outcome) (rest context.now self.old))) }
+        ensures waits { OnOk result (waiting context.now self.new ≡ (waiting context.now self.old)) }
+        ensures lighter { IfOk result (λ k. load context.now self.new k < 1 + stack_weight context.now self.old.locals.now self.old.frame self.old.stack self.old.kept) }
+        ensures stop { IfErr result (λ s. Told s (before (ended outcome) (rest context.now self.old)) (rest context.now self.new) (waiting context.now self.old) (waiting context.now self.new)) }
     {
         match outcome {
             Ok(value) => {
@@ -65,12 +66,12 @@ impl<'a> Machine<'a> {
     /// Begins with the operand of what is pending then.
     pub(crate) fn one(
         &mut self,
-        world: &World<'_, '_, '_>,
+        context: &Context<'_, '_, '_>,
         pending: Pending<'a>,
         operand: &'a Node,
         at: At,
     ) -> Result<Control<'a>, Step>
-        ensures same { IfOk result (λ k. resume world.now self.new k ≡ (saying world.now self.old.locals.now self.old.frame operand.now at (top world.now self.old.locals.now self.old.frame (pending.entry ∷ self.old.stack) self.old.kept))) }
+        ensures same { IfOk result (λ k. resume context.now self.new k ≡ (saying context.now self.old.locals.now self.old.frame operand.now at (top context.now self.old.locals.now self.old.frame (pending.entry ∷ self.old.stack) self.old.kept))) }
         ensures pending { OnOk result (self.new ≡ record self.old { stack = pending.entry ∷ self.old.stack }) }
         ensures operand { IfOk result (λ k. k ≡ Control.Eval operand.entry at) }
         ensures stop { IfErr result (λ s. s ≡ Step.Memory) }
@@ -84,15 +85,15 @@ impl<'a> Machine<'a> {
     /// Begins with the left one of two operands.
     pub(crate) fn two(
         &mut self,
-        world: &World<'_, '_, '_>,
+        context: &Context<'_, '_, '_>,
         operation: Operation,
         pair: &'a Pair,
         at: At,
     ) -> Result<Control<'a>, Step>
-        ensures same { IfOk result (λ k. resume world.now self.new k ≡ (saying world.now self.old.locals.now self.old.frame pair.now.left at (λ v. saying world.now self.old.locals.now self.old.frame pair.now.right at (λ y. before (applied operation v y) (rest world.now self.old))))) }
-        ensures waits { OnOk result (waiting world.now self.new ≡ (waiting world.now self.old)) }
-        ensures lighter { IfOk result (λ k. load world.now self.new k < weighing world.now self.old.locals.now self.old.frame pair.now.left at + (weighing world.now self.old.locals.now self.old.frame pair.now.right at + 3) + stack_weight world.now self.old.locals.now self.old.frame self.old.stack self.old.kept) }
-        ensures stop { IfErr result (λ s. Told s (saying world.now self.old.locals.now self.old.frame pair.now.left at (λ v. saying world.now self.old.locals.now self.old.frame pair.now.right at (λ y. before (applied operation v y) (rest world.now self.old)))) (rest world.now self.new) (waiting world.now self.old) (waiting world.now self.new)) }
+        ensures same { IfOk result (λ k. resume context.now self.new k ≡ (saying context.now self.old.locals.now self.old.frame pair.now.left at (λ v. saying context.now self.old.locals.now self.old.frame pair.now.right at (λ y. before (applied operation v y) (rest context.now self.old))))) }
+        ensures waits { OnOk result (waiting context.now self.new ≡ (waiting context.now self.old)) }
+        ensures lighter { IfOk result (λ k. load context.now self.new k < weighing context.now self.old.locals.now self.old.frame pair.now.left at + (weighing context.now self.old.locals.now self.old.frame pair.now.right at + 3) + stack_weight context.now self.old.locals.now self.old.frame self.old.stack self.old.kept) }
+        ensures stop { IfErr result (λ s. Told s (saying context.now self.old.locals.now self.old.frame pair.now.left at (λ v. saying context.now self.old.locals.now self.old.frame pair.now.right at (λ y. before (applied operation v y) (rest context.now self.old)))) (rest context.now self.new) (waiting context.now self.old) (waiting context.now self.new)) }
     {
         let Ok(()) = self.put(Pending::Right(operation, &pair.right, at)) else {
             return Err(Step::Memory);
@@ -103,15 +104,15 @@ impl<'a> Machine<'a> {
     /// Begins with a condition.
     pub(crate) fn choose(
         &mut self,
-        world: &World<'_, '_, '_>,
+        context: &Context<'_, '_, '_>,
         condition: &'a Node,
         pair: &'a Pair,
         at: At,
     ) -> Result<Control<'a>, Step>
-        ensures same { IfOk result (λ k. resume world.now self.new k ≡ (saying world.now self.old.locals.now self.old.frame condition.now at (λ v. chosen v (saying world.now self.old.locals.now self.old.frame pair.now.left at (rest world.now self.old)) (saying world.now self.old.locals.now self.old.frame pair.now.right at (rest world.now self.old))))) }
-        ensures waits { OnOk result (waiting world.now self.new ≡ (waiting world.now self.old)) }
-        ensures lighter { IfOk result (λ k. load world.now self.new k < weighing world.now self.old.locals.now self.old.frame condition.now at + (weighing world.now self.old.locals.now self.old.frame pair.now.left at + weighing world.now self.old.locals.now self.old.frame pair.now.right at + 2) + stack_weight world.now self.old.locals.now self.old.frame self.old.stack self.old.kept) }
-        ensures stop { IfErr result (λ s. Told s (saying world.now self.old.locals.now self.old.frame condition.now at (λ v. chosen v (saying world.now self.old.locals.now self.old.frame pair.now.left at (rest world.now self.old)) (saying world.now self.old.locals.now self.old.frame pair.now.right at (rest world.now self.old)))) (rest world.now self.new) (waiting world.now self.old) (waiting world.now self.new)) }
+        ensures same { IfOk result (λ k. resume context.now self.new k ≡ (saying context.now self.old.locals.now self.old.frame condition.now at (λ v. chosen v (saying context.now self.old.locals.now self.old.frame pair.now.left at (rest context.now self.old)) (saying context.now self.old.locals.now self.old.frame pair.now.right at (rest context.now self.old))))) }
+        ensures waits { OnOk result (waiting context.now self.new ≡ (waiting context.now self.old)) }
+        ensures lighter { IfOk result (λ k. load context.now self.new k < weighing context.now self.old.locals.now self.old.frame condition.now at + (weighing context.now self.old.locals.now self.old.frame pair.now.left at + weighing context.now self.old.locals.now self.old.frame pair.now.right at + 2) + stack_weight context.now self.old.locals.now self.old.frame self.old.stack self.old.kept) }
+        ensures stop { IfErr result (λ s. Told s (saying context.now self.old.locals.now self.old.frame condition.now at (λ v. chosen v (saying context.now self.old.locals.now self.old.frame pair.now.left at (rest context.now self.old)) (saying context.now self.old.locals.now self.old.frame pair.now.right at (rest context.now self.old)))) (rest context.now self.new) (waiting context.now self.old) (waiting context.now self.new)) }
     {
         let Ok(()) = self.put(Pending::Choose(&pair.left, &pair.right, at)) else {
             return Err(Step::Memory);
@@ -122,15 +123,15 @@ impl<'a> Machine<'a> {
     /// Begins with a local, which sees those before it.
     pub(crate) fn local(
         &mut self,
-        world: &World<'_, '_, '_>,
+        context: &Context<'_, '_, '_>,
         place: usize,
         at: At,
     ) -> Result<Control<'a>, Step>
-        requires moving { IsMoving (says_below (tables world.now) (groups world.now) self.old.locals.now at.visible place (point self.old.frame at) (rest world.now self.old)) }
-        ensures same { IfOk result (λ k. resume world.now self.new k ≡ (says_below (tables world.now) (groups world.now) self.old.locals.now at.visible place (point self.old.frame at) (rest world.now self.old))) }
-        ensures waits { OnOk result (waiting world.now self.new ≡ (waiting world.now self.old)) }
-        ensures lighter { IfOk result (λ k. load world.now self.new k < 1 + weight_below (groups world.now) self.old.frame self.old.locals.now at.visible place + stack_weight world.now self.old.locals.now self.old.frame self.old.stack self.old.kept) }
-        ensures stop { IfErr result (λ s. Told s (says_below (tables world.now) (groups world.now) self.old.locals.now at.visible place (point self.old.frame at) (rest world.now self.old)) (rest world.now self.new) (waiting world.now self.old) (waiting world.now self.new)) }
+        requires moving { IsMoving (says_below (tables context.now) (groups context.now) self.old.locals.now at.visible place (point self.old.frame at) (rest context.now self.old)) }
+        ensures same { IfOk result (λ k. resume context.now self.new k ≡ (says_below (tables context.now) (groups context.now) self.old.locals.now at.visible place (point self.old.frame at) (rest context.now self.old))) }
+        ensures waits { OnOk result (waiting context.now self.new ≡ (waiting context.now self.old)) }
+        ensures lighter { IfOk result (λ k. load context.now self.new k < 1 + weight_below (groups context.now) self.old.frame self.old.locals.now at.visible place + stack_weight context.now self.old.locals.now self.old.frame self.old.stack self.old.kept) }
+        ensures stop { IfErr result (λ s. Told s (says_below (tables context.now) (groups context.now) self.old.locals.now at.visible place (point self.old.frame at) (rest context.now self.old)) (rest context.now self.new) (waiting context.now self.old) (waiting context.now self.new)) }
     {
         if place >= at.visible {
             unreachable!()
@@ -150,49 +151,55 @@ impl<'a> Machine<'a> {
     /// Begins to work a node out.
     pub(crate) fn descend(
         &mut self,
-        world: &World<'_, '_, '_>,
+        context: &Context<'_, '_, '_>,
         node: &'a Node,
         at: At,
     ) -> Result<Control<'a>, Step>
-        requires moving { IsMoving (saying world.now self.old.locals.now self.old.frame node.now at (rest world.now self.old)) }
-        ensures same { IfOk result (λ k. resume world.now self.new k ≡ (saying world.now self.old.locals.now self.old.frame node.now at (rest world.now self.old))) }
-        ensures waits { OnOk result (waiting world.now self.new ≡ (waiting world.now self.old)) }
-        ensures lighter { IfOk result (λ k. load world.now self.new k < load world.now self.old (Control.Eval node.entry at)) }
-        ensures stop { IfErr result (λ s. Told s (saying world.now self.old.locals.now self.old.frame node.now at (rest world.now self.old)) (rest world.now self.new) (waiting world.now self.old) (waiting world.now self.new)) }
+        requires moving { IsMoving (saying context.now self.old.locals.now self.old.frame node.now at (rest context.now self.old)) }
+        ensures same { IfOk result (λ k. resume context.now self.new k ≡ (saying context.now self.old.locals.now self.old.frame node.now at (rest context.now self.old))) }
+        ensures waits { OnOk result (waiting context.now self.new ≡ (waiting context.now self.old)) }
+        ensures lighter { IfOk result (λ k. load context.now self.new k < load context.now self.old (Control.Eval node.entry at)) }
+        ensures stop { IfErr result (λ s. Told s (saying context.now self.old.locals.now self.old.frame node.now at (rest context.now self.old)) (rest context.now self.new) (waiting context.now self.old) (waiting context.now self.new)) }
     {
         match node {
-            Node::Literal(number) => self.ends(world, Ok(Value::Number(*number))),
-            Node::Truth(truth) => self.ends(world, Ok(Value::Bool(*truth))),
-            Node::Member(_, place) => self.ends(world, Ok(Value::Member(*place))),
-            Node::Local(place) => self.local(world, *place, at),
+            Node::Literal(number) => self.ends(context, Ok(Value::Number(*number))),
+            Node::Truth(truth) => self.ends(context, Ok(Value::Bool(*truth))),
+            Node::Member(_, place) => self.ends(context, Ok(Value::Member(*place))),
+            Node::Local(place) => self.local(context, *place, at),
             Node::DatePart(part, moves) => {
                 let outcome = date_part(*part, moves.as_slice(), self.frame.period);
-                self.ends(world, outcome)
+                self.ends(context, outcome)
             }
-            Node::Ask(ask) => self.ask(world, ask, at),
+            Node::Ask(ask) => self.ask(context, ask, at),
             Node::HasRole(entity, role) => {
-                let held = has(**role, role_of(world.members, *entity, self.frame.member));
-                self.ends(world, Ok(Value::Bool(held)))
+                let held = has(**role, role_of(context.members, *entity, self.frame.member));
+                self.ends(context, Ok(Value::Bool(held)))
             }
             Node::Count(role) => {
                 let role = role_wanted(role);
-                let outcome = count_from(world.members, self.frame.entity, self.frame.member, role);
-                self.ends(world, outcome)
+                let outcome = count_from(
+                    context.members,
+                    self.frame.entity,
+                    self.frame.member,
+                    role,
+                );
+                self.ends(context, outcome)
             }
-            Node::Total(total, x) => self.total(world, *total, x, at),
-            Node::Negative(operand) => self.one(world, Pending::Negative, operand, at),
-            Node::Opposite(operand) => self.one(world, Pending::Opposite, operand, at),
+            Node::Total(total, x) => self.total(context, *total, x, at),
+            Node::Unary(operation, operand) => {
+                self.one(context, Pending::Unary(*operation), operand, at)
+            }
             Node::Arithmetic(kind, pair) => {
-                self.two(world, Operation::Arithmetic(*kind), pair, at)
+                self.two(context, Operation::Arithmetic(*kind), pair, at)
             }
-            Node::Logic(kind, pair) => self.two(world, Operation::Logic(*kind), pair, at),
+            Node::Logic(kind, pair) => self.two(context, Operation::Logic(*kind), pair, at),
             Node::Comparison(kind, pair) => {
-                self.two(world, Operation::Comparison(*kind), pair, at)
+                self.two(context, Operation::Comparison(*kind), pair, at)
             }
-            Node::Same(pair) => self.two(world, Operation::Same, pair, at),
-            Node::Choose(condition, pair) => self.choose(world, condition, pair, at),
-            Node::Parameter(x) => self.parameter(world, x, at),
-            Node::ScaleSum(x) => self.scale(world, x, at),
+            Node::Same(pair) => self.two(context, Operation::Same, pair, at),
+            Node::Choose(condition, pair) => self.choose(context, condition, pair, at),
+            Node::Parameter(x) => self.parameter(context, x, at),
+            Node::ScaleSum(x) => self.scale(context, x, at),
         }
     }
 }

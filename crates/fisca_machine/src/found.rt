@@ -7,13 +7,14 @@ ghost use Rattle.fisca_typing.specs.Nodes.{no_index, index};
 ghost use Rattle.fisca_symbols.specs.Known.{tables as known};
 ghost use Rattle.fisca_symbols.specs.KnownVariables.{value_type, variable};
 ghost use Rattle.fisca_ops.specs.Ended.{IsMoving, ended};
-ghost use Rattle.fisca_machine.specs.Running.{applied as applies, from, parametric};
+ghost use Rattle.fisca_machine.specs.Running.{from, parametric};
+ghost use Rattle.fisca_machine.specs.Steps.Running.{applied as applies};
 ghost use Rattle.fisca_model.specs.Seen.{value_seen};
 
 use crate::pending::Operation;
 use fisca_ir::{Node, Parameter};
 use fisca_model::{Value, ValueType};
-use fisca_ops::{Fault, arithmetic, comparison, counted, logic, moved_all, part_of, same};
+use fisca_ops::{OperationFault, arithmetic, comparison, counted, logic, moved_all, part_of, same};
 use fisca_params::NodeId;
 use fisca_symbols::{DeclaredType, Tables, Variable};
 use fisca_time::Period;
@@ -82,13 +83,17 @@ pub(crate) fn place_at(parameter: &Parameter, chosen: usize) -> Option<NodeId>
 }
 
 /// A part of the day on which the period starts that moves lead to. `PeriodOutOfRange` where a move leaves the calendar, and of eternity.
-pub(crate) fn date_part(part: DatePart, moves: &[Move], period: Period) -> Result<Value, Fault>
+pub(crate) fn date_part(
+    part: DatePart,
+    moves: &[Move],
+    period: Period,
+) -> Result<Value, OperationFault>
     ensures { ended result ≡ at_start moves.now period (λ day. counts (part_of_day part day)) }
 {
     match moved_all(moves, period) {
-        Err(_) => Err(Fault::PeriodOutOfRange),
+        Err(_) => Err(OperationFault::PeriodOutOfRange),
         Ok(here) => match here.start() {
-            None => Err(Fault::PeriodOutOfRange),
+            None => Err(OperationFault::PeriodOutOfRange),
             Some(day) => counted(usize::from(part_of(part, day))),
         },
     }
@@ -96,7 +101,11 @@ pub(crate) fn date_part(part: DatePart, moves: &[Move], period: Period) -> Resul
 
 /// What is made of two values.
 #[inline(always)]
-pub(crate) fn applied(operation: Operation, left: Value, right: Value) -> Result<Value, Fault>
+pub(crate) fn applied(
+    operation: Operation,
+    left: Value,
+    right: Value,
+) -> Result<Value, OperationFault>
     requires { IsMoving (applies operation (value_seen left) (value_seen right)) }
     ensures { ended result ≡ applies operation (value_seen left) (value_seen right) }
 {

@@ -3,6 +3,7 @@
 
 mod ascend;
 mod asks;
+mod context;
 mod descend;
 mod found;
 mod law;
@@ -13,11 +14,10 @@ mod plan;
 mod progress;
 mod stack;
 mod totals;
-mod world;
 
+pub use context::Context;
 pub use law::plans_are_of_operands;
 pub use machine::{Control, Machine, Step};
 pub use pending::{At, Frame};
 pub use plan::{Plan, plan_of};
 pub use progress::{Progress, Stop};
-pub use world::World;

@@ -8,14 +8,14 @@ ghost use Rattle.fisca_ops.specs.Casts.{cast};
 ghost use Rattle.fisca_ops.specs.Ended.{IsMoving};
 ghost use Rattle.fisca_machine.specs.Running.{before, rest, waiting, resume, Told};
 ghost use Rattle.fisca_machine.specs.Weights.{load};
-ghost use Rattle.fisca_machine.specs.World.{tables, groups};
+ghost use Rattle.fisca_machine.specs.Context.{tables, groups};
 
+use crate::context::Context;
 use crate::pending::{At, Frame, Kept, Pending};
 use crate::stack::Stack;
-use crate::world::World;
 use fisca_ir::Node;
 use fisca_model::{Key, Value};
-use fisca_ops::Fault;
+use fisca_ops::OperationFault;
 use fisca_symbols::DeclaredType;
 use fisca_time::Period;
 use std::alloc::{AllocError, Global};
@@ -35,7 +35,7 @@ pub enum Step {
     /// The formula on top is done, and off: its value.
     Done(Value),
     /// The formula on top has no value.
-    Failed(Fault),
+    Failed(OperationFault),
     /// The value of this key is needed.
     Needs(Key),
     /// No memory was given.
@@ -69,7 +69,7 @@ fn nobody() -> Frame {
 impl<'a> Machine<'a> {
     /// A machine with no formula.
     pub fn new(alloc: Global) -> Machine<'a>
-        ensures { (w : World) → waiting w result ≡ [] }
+        ensures { (w : Context) → waiting w result ≡ [] }
     {
         Machine {
             locals: &[],
@@ -82,7 +82,7 @@ impl<'a> Machine<'a> {
 
     /// Takes all formulas off. What memory the machine has, it keeps.
     pub fn clear(&mut self)
-        ensures { (w : World) → waiting w self.new ≡ [] }
+        ensures { (w : Context) → waiting w self.new ≡ [] }
     {
         self.stack.clear();
         self.kept.clear();
@@ -119,14 +119,14 @@ impl<'a> Machine<'a> {
     /// Puts a formula of a variable of this type on top: its locals with values, its result, and for whom it is worked out. `Err` where no memory was given.
     pub fn begin(
         &mut self,
-        world: &World<'_, '_, '_>,
+        context: &Context<'_, '_, '_>,
         locals: &'a [Node],
         returned: &'a Node,
         declared: DeclaredType,
         frame: Frame,
     ) -> Result<Control<'a>, AllocError>
-        ensures begun { IfOk result (λ k. resume world.now self.new k ≡ before (formula_means (tables world.now) (groups world.now) (record { values = map node locals.now; result = node returned.now }) (record { entity = frame.entity; member = frame.member; person = None; period = frame.period })) (cast declared)) }
-        ensures waits { OnOk result (waiting world.now self.new ≡ rest world.now self.old ∷ waiting world.now self.old) }
+        ensures begun { IfOk result (λ k. resume context.now self.new k ≡ before (formula_means (tables context.now) (groups context.now) (record { values = map node locals.now; result = node returned.now }) (record { entity = frame.entity; member = frame.member; person = None; period = frame.period })) (cast declared)) }
+        ensures waits { OnOk result (waiting context.now self.new ≡ rest context.now self.old ∷ waiting context.now self.old) }
     {
         self.stack.push(Pending::Return(self.locals, declared))?;
         self.kept.push(Kept::Frame(self.frame))?;
@@ -142,15 +142,15 @@ impl<'a> Machine<'a> {
     }
 
     /// Goes on until the machine stops.
-    pub fn run(&mut self, world: &World<'_, '_, '_>, control: Control<'a>) -> Step
-        requires moving { IsMoving (resume world.now self.old control) }
-        ensures told { Told result (resume world.now self.old control.entry) (rest world.now self.new) (waiting world.now self.old) (waiting world.now self.new) }
+    pub fn run(&mut self, context: &Context<'_, '_, '_>, control: Control<'a>) -> Step
+        requires moving { IsMoving (resume context.now self.old control) }
+        ensures told { Told result (resume context.now self.old control.entry) (rest context.now self.new) (waiting context.now self.old) (waiting context.now self.new) }
     {
         let mut now = control;
         loop {
             let next = match now {
-                Control::Eval(node, at) => self.descend(world, node, at),
-                Control::Give => self.ascend(world),
+                Control::Eval(node, at) => self.descend(context, node, at),
+                Control::Give => self.ascend(context),
             };
             match next {
                 Ok(control) => now = control,

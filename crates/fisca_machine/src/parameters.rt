@@ -9,16 +9,16 @@ ghost use Rattle.fisca_params.specs.Tree.{content_at};
 ghost use Rattle.fisca_ops.specs.Ended.{IsMoving};
 ghost use Rattle.fisca_machine.specs.Running.{before, rest, waiting, resume, Told, saying, choosing, from, parametric, chosen_parameter, scale_by, top, waits};
 ghost use Rattle.fisca_machine.specs.Weights.{load, stack_weight, weighing, indices_weighing};
-ghost use Rattle.fisca_machine.specs.World.{tables};
+ghost use Rattle.fisca_machine.specs.Context.{tables};
 
+use crate::context::Context;
 use crate::found::{choice_at, place_at};
 use crate::machine::{Control, Machine, Step};
 use crate::pending::{At, Day, Kept, Pending};
-use crate::world::World;
 use fisca_ir::{Parameter, ScaleSum};
 use fisca_model::Value;
 use fisca_num::Fraction;
-use fisca_ops::{Fault, moved_all, parameter_at, scale_sum_at};
+use fisca_ops::{OperationFault, moved_all, parameter_at, scale_sum_at};
 use fisca_time::Instant;
 
 /// Which parameter is chosen by one member more; none where the place has no number.
@@ -32,22 +32,22 @@ impl<'a> Machine<'a> {
     /// The parameter that was chosen.
     pub(crate) fn chosen(
         &mut self,
-        world: &World<'_, '_, '_>,
+        context: &Context<'_, '_, '_>,
         x: &'a Parameter,
         chosen: usize,
         day: Instant,
     ) -> Result<Control<'a>, Step>
-        requires moving { IsMoving (before (chosen_parameter (tables world.now) (parametric x.now).places day chosen) (rest world.now self.old)) }
-        ensures same { IfOk result (λ k. resume world.now self.new k ≡ (before (chosen_parameter (tables world.now) (parametric x.now).places day chosen) (rest world.now self.old))) }
-        ensures waits { OnOk result (waiting world.now self.new ≡ (waiting world.now self.old)) }
-        ensures lighter { IfOk result (λ k. load world.now self.new k < 1 + stack_weight world.now self.old.locals.now self.old.frame self.old.stack self.old.kept) }
-        ensures stop { IfErr result (λ s. Told s (before (chosen_parameter (tables world.now) (parametric x.now).places day chosen) (rest world.now self.old)) (rest world.now self.new) (waiting world.now self.old) (waiting world.now self.new)) }
+        requires moving { IsMoving (before (chosen_parameter (tables context.now) (parametric x.now).places day chosen) (rest context.now self.old)) }
+        ensures same { IfOk result (λ k. resume context.now self.new k ≡ (before (chosen_parameter (tables context.now) (parametric x.now).places day chosen) (rest context.now self.old))) }
+        ensures waits { OnOk result (waiting context.now self.new ≡ (waiting context.now self.old)) }
+        ensures lighter { IfOk result (λ k. load context.now self.new k < 1 + stack_weight context.now self.old.locals.now self.old.frame self.old.stack self.old.kept) }
+        ensures stop { IfErr result (λ s. Told s (before (chosen_parameter (tables context.now) (parametric x.now).places day chosen) (rest context.now self.old)) (rest context.now self.new) (waiting context.now self.old) (waiting context.now self.new)) }
     {
         match place_at(x, chosen) {
             None => unreachable!(),
             Some(place) => {
-                let outcome = parameter_at(&world.tables.parameters, place, day);
-                self.ends(world, outcome)
+                let outcome = parameter_at(&context.tables.parameters, place, day);
+                self.ends(context, outcome)
             }
         }
     }
@@ -55,21 +55,21 @@ impl<'a> Machine<'a> {
     /// Goes on with the members that choose, from a place on.
     pub(crate) fn index(
         &mut self,
-        world: &World<'_, '_, '_>,
+        context: &Context<'_, '_, '_>,
         x: &'a Parameter,
         next: usize,
         chosen: usize,
         day: Instant,
         at: At,
     ) -> Result<Control<'a>, Step>
-        requires moving { IsMoving (choosing world.now self.old.locals.now self.old.frame (from next (parametric x.now).indices) chosen at (λ j. before (chosen_parameter (tables world.now) (parametric x.now).places day j) (rest world.now self.old))) }
-        ensures same { IfOk result (λ k. resume world.now self.new k ≡ (choosing world.now self.old.locals.now self.old.frame (from next (parametric x.now).indices) chosen at (λ j. before (chosen_parameter (tables world.now) (parametric x.now).places day j) (rest world.now self.old)))) }
-        ensures waits { OnOk result (waiting world.now self.new ≡ (waiting world.now self.old)) }
-        ensures lighter { IfOk result (λ k. load world.now self.new k < indices_weighing world.now self.old.locals.now self.old.frame (from next (parametric x.now).indices) at + stack_weight world.now self.old.locals.now self.old.frame self.old.stack self.old.kept) }
-        ensures stop { IfErr result (λ s. Told s (choosing world.now self.old.locals.now self.old.frame (from next (parametric x.now).indices) chosen at (λ j. before (chosen_parameter (tables world.now) (parametric x.now).places day j) (rest world.now self.old))) (rest world.now self.new) (waiting world.now self.old) (waiting world.now self.new)) }
+        requires moving { IsMoving (choosing context.now self.old.locals.now self.old.frame (from next (parametric x.now).indices) chosen at (λ j. before (chosen_parameter (tables context.now) (parametric x.now).places day j) (rest context.now self.old))) }
+        ensures same { IfOk result (λ k. resume context.now self.new k ≡ (choosing context.now self.old.locals.now self.old.frame (from next (parametric x.now).indices) chosen at (λ j. before (chosen_parameter (tables context.now) (parametric x.now).places day j) (rest context.now self.old)))) }
+        ensures waits { OnOk result (waiting context.now self.new ≡ (waiting context.now self.old)) }
+        ensures lighter { IfOk result (λ k. load context.now self.new k < indices_weighing context.now self.old.locals.now self.old.frame (from next (parametric x.now).indices) at + stack_weight context.now self.old.locals.now self.old.frame self.old.stack self.old.kept) }
+        ensures stop { IfErr result (λ s. Told s (choosing context.now self.old.locals.now self.old.frame (from next (parametric x.now).indices) chosen at (λ j. before (chosen_parameter (tables context.now) (parametric x.now).places day j) (rest context.now self.old))) (rest context.now self.new) (waiting context.now self.old) (waiting context.now self.new)) }
     {
         match choice_at(x, next) {
-            None => self.chosen(world, x, chosen, day),
+            None => self.chosen(context, x, chosen, day),
             Some(choice) => {
                 let Ok(()) = self.put(Pending::Index(x, next, chosen, at)) else {
                     return Err(Step::Memory);
@@ -85,18 +85,18 @@ impl<'a> Machine<'a> {
     /// A member that chooses.
     pub(crate) fn indexed(
         &mut self,
-        world: &World<'_, '_, '_>,
+        context: &Context<'_, '_, '_>,
         x: &'a Parameter,
         next: usize,
         chosen: usize,
         at: At,
         value: Value,
     ) -> Result<Control<'a>, Step>
-        requires moving { IsMoving (top world.now self.old.locals.now self.old.frame (Pending.Index x next chosen at ∷ self.old.stack) self.old.kept (value_seen value)) }
-        ensures same { IfOk result (λ k. resume world.now self.new k ≡ (top world.now self.old.locals.now self.old.frame (Pending.Index x.entry next chosen at ∷ self.old.stack) self.old.kept (value_seen value))) }
-        ensures waits { OnOk result (waiting world.now self.new ≡ (waits world.now self.old.locals.now self.old.frame (Pending.Index x.entry next chosen at ∷ self.old.stack) self.old.kept)) }
-        ensures lighter { IfOk result (λ k. load world.now self.new k < stack_weight world.now self.old.locals.now self.old.frame (Pending.Index x.entry next chosen at ∷ self.old.stack) self.old.kept) }
-        ensures stop { IfErr result (λ s. Told s (top world.now self.old.locals.now self.old.frame (Pending.Index x.entry next chosen at ∷ self.old.stack) self.old.kept (value_seen value)) (rest world.now self.new) (waits world.now self.old.locals.now self.old.frame (Pending.Index x.entry next chosen at ∷ self.old.stack) self.old.kept) (waiting world.now self.new)) }
+        requires moving { IsMoving (top context.now self.old.locals.now self.old.frame (Pending.Index x next chosen at ∷ self.old.stack) self.old.kept (value_seen value)) }
+        ensures same { IfOk result (λ k. resume context.now self.new k ≡ (top context.now self.old.locals.now self.old.frame (Pending.Index x.entry next chosen at ∷ self.old.stack) self.old.kept (value_seen value))) }
+        ensures waits { OnOk result (waiting context.now self.new ≡ (waits context.now self.old.locals.now self.old.frame (Pending.Index x.entry next chosen at ∷ self.old.stack) self.old.kept)) }
+        ensures lighter { IfOk result (λ k. load context.now self.new k < stack_weight context.now self.old.locals.now self.old.frame (Pending.Index x.entry next chosen at ∷ self.old.stack) self.old.kept) }
+        ensures stop { IfErr result (λ s. Told s (top context.now self.old.locals.now self.old.frame (Pending.Index x.entry next chosen at ∷ self.old.stack) self.old.kept (value_seen value)) (rest context.now self.new) (waits context.now self.old.locals.now self.old.frame (Pending.Index x.entry next chosen at ∷ self.old.stack) self.old.kept) (waiting context.now self.new)) }
     {
         match self.kept.pop() {
             Some(Kept::Day(Day { date: day })) => match value {
@@ -104,7 +104,7 @@ impl<'a> Machine<'a> {
                     None => unreachable!(),
                     Some(choice) => match chosen_behind(chosen, choice.size, member) {
                         None => Err(Step::Memory),
-                        Some(chosen) => self.index(world, x, choice.next, chosen, day, at),
+                        Some(chosen) => self.index(context, x, choice.next, chosen, day, at),
                     },
                 },
                 Value::Number(_) | Value::Bool(_) => unreachable!(),
@@ -117,21 +117,21 @@ impl<'a> Machine<'a> {
     /// Begins with a parameter. `PeriodOutOfRange` where a move leaves the calendar, and of eternity.
     pub(crate) fn parameter(
         &mut self,
-        world: &World<'_, '_, '_>,
+        context: &Context<'_, '_, '_>,
         x: &'a Parameter,
         at: At,
     ) -> Result<Control<'a>, Step>
-        requires moving { IsMoving (at_start (parametric x.now).moves self.old.frame.period (λ day. choosing world.now self.old.locals.now self.old.frame (parametric x.now).indices 0 at (λ j. before (chosen_parameter (tables world.now) (parametric x.now).places day j) (rest world.now self.old)))) }
-        ensures same { IfOk result (λ k. resume world.now self.new k ≡ (at_start (parametric x.now).moves self.old.frame.period (λ day. choosing world.now self.old.locals.now self.old.frame (parametric x.now).indices 0 at (λ j. before (chosen_parameter (tables world.now) (parametric x.now).places day j) (rest world.now self.old))))) }
-        ensures waits { OnOk result (waiting world.now self.new ≡ (waiting world.now self.old)) }
-        ensures lighter { IfOk result (λ k. load world.now self.new k < 1 + (indices_weighing world.now self.old.locals.now self.old.frame (parametric x.now).indices at + stack_weight world.now self.old.locals.now self.old.frame self.old.stack self.old.kept)) }
-        ensures stop { IfErr result (λ s. Told s (at_start (parametric x.now).moves self.old.frame.period (λ day. choosing world.now self.old.locals.now self.old.frame (parametric x.now).indices 0 at (λ j. before (chosen_parameter (tables world.now) (parametric x.now).places day j) (rest world.now self.old)))) (rest world.now self.new) (waiting world.now self.old) (waiting world.now self.new)) }
+        requires moving { IsMoving (at_start (parametric x.now).moves self.old.frame.period (λ day. choosing context.now self.old.locals.now self.old.frame (parametric x.now).indices 0 at (λ j. before (chosen_parameter (tables context.now) (parametric x.now).places day j) (rest context.now self.old)))) }
+        ensures same { IfOk result (λ k. resume context.now self.new k ≡ (at_start (parametric x.now).moves self.old.frame.period (λ day. choosing context.now self.old.locals.now self.old.frame (parametric x.now).indices 0 at (λ j. before (chosen_parameter (tables context.now) (parametric x.now).places day j) (rest context.now self.old))))) }
+        ensures waits { OnOk result (waiting context.now self.new ≡ (waiting context.now self.old)) }
+        ensures lighter { IfOk result (λ k. load context.now self.new k < 1 + (indices_weighing context.now self.old.locals.now self.old.frame (parametric x.now).indices at + stack_weight context.now self.old.locals.now self.old.frame self.old.stack self.old.kept)) }
+        ensures stop { IfErr result (λ s. Told s (at_start (parametric x.now).moves self.old.frame.period (λ day. choosing context.now self.old.locals.now self.old.frame (parametric x.now).indices 0 at (λ j. before (chosen_parameter (tables context.now) (parametric x.now).places day j) (rest context.now self.old)))) (rest context.now self.new) (waiting context.now self.old) (waiting context.now self.new)) }
     {
         match moved_all(x.moves.as_slice(), self.frame.period) {
-            Err(_) => Err(Step::Failed(Fault::PeriodOutOfRange)),
+            Err(_) => Err(Step::Failed(OperationFault::PeriodOutOfRange)),
             Ok(here) => match here.start() {
-                None => Err(Step::Failed(Fault::PeriodOutOfRange)),
-                Some(day) => self.index(world, x, 0, 0, day, at),
+                None => Err(Step::Failed(OperationFault::PeriodOutOfRange)),
+                Some(day) => self.index(context, x, 0, 0, day, at),
             },
         }
     }
@@ -139,19 +139,19 @@ impl<'a> Machine<'a> {
     /// Begins with the base of a scale. `PeriodOutOfRange` where a move leaves the calendar, and of eternity.
     pub(crate) fn scale(
         &mut self,
-        world: &World<'_, '_, '_>,
+        context: &Context<'_, '_, '_>,
         x: &'a ScaleSum,
         at: At,
     ) -> Result<Control<'a>, Step>
-        ensures same { IfOk result (λ k. resume world.now self.new k ≡ (at_start x.now.moves.items self.old.frame.period (λ day. saying world.now self.old.locals.now self.old.frame x.now.base at (λ v. before (scale_by (tables world.now) x.now.place day v) (rest world.now self.old))))) }
-        ensures waits { OnOk result (waiting world.now self.new ≡ (waiting world.now self.old)) }
-        ensures lighter { IfOk result (λ k. load world.now self.new k < weighing world.now self.old.locals.now self.old.frame x.now.base at + 2 + stack_weight world.now self.old.locals.now self.old.frame self.old.stack self.old.kept) }
-        ensures stop { IfErr result (λ s. Told s (at_start x.now.moves.items self.old.frame.period (λ day. saying world.now self.old.locals.now self.old.frame x.now.base at (λ v. before (scale_by (tables world.now) x.now.place day v) (rest world.now self.old)))) (rest world.now self.new) (waiting world.now self.old) (waiting world.now self.new)) }
+        ensures same { IfOk result (λ k. resume context.now self.new k ≡ (at_start x.now.moves.items self.old.frame.period (λ day. saying context.now self.old.locals.now self.old.frame x.now.base at (λ v. before (scale_by (tables context.now) x.now.place day v) (rest context.now self.old))))) }
+        ensures waits { OnOk result (waiting context.now self.new ≡ (waiting context.now self.old)) }
+        ensures lighter { IfOk result (λ k. load context.now self.new k < weighing context.now self.old.locals.now self.old.frame x.now.base at + 2 + stack_weight context.now self.old.locals.now self.old.frame self.old.stack self.old.kept) }
+        ensures stop { IfErr result (λ s. Told s (at_start x.now.moves.items self.old.frame.period (λ day. saying context.now self.old.locals.now self.old.frame x.now.base at (λ v. before (scale_by (tables context.now) x.now.place day v) (rest context.now self.old)))) (rest context.now self.new) (waiting context.now self.old) (waiting context.now self.new)) }
     {
         match moved_all(x.moves.as_slice(), self.frame.period) {
-            Err(_) => Err(Step::Failed(Fault::PeriodOutOfRange)),
+            Err(_) => Err(Step::Failed(OperationFault::PeriodOutOfRange)),
             Ok(here) => match here.start() {
-                None => Err(Step::Failed(Fault::PeriodOutOfRange)),
+                None => Err(Step::Failed(OperationFault::PeriodOutOfRange)),
                 Some(day) => {
                     let Ok(()) = self.put(Pending::Scale(x)) else {
                         return Err(Step::Memory);
@@ -168,17 +168,17 @@ impl<'a> Machine<'a> {
     /// The sum of a scale for a number.
     pub(crate) fn scaled_number(
         &mut self,
-        world: &World<'_, '_, '_>,
+        context: &Context<'_, '_, '_>,
         x: &'a ScaleSum,
         day: Instant,
         number: Fraction,
     ) -> Result<Control<'a>, Step>
-        ensures same { IfOk result (λ k. resume world.now self.new k ≡ (before (scale_value (sum_in (content_at (tables world.now).nodes x.now.place) day number)) (rest world.now self.old))) }
-        ensures waits { OnOk result (waiting world.now self.new ≡ (waiting world.now self.old)) }
-        ensures lighter { IfOk result (λ k. load world.now self.new k < 1 + stack_weight world.now self.old.locals.now self.old.frame self.old.stack self.old.kept) }
-        ensures stop { IfErr result (λ s. Told s (before (scale_value (sum_in (content_at (tables world.now).nodes x.now.place) day number)) (rest world.now self.old)) (rest world.now self.new) (waiting world.now self.old) (waiting world.now self.new)) }
+        ensures same { IfOk result (λ k. resume context.now self.new k ≡ (before (scale_value (sum_in (content_at (tables context.now).nodes x.now.place) day number)) (rest context.now self.old))) }
+        ensures waits { OnOk result (waiting context.now self.new ≡ (waiting context.now self.old)) }
+        ensures lighter { IfOk result (λ k. load context.now self.new k < 1 + stack_weight context.now self.old.locals.now self.old.frame self.old.stack self.old.kept) }
+        ensures stop { IfErr result (λ s. Told s (before (scale_value (sum_in (content_at (tables context.now).nodes x.now.place) day number)) (rest context.now self.old)) (rest context.now self.new) (waiting context.now self.old) (waiting context.now self.new)) }
     {
-        match scale_sum_at(&world.tables.parameters, x.place, day, number) {
+        match scale_sum_at(&context.tables.parameters, x.place, day, number) {
             Ok(value) => {
                 self.value = value;
                 Ok(Control::Give)
@@ -190,21 +190,21 @@ impl<'a> Machine<'a> {
     /// The base of a scale.
     pub(crate) fn scaled(
         &mut self,
-        world: &World<'_, '_, '_>,
+        context: &Context<'_, '_, '_>,
         x: &'a ScaleSum,
         value: Value,
     ) -> Result<Control<'a>, Step>
-        requires moving { IsMoving (top world.now self.old.locals.now self.old.frame (Pending.Scale x ∷ self.old.stack) self.old.kept (value_seen value)) }
-        ensures same { IfOk result (λ k. resume world.now self.new k ≡ (top world.now self.old.locals.now self.old.frame (Pending.Scale x.entry ∷ self.old.stack) self.old.kept (value_seen value))) }
-        ensures waits { OnOk result (waiting world.now self.new ≡ (waits world.now self.old.locals.now self.old.frame (Pending.Scale x.entry ∷ self.old.stack) self.old.kept)) }
-        ensures lighter { IfOk result (λ k. load world.now self.new k < stack_weight world.now self.old.locals.now self.old.frame (Pending.Scale x.entry ∷ self.old.stack) self.old.kept) }
-        ensures stop { IfErr result (λ s. Told s (top world.now self.old.locals.now self.old.frame (Pending.Scale x.entry ∷ self.old.stack) self.old.kept (value_seen value)) (rest world.now self.new) (waits world.now self.old.locals.now self.old.frame (Pending.Scale x.entry ∷ self.old.stack) self.old.kept) (waiting world.now self.new)) }
+        requires moving { IsMoving (top context.now self.old.locals.now self.old.frame (Pending.Scale x ∷ self.old.stack) self.old.kept (value_seen value)) }
+        ensures same { IfOk result (λ k. resume context.now self.new k ≡ (top context.now self.old.locals.now self.old.frame (Pending.Scale x.entry ∷ self.old.stack) self.old.kept (value_seen value))) }
+        ensures waits { OnOk result (waiting context.now self.new ≡ (waits context.now self.old.locals.now self.old.frame (Pending.Scale x.entry ∷ self.old.stack) self.old.kept)) }
+        ensures lighter { IfOk result (λ k. load context.now self.new k < stack_weight context.now self.old.locals.now self.old.frame (Pending.Scale x.entry ∷ self.old.stack) self.old.kept) }
+        ensures stop { IfErr result (λ s. Told s (top context.now self.old.locals.now self.old.frame (Pending.Scale x.entry ∷ self.old.stack) self.old.kept (value_seen value)) (rest context.now self.new) (waits context.now self.old.locals.now self.old.frame (Pending.Scale x.entry ∷ self.old.stack) self.old.kept) (waiting context.now self.new)) }
     {
         match self.kept.pop() {
             Some(Kept::Day(Day { date: day })) => match value {
-                Value::Number(number) => self.scaled_number(world, x, day, number),
-                Value::Bool(true) => self.scaled_number(world, x, day, Fraction::one()),
-                Value::Bool(false) => self.scaled_number(world, x, day, Fraction::zero()),
+                Value::Number(number) => self.scaled_number(context, x, day, number),
+                Value::Bool(true) => self.scaled_number(context, x, day, Fraction::one()),
+                Value::Bool(false) => self.scaled_number(context, x, day, Fraction::zero()),
                 Value::Member(_) => unreachable!(),
             },
             None | Some(Kept::Value(_)) | Some(Kept::Sum(_)) | Some(Kept::Frame(_)) =>

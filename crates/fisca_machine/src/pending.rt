@@ -7,7 +7,7 @@ use fisca_num::Fraction;
 use fisca_ops::Share;
 use fisca_symbols::DeclaredType;
 use fisca_time::{Instant, Period, Unit};
-use fisca_typing::{Arithmetic, Logic, Total};
+use fisca_typing::{Arithmetic, Logic, Total, Unary};
 
 /// For which person of the group a node is worked out, where for one, and how many locals it sees.
 #[derive(Clone, Copy, Debug, PartialEq, Eq)]
@@ -49,10 +49,8 @@ pub(crate) enum Pending<'a> {
     Right(Operation, &'a Node, At),
     /// It is the right operand; the left one is kept.
     Apply(Operation),
-    /// Its sign changes.
-    Negative,
-    /// `True` becomes `False`, `False` becomes `True`.
-    Opposite,
+    /// A value is made of it alone.
+    Unary(Unary),
     /// It chooses between two nodes.
     Choose(&'a Node, &'a Node, At),
     /// It joins the total that is kept, which goes on with the persons from a place on.

@@ -4,13 +4,14 @@ ghost use Rattle.std.specs.Prelude.{◌≡◌, false};
 ghost use Rattle.fisca_model.specs.Seen.{value_seen};
 ghost use Rattle.fisca_model.specs.Values.{bool};
 ghost use Rattle.fisca_ops.specs.Ended.{IsMoving, ended};
-ghost use Rattle.fisca_machine.specs.Plans.{Stops, behind_operand, made as made_of, plays};
+ghost use Rattle.fisca_machine.specs.Plans.{Stops, behind_operand, plays};
+ghost use Rattle.fisca_machine.specs.Steps.Plans.{made as made_of};
 
 use crate::found::applied;
 use crate::pending::Operation;
 use crate::plan::{Operand, Plan, PlanStep};
 use fisca_model::{Key, Value};
-use fisca_ops::{Fault, cast};
+use fisca_ops::{OperationFault, cast};
 use fisca_symbols::DeclaredType;
 
 /// Where a plan stops.
@@ -19,7 +20,7 @@ pub enum Stop {
     /// It is done: its value.
     Done(Value),
     /// It has no value.
-    Failed(Fault),
+    Failed(OperationFault),
     /// The value of this key is needed.
     Needs(Key),
 }
@@ -39,7 +40,7 @@ pub struct Progress<'p> {
 
 /// What is made of two values; without an operation it is the second.
 #[inline(always)]
-fn made(operation: Option<Operation>, left: Value, right: Value) -> Result<Value, Fault>
+fn made(operation: Option<Operation>, left: Value, right: Value) -> Result<Value, OperationFault>
     requires { IsMoving (made_of operation (value_seen left) (value_seen right)) }
     ensures { ended result ≡ made_of operation (value_seen left) (value_seen right) }
 {

@@ -9,13 +9,13 @@ use Rattle.fisca_yaml.specs.Node.{Node}
 use Rattle.fisca_members.specs.declared.fault.MembersKind.{MembersKind as FaultKind}
 use Rattle.fisca_members.specs.declared.fault.MembersKind.TheVariants as kind
 use Rattle.fisca_members.specs.declared.fault.MembersFault.{MembersFault}
-use Rattle.fisca_members.specs.Faults.{fault_at}
+use Rattle.fisca_members.specs.Steps.Faults.{fault_at}
 use Rattle.fisca_groups.specs.declared.entity_members.EntityMembers.{EntityMembers}
 use Rattle.fisca_groups.specs.declared.home.Home.{Home}
 use Rattle.fisca_members.specs.declared.person.Person.{Person}
-use Rattle.fisca_members.specs.Groups.{with_group, with_own}
-use Rattle.fisca_members.specs.Members.{members_in, members_of}
-use Rattle.fisca_members.specs.Persons.{room, with_person}
+use Rattle.fisca_members.specs.Steps.Groups.{with_group, with_own}
+use Rattle.fisca_members.specs.Steps.Members.{members_in, members_of}
+use Rattle.fisca_members.specs.Steps.Persons.{room, with_person}
 
 -- Households with parents, of whom there are two, and children; and clubs with one chair and members, who have no plural.
 

@@ -1,8 +1,8 @@
 pub mod Faults
 pub mod Groups
-pub mod Members
 pub mod Naming
 pub mod Outcomes
 pub mod Persons
 pub mod Sections
+pub mod Steps
 pub mod Views

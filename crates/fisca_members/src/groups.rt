@@ -3,7 +3,7 @@
 ghost use Rattle.std.specs.Prelude.{◌≡◌, length};
 ghost use Rattle.fisca_symbols.specs.KnownRoles.{roles as known_roles};
 ghost use Rattle.fisca_yaml.specs.Views.{node, entries_view};
-ghost use Rattle.fisca_members.specs.Groups as spec;
+ghost use Rattle.fisca_members.specs.Steps.Groups as spec;
 ghost use Rattle.fisca_members.specs.Outcomes.{Leaves};
 ghost use Rattle.fisca_members.specs.Views.{section as section_view};
 

@@ -2,7 +2,7 @@
 
 ghost use Rattle.std.specs.Prelude.{◌≡◌};
 ghost use Rattle.fisca_yaml.specs.Views.{node, items_view};
-ghost use Rattle.fisca_members.specs.Groups as spec;
+ghost use Rattle.fisca_members.specs.Steps.Groups as spec;
 ghost use Rattle.fisca_members.specs.Outcomes.{Leaves};
 ghost use Rattle.fisca_members.specs.Views.{post as post_view};
 

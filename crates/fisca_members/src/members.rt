@@ -5,9 +5,9 @@ ghost use Rattle.fisca_symbols.specs.KnownEntities.{entity as known_one, entitie
 ghost use Rattle.fisca_yaml.specs.Views.{node};
 ghost use Rattle.fisca_groups.specs.Grouped.{grouped};
 ghost use Rattle.fisca_groups.specs.Lookup as lookup;
-ghost use Rattle.fisca_members.specs.Members as spec;
+ghost use Rattle.fisca_members.specs.Steps.Members as spec;
 ghost use Rattle.fisca_members.specs.Outcomes.{Leaves, Tells};
-ghost use Rattle.fisca_members.specs.Persons.{names_of as all_names};
+ghost use Rattle.fisca_members.specs.Steps.Persons.{names_of as all_names};
 ghost use Rattle.fisca_members.specs.Views.{section as section_view, input_view};
 
 use crate::fault::MembersFault;
@@ -271,7 +271,7 @@ fn all_own(
 /// and each name that is given a role from top to bottom: `UnknownPerson`, `PersonTwice`, `RoleFull`. Then `TooMany` of a person whose
 /// own group is the 1,001st of its kind. A person that no given group of a kind names has one of its own behind them, in the first role
 /// or its first subrole (this project's own rule).
-#[tactic(auto, unfolding(crate::specs::Members::members_in))]
+#[tactic(auto, unfolding(crate::specs::Steps::Members::members_in))]
 pub fn members_in(
     alloc: Global,
     entities: &[Entity<'_>],
@@ -289,7 +289,7 @@ pub fn members_in(
 
 /// The members of a situation, whose input stands at a key on `line`: of each of these entities in order, or the first fault: of its
 /// keys, and then as `members_in` tells.
-#[tactic(auto, unfolding(crate::specs::Members::members_of))]
+#[tactic(auto, unfolding(crate::specs::Steps::Members::members_of))]
 pub fn members_of(
     alloc: Global,
     entities: &[Entity<'_>],

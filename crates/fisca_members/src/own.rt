@@ -1,7 +1,7 @@
 //! Groups of persons that no given group holds.
 
 ghost use Rattle.std.specs.Prelude.{◌≡◌};
-ghost use Rattle.fisca_members.specs.Groups as spec;
+ghost use Rattle.fisca_members.specs.Steps.Groups as spec;
 ghost use Rattle.fisca_members.specs.Outcomes.{Leaves};
 
 use crate::fault::MembersFault;

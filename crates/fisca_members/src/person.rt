@@ -2,6 +2,7 @@
 
 ghost use Rattle.std.specs.Prelude.{◌≡◌, ◌<◌, ◌≤◌, [], ◌∷◌, ◌++◌, length, IfOk, IfSome};
 ghost use Rattle.fisca_members.specs.Persons as spec;
+ghost use Rattle.fisca_members.specs.Steps.Persons as steps;
 
 use crate::few::FEW;
 use fisca_symbols::{Names, SourceText};
@@ -27,7 +28,7 @@ pub struct Persons<'t> {
 impl<'t> Model for Persons<'t> {
     ghost use Rattle.std.specs.Prelude.{◌≡◌, ◌≤◌, List, length, IfSome};
     ghost use Rattle.fisca_members.specs.declared.person.Person.{Person};
-    ghost use Rattle.fisca_members.specs.Persons.{names_of};
+    ghost use Rattle.fisca_members.specs.Steps.Persons.{names_of};
 
     ghost Value = { List Person };
 
@@ -38,7 +39,7 @@ impl<'t> Model for Persons<'t> {
 
 /// The names of persons.
 fn names_of<'t>(alloc: Global, persons: &[Person<'t>]) -> Result<Names<'t>, AllocError>
-    ensures { IfOk result (λ n. n ≡ spec.names_of persons.now) }
+    ensures { IfOk result (λ n. n ≡ steps.names_of persons.now) }
 {
     let mut names = Names::new(alloc);
     for person in persons {
@@ -54,8 +55,8 @@ fn table_of<'t>(
     name: &'t [u8],
     persons: &[Person<'t>],
 ) -> Result<Option<Names<'t>>, AllocError>
-    requires { IfSome names (λ n. n ++ name.now ∷ [] ≡ spec.names_of persons.now) }
-    ensures { IfOk result (λ o. IfSome o (λ n. n ≡ spec.names_of persons.now)) }
+    requires { IfSome names (λ n. n ++ name.now ∷ [] ≡ steps.names_of persons.now) }
+    ensures { IfOk result (λ o. IfSome o (λ n. n ≡ steps.names_of persons.now)) }
 {
     match names {
         Some(names) => Ok(Some(names.with(alloc, SourceText::borrowed(name))?)),
@@ -66,7 +67,7 @@ fn table_of<'t>(
 
 /// The place of the first person of this name.
 fn place_among(persons: &[Person<'_>], name: &[u8]) -> Option<usize>
-    ensures { result ≡ spec.person_named persons.now name.now }
+    ensures { result ≡ steps.person_named persons.now name.now }
 {
     for (place, person) in persons.iter().enumerate() {
         if person.name.as_bytes() == name {
@@ -125,7 +126,7 @@ impl<'t> Persons<'t> {
 
     /// The place of the person of this name.
     pub fn of_name(&self, name: &[u8]) -> Option<usize>
-        ensures { result ≡ spec.person_named self.now name.now }
+        ensures { result ≡ steps.person_named self.now name.now }
     {
         match &self.names {
             Some(names) => names.place_of(name),

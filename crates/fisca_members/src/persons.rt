@@ -6,7 +6,7 @@ ghost use Rattle.fisca_symbols.specs.KnownEntities.{entity as known_one, entitie
 ghost use Rattle.fisca_model.specs.Tables.{is_person as is_person_in};
 ghost use Rattle.fisca_yaml.specs.Views.{node, entries_view};
 ghost use Rattle.fisca_members.specs.Outcomes.{Tells};
-ghost use Rattle.fisca_members.specs.Persons as spec;
+ghost use Rattle.fisca_members.specs.Steps.Persons as spec;
 ghost use Rattle.fisca_members.specs.Views.{section as section_view, input_view};
 
 use crate::fault::{MembersFault, MembersKind};
@@ -36,7 +36,7 @@ pub(crate) fn room(line: usize, count: usize) -> Result<(), MembersFault>
 }
 
 /// The persons so far and one more, of whom a map of variables is said.
-#[tactic(auto, unfolding(crate::specs::Persons::with_person))]
+#[tactic(auto, unfolding(crate::specs::Steps::Persons::with_person))]
 fn with_person<'t>(
     alloc: Global,
     persons: Persons<'t>,

@@ -2,7 +2,7 @@
 
 ghost use Rattle.std.specs.Prelude.{◌≡◌, ◌<◌, map, length, option_map, slice_get, IfOk};
 ghost use Rattle.fisca_symbols.specs.KnownRoles.{role as known_role, roles as known_roles};
-ghost use Rattle.fisca_members.specs.Groups as spec;
+ghost use Rattle.fisca_members.specs.Steps.Groups as spec;
 
 use crate::few::FEW;
 use fisca_model::RolePlace;
@@ -22,7 +22,7 @@ impl<'e, 'r> Model for RoleTable<'e, 'r> {
     ghost use Rattle.std.specs.Prelude.{◌≡◌, List, IfSome};
     ghost use Rattle.fisca_model.specs.Tables.{Role};
     ghost use Rattle.fisca_symbols.specs.KnownRoles.{roles};
-    ghost use Rattle.fisca_members.specs.Groups.{role_titles};
+    ghost use Rattle.fisca_members.specs.Steps.Groups.{role_titles};
 
     ghost Value = { List Role };
 

@@ -3,7 +3,7 @@
 ghost use Rattle.std.specs.Prelude.{◌≡◌, [], map};
 ghost use Rattle.fisca_yaml.specs.Views.{node, entries_view};
 ghost use Rattle.fisca_members.specs.Outcomes.{Tells};
-ghost use Rattle.fisca_members.specs.Sections as spec;
+ghost use Rattle.fisca_members.specs.Steps.Sections as spec;
 ghost use Rattle.fisca_members.specs.Views.{section, input_view};
 
 use crate::fault::{MembersFault, MembersKind};

@@ -4,7 +4,7 @@ ghost use Rattle.std.specs.Prelude.{◌≡◌, option_map};
 ghost use Rattle.std.specs.Option.{unwrap_or};
 ghost use Rattle.fisca_yaml.specs.Find.{begins_on};
 ghost use Rattle.fisca_yaml.specs.Views.{node, entries_view};
-ghost use Rattle.fisca_members.specs.Faults as spec;
+ghost use Rattle.fisca_members.specs.Steps.Faults as spec;
 ghost use Rattle.fisca_members.specs.Outcomes.{Tells};
 
 use crate::fault::{MembersFault, MembersKind};

@@ -5,7 +5,7 @@ ghost use Rattle.std.specs.Str.{bytes_eq};
 ghost use Rattle.fisca_symbols.specs.KnownEntities.{entities as known, entity as known_entity};
 ghost use Rattle.fisca_model.specs.Tables.{place_in};
 ghost use Rattle.fisca_members.specs.Naming.{name_by};
-ghost use Rattle.fisca_members.specs.Sections as spec;
+ghost use Rattle.fisca_members.specs.Steps.Sections as spec;
 
 use crate::few::FEW;
 use crate::section::Named;

@@ -3,12 +3,14 @@ use Rattle.std.proofs.Common.{◌≡◌, ℕ, List, [], ◌∷◌, ◌++◌, Boo
 use Rattle.std.proofs.lemmas.List.Folds.{list_any-append}
 use Rattle.std.specs.List.{list_any}
 use Rattle.std.specs.Str.{bytes_eq}
-use Rattle.fisca_attributes.specs.EntityForms.{entity_of}
+use Rattle.fisca_attributes.specs.Steps.EntityForms.{entity_of}
 use Rattle.fisca_ast.specs.Modules.{Assigned, Item, Statement, entity, entities, choices, variable}
 use Rattle.fisca_ast.specs.declared.module.Member.{Member}
 use Rattle.fisca_symbols.specs.declared.role.Role.{Role}
-use Rattle.fisca_names.specs.Clashes.{among, bears, is_of, line_of, listed, meet, names_clash, names_of, own_clash, repeat, repeated_member, repeated_within, roles_in, titles, titles_clash}
-use Rattle.fisca_names.specs.Seen.{Holds, Notes, NotesNames, NotesTitles, TellsOne, all_titles_within, entity_named, has_name, has_title, has_variable, is_title_in, is_variable_in, same_within, titles_within}
+use Rattle.fisca_names.specs.Clashes.{among, bears, is_of, listed, names_of, repeat, roles_in, titles}
+use Rattle.fisca_names.specs.Steps.Clashes.{line_of, meet, names_clash, own_clash, repeated_member, repeated_within, titles_clash}
+use Rattle.fisca_names.specs.Seen.{Holds, Notes, NotesNames, NotesTitles, TellsOne, all_titles_within, has_name, has_title, has_variable, is_title_in, is_variable_in, same_within, titles_within}
+use Rattle.fisca_names.specs.Steps.Seen.{entity_named}
 use Rattle.fisca_names.specs.Titles.{Adds}
 use Rattle.fisca_names.specs.declared.seen.Seen.{Seen}
 use Rattle.fisca_names.specs.declared.within.Within.{Within}

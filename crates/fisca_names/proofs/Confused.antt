@@ -4,7 +4,8 @@ use Rattle.std.proofs.lemmas.List.Folds.{list_any-append}
 use Rattle.std.specs.List.{list_any}
 use Rattle.std.specs.Str.{bytes_eq}
 use Rattle.fisca_model.specs.Tables.{capitals}
-use Rattle.fisca_names.specs.Clashes.{Titled, among, are_confused, texts_of, titles_clash}
+use Rattle.fisca_names.specs.Clashes.{Titled, among, texts_of}
+use Rattle.fisca_names.specs.Steps.Clashes.{are_confused, titles_clash}
 use Rattle.fisca_names.specs.Titles.{again, has_capitals, has_text, Holds, Notes, NotesOne}
 use Rattle.fisca_names.specs.declared.titles.Titles.{Titles}
 use Rattle.fisca_names.proofs.Some.{or_none, or_later, some_none, some_or, some_pair, one_more}

@@ -2,7 +2,8 @@
 use Rattle.std.proofs.Common.{◌≡◌, ℕ, List, [], ◌∷◌, ◌++◌, Bool, false, Option, Some, sym, ap, ◌∙◌, if◌then◌else◌}
 use Rattle.std.specs.Str.{bytes_eq}
 use Rattle.fisca_names.proofs.Some.{one_more, or_none}
-use Rattle.fisca_names.specs.Clashes.{among, is_order, repeated_member}
+use Rattle.fisca_names.specs.Clashes.{among, is_order}
+use Rattle.fisca_names.specs.Steps.Clashes.{repeated_member}
 use Rattle.fisca_names.specs.Titles.{Adds}
 use Rattle.fisca_ast.specs.declared.module.Member.{Member}
 

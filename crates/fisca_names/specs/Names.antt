@@ -4,7 +4,7 @@ use Rattle.fisca_params.specs.Results.{and_then}
 use Rattle.fisca_ast.specs.Modules.{Statement}
 use Rattle.fisca_ast.specs.declared.fault.FormulaKind.{FormulaKind}
 use Rattle.fisca_ast.specs.declared.fault.FormulaKind.TheVariants as kind
-use Rattle.fisca_names.specs.Clashes.{second_name}
+use Rattle.fisca_names.specs.Steps.Clashes.{second_name}
 use Rattle.fisca_names.specs.declared.fault.BuildFault.{BuildFault}
 
 -- the statements of a rule set, each with the place of its module

@@ -1,15 +1,13 @@
 -- What the tables of the first pass hold.
-use Rattle.std.specs.Prelude.{◌≡◌, ℕ, List, [], ◌∷◌, ◌++◌, map, Bool, false, ◌&&◌, ◌||◌, Option, Some, None, codes}
+use Rattle.std.specs.Prelude.{◌≡◌, ℕ, List, [], ◌∷◌, ◌++◌, map, Bool, false, ◌&&◌, ◌||◌, Option, Some, None}
 use Rattle.std.specs.List.{list_any}
-use Rattle.std.specs.Result.{result_ok}
 use Rattle.std.specs.Str.{bytes_eq}
 use Rattle.indexmap.specs.IndexSet.{contains}
-use Rattle.fisca_attributes.specs.AttributeForms.{value_at}
-use Rattle.fisca_attributes.specs.EntityForms.{entity_of}
-use Rattle.fisca_attributes.specs.Values.{name_value, needed}
-use Rattle.fisca_ast.specs.Modules.{Item, Statement, entity, entities, choices, variable}
+use Rattle.fisca_attributes.specs.Steps.EntityForms.{entity_of}
+use Rattle.fisca_ast.specs.Modules.{Statement, entity, entities, choices, variable}
 use Rattle.fisca_symbols.specs.declared.role.Role.{Role}
-use Rattle.fisca_names.specs.Clashes.{among, bears, clashes, is_of, listed, names_of, repeat, roles_in, second_name}
+use Rattle.fisca_names.specs.Clashes.{among, bears, is_of, listed, names_of, repeat, roles_in}
+use Rattle.fisca_names.specs.Steps.Clashes.{clashes, second_name}
 use Rattle.fisca_names.specs.Titles.{Adds}
 use Rattle.fisca_names.specs.declared.seen.Seen.{Seen}
 use Rattle.fisca_names.specs.declared.within.Within.{Within}
@@ -44,10 +42,6 @@ all_titles_within constant (r ∷ rs) = titles_within constant r ++ all_titles_w
 pub record NotesTitles (variables old new : Within → Bool) (ws : List Within) (is_variable : Bool) : Type 0 where
   pub told : is_variable ≡ list_any variables ws
   pub noted : is_variable ≡ false → Adds same_within old new ws
-
--- the entity that a variable names
-abbrev pub entity_named : List Item → Option (List ℕ)
-entity_named xs = result_ok (needed name_value (value_at (codes "entity") xs))
 
 abbrev pub is_title_in : Within → Statement → Bool
 is_title_in w (entity a) = bytes_eq a.name w.constant && list_any (bears w.name) (roles_in (entity_of a))

@@ -5,7 +5,8 @@ use Rattle.std.specs.Str.{bytes_eq}
 use Rattle.indexmap.specs.IndexSet.{contains}
 use Rattle.fisca_symbols.specs.declared.role.Role.{Role}
 use Rattle.fisca_model.specs.Tables.{capitals}
-use Rattle.fisca_names.specs.Clashes.{Titled, among, are_confused, texts_of}
+use Rattle.fisca_names.specs.Clashes.{Titled, among, texts_of}
+use Rattle.fisca_names.specs.Steps.Clashes.{are_confused}
 use Rattle.fisca_names.specs.declared.titles.Titles.{Titles}
 
 -- a table of keys was added to: what it had, and these

@@ -1,7 +1,7 @@
 //! What statements that build entities tell of names.
 
 ghost use Rattle.std.specs.Prelude.{◌≡◌, IfOk};
-ghost use Rattle.fisca_attributes.specs.EntityForms.{entity_of as entity_in};
+ghost use Rattle.fisca_attributes.specs.Steps.EntityForms.{entity_of as entity_in};
 ghost use Rattle.fisca_names.specs.Clashes.{names_in, roles_in};
 ghost use Rattle.fisca_names.specs.Seen.{both};
 ghost use Rattle.fisca_ast.specs.ModuleViews.{assigned};

@@ -1,7 +1,7 @@
 //! Members of an Enum.
 
 ghost use Rattle.std.specs.Prelude.{◌≡◌, [], IfOk};
-ghost use Rattle.fisca_names.specs.Clashes.{repeated_member as first_repeated};
+ghost use Rattle.fisca_names.specs.Steps.Clashes.{repeated_member as first_repeated};
 
 use crate::noted::comes_again;
 use fisca_ast::Member;

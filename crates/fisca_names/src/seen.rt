@@ -1,7 +1,8 @@
 //! The names of the statements so far.
 
 ghost use Rattle.std.specs.Prelude.{◌≡◌, [], ◌∷◌, map, Some, None, IfOk, if◌then◌else◌};
-ghost use Rattle.fisca_names.specs.Seen.{Holds, Notes, TellsOne, entity_named as entity_named_in};
+ghost use Rattle.fisca_names.specs.Seen.{Holds, Notes, TellsOne};
+ghost use Rattle.fisca_names.specs.Steps.Seen.{entity_named as entity_named_in};
 ghost use Rattle.fisca_ast.specs.Modules.{choices, entity, variable};
 ghost use Rattle.fisca_ast.specs.ModuleViews.{assigned, item, statement as statement_view};
 

@@ -1,7 +1,8 @@
 //! Keys and plurals of the roles and subroles of one entity.
 
 ghost use Rattle.std.specs.Prelude.{◌≡◌, [], map, IfOk};
-ghost use Rattle.fisca_names.specs.Clashes.{titles, titles_clash};
+ghost use Rattle.fisca_names.specs.Clashes.{titles};
+ghost use Rattle.fisca_names.specs.Steps.Clashes.{titles_clash};
 ghost use Rattle.fisca_names.specs.Titles.{Holds, Notes, NotesOne, subrole, titles_of, whole};
 
 use crate::noted::comes_again;

@@ -51,3 +51,9 @@ lowest_negated n v d e h = rw e (lowest-neg n d h)
 
 pub within_negated : (n v : ℤ) (d : ℕ) → v ≡ neg_ℤ n → IsWithin n d → IsWithin v d
 within_negated n v d e h = rw e (within-neg n d h)
+
+pub lowest_sized : (n v : ℤ) (d : ℕ) → unsigned_abs v ≡ unsigned_abs n → IsLowest n d → IsLowest v d
+lowest_sized n v d e h = record { positive = h.positive; coprime = rw e h.coprime }
+
+pub within_sized : (n v : ℤ) (d : ℕ) → unsigned_abs v ≡ unsigned_abs n → IsWithin n d → IsWithin v d
+within_sized n v d e h = record { above = rw e h.above; below = h.below }

@@ -68,15 +68,15 @@ with_twos a b i j g x y h =
 from_gap : (x y k g : ℕ) → x ≤ y → x % 2 ≡ 1 → 2 ^ k * ((y - x) / 2 ^ k) ≡ y - x → IsGcd x ((y - x) / 2 ^ k) g → IsGcd x y g
 from_gap x y k g le odd whole h = IsGcd-swap _ _ _ (IsGcd-from_sub y x g le (IsGcd-swap _ _ _ (rw whole at (add_twos x ((y - x) / 2 ^ k) k g odd h))))
 
--- a word and its opposite have as many twos
-opposite : (w k m : ℕ) → k ≤ 64 → w + m ≡ 2 ^ 64 → 2 ^ k * (w / 2 ^ k) ≡ w → m ≡ 2 ^ k * (2 ^ (64 - k) - w / 2 ^ k)
-opposite w k m few e h =
+-- a word and its negation have as many twos
+negated : (w k m : ℕ) → k ≤ 64 → w + m ≡ 2 ^ 64 → 2 ^ k * (w / 2 ^ k) ≡ w → m ≡ 2 ^ k * (2 ^ (64 - k) - w / 2 ^ k)
+negated w k m few e h =
     let ten : 2 ^ 64 ≡ 2 ^ k * 2 ^ (64 - k) = let f : 64 ≡ k + (64 - k) = omega arith in ap (λ i. 2 ^ i) f ∙ pow-add 2 k (64 - k) in
     let apart : m ≡ 2 ^ k * 2 ^ (64 - k) - 2 ^ k * (w / 2 ^ k) = omega arith in
     apart ∙ sym (mul-sub (2 ^ k) (2 ^ (64 - k)) (w / 2 ^ k))
 
-opposite_quotient : (w k m : ℕ) → k ≤ 64 → w + m ≡ 2 ^ 64 → 2 ^ k * (w / 2 ^ k) ≡ w → m / 2 ^ k ≡ 2 ^ (64 - k) - w / 2 ^ k
-opposite_quotient w k m few e h = ap (λ z. z / 2 ^ k) (opposite w k m few e h) ∙ mul-div_cancel_left (2 ^ (64 - k) - w / 2 ^ k) (two_pos k)
+negated_quotient : (w k m : ℕ) → k ≤ 64 → w + m ≡ 2 ^ 64 → 2 ^ k * (w / 2 ^ k) ≡ w → m / 2 ^ k ≡ 2 ^ (64 - k) - w / 2 ^ k
+negated_quotient w k m few e h = ap (λ z. z / 2 ^ k) (negated w k m few e h) ∙ mul-div_cancel_left (2 ^ (64 - k) - w / 2 ^ k) (two_pos k)
 
 quotient_less : (w k : ℕ) → k ≤ 64 → w ≤ 2 ^ 64 → w / 2 ^ k ≤ 2 ^ (64 - k)
 quotient_less w k few h =
@@ -86,15 +86,15 @@ quotient_less w k few h =
       | inr p ↦ p
     ]
 
-pub opposite_halved : (w k m : ℕ) → w + m ≡ 2 ^ 64 → IsHalved w k → IsHalved m k
-opposite_halved w k m e h =
+pub negated_halved : (w k m : ℕ) → w + m ≡ 2 ^ 64 → IsHalved w k → IsHalved m k
+negated_halved w k m e h =
     let few : k < 64 = h.few in
     let odd : w / 2 ^ k % 2 ≡ 1 = h.odd in
-    let quotient : m / 2 ^ k ≡ 2 ^ (64 - k) - w / 2 ^ k = opposite_quotient w k m (omega arith) e h.whole in
+    let quotient : m / 2 ^ k ≡ 2 ^ (64 - k) - w / 2 ^ k = negated_quotient w k m (omega arith) e h.whole in
     let even : 2 ^ (64 - k) ≡ 2 * 2 ^ (63 - k) = let f : 64 - k ≡ suc (63 - k) = omega arith in ap (λ i. 2 ^ i) f ∙ omega (arith, pow-suc 2 (63 - k)) in
     let less : w / 2 ^ k ≤ 2 ^ (64 - k) = quotient_less w k (omega arith) (omega arith) in
     record {
-      whole = rw quotient (sym (opposite w k m (omega arith) e h.whole));
+      whole = rw quotient (sym (negated w k m (omega arith) e h.whole));
       odd = omega arith;
       few = few;
     }
@@ -114,7 +114,7 @@ gap_up : (x y w k gap : ℕ) → IsStep x y w k gap → x < y → (gap ≡ y - x
 gap_up x y w k gap s h =
     let e : gap ≡ y - x = s.gap_is ∙ omega arith in
     let f : w + gap ≡ 2 ^ 64 = omega (arith, s.difference, s.y_word) in
-    (e, opposite_halved w k gap f s.halved)
+    (e, negated_halved w k gap f s.halved)
 
 gap_down : (x y w k gap : ℕ) → IsStep x y w k gap → y < x → (gap ≡ x - y) × IsHalved gap k
 gap_down x y w k gap s h =

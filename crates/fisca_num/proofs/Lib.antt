@@ -5,13 +5,17 @@ pub mod Coprime
 pub mod Cut
 pub mod Division
 pub mod Fives
+pub mod Floors
 pub mod Forms
 pub mod Halving
+pub mod Near
 pub mod Places
 pub mod Powers
 pub mod Products
 pub mod Reading
 pub mod RoundTrip
+pub mod Rounded
 pub mod Spelled
 pub mod Sums
+pub mod WorkedRounding
 pub mod Written

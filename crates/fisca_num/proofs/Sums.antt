@@ -8,7 +8,7 @@ use Rattle.std.proofs.lemmas.Nat.Gcd.{IsGcd-swap, dvd_trans}
 use Rattle.std.proofs.Math.Nat.{mul-div_cancel', mul-le-mul_left, dvd-add, dvd-sub, dvd-mul_left_of_dvd, zero-mul}
 use Rattle.std.proofs.Math.IntN.{neg_ℤ-neg_ℤ}
 use Rattle.fisca_num.specs.Rational.{IsLowest, signed}
-use Rattle.fisca_num.specs.Number.{Number, opposite_of}
+use Rattle.fisca_num.specs.Number.{Number, negation_of}
 use Rattle.fisca_num.specs.Lowest.{IsCoprime, euclid, coprime_from_gcd}
 use Rattle.fisca_num.specs.Reduced.{quotient_pos}
 use Rattle.fisca_num.specs.Operations.{number_of, sum_of, difference_of}
@@ -120,11 +120,11 @@ shared_same b s left right shared k hl hr part co h some =
 
 -- ---- differences
 
-opposite_product : (y : ℤ) (d : ℕ) → neg_ℤ y *ℤ pos d ≡ neg_ℤ (y *ℤ pos d)
-opposite_product (pos zero) d = ap pos (zero-mul d) ∙ ap (λ z. neg_ℤ (pos z)) (sym (zero-mul d))
-opposite_product (pos (suc n)) d = refl
-opposite_product (negsuc n) d = sym (neg_ℤ-neg_ℤ (pos (suc n * d)))
+negated_product : (y : ℤ) (d : ℕ) → neg_ℤ y *ℤ pos d ≡ neg_ℤ (y *ℤ pos d)
+negated_product (pos zero) d = ap pos (zero-mul d) ∙ ap (λ z. neg_ℤ (pos z)) (sym (zero-mul d))
+negated_product (pos (suc n)) d = refl
+negated_product (negsuc n) d = sym (neg_ℤ-neg_ℤ (pos (suc n * d)))
 
-pub difference_is : (x y : Number) → difference_of x y ≡ sum_of x (opposite_of y)
+pub difference_is : (x y : Number) → difference_of x y ≡ sum_of x (negation_of y)
 unfolding sum_of difference_of
-difference_is x y = ap (λ z. number_of (record { numerator = x.numerator *ℤ pos y.denominator +ℤ z; denominator = x.denominator * y.denominator })) (sym (opposite_product y.numerator x.denominator))
+difference_is x y = ap (λ z. number_of (record { numerator = x.numerator *ℤ pos y.denominator +ℤ z; denominator = x.denominator * y.denominator })) (sym (negated_product y.numerator x.denominator))

@@ -32,11 +32,11 @@ pub sum-times : (x y k : ℤ) → (x +ℤ y) *ℤ k ≡ x *ℤ k +ℤ y *ℤ k
 sum-times (pos n) = sum_times_pos n
 sum-times (negsuc n) = sum_times_negsuc n
 
-opposite : (x y : ℤ) → x +ℤ y ≡ pos 0 → x ≡ neg_ℤ y
-opposite x y h = omega (arith, ints)
+negated : (x y : ℤ) → x +ℤ y ≡ pos 0 → x ≡ neg_ℤ y
+negated x y h = omega (arith, ints)
 
 pub neg-times : (y k : ℤ) → neg_ℤ y *ℤ k ≡ neg_ℤ (y *ℤ k)
-neg-times y k = opposite (neg_ℤ y *ℤ k) (y *ℤ k) (sym (sum-times (neg_ℤ y) y k) ∙ ap (λ z. z *ℤ k) (+ℤ_invl y) ∙ zero-*ℤ k)
+neg-times y k = negated (neg_ℤ y *ℤ k) (y *ℤ k) (sym (sum-times (neg_ℤ y) y k) ∙ ap (λ z. z *ℤ k) (+ℤ_invl y) ∙ zero-*ℤ k)
 
 -- a difference times k
 pub difference-times : (x y k : ℤ) → (x -ℤ y) *ℤ k ≡ x *ℤ k -ℤ y *ℤ k

@@ -6,6 +6,7 @@ pub mod Halves
 pub mod Integers
 pub mod Literal
 pub mod Lowest
+pub mod Nearest
 pub mod Number
 pub mod Numeral
 pub mod Operations
@@ -13,6 +14,7 @@ pub mod Order
 pub mod Part
 pub mod Rational
 pub mod Reduced
+pub mod Rounding
 pub mod Tens
 pub mod Text
 pub mod TextAnswer

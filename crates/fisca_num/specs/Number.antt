@@ -50,8 +50,8 @@ pub within-neg : (n : ℤ) (d : ℕ) → IsWithin n d → IsWithin (neg_ℤ n) d
 within-neg n d h = record { above = rw (size-neg n) h.above; below = h.below }
 
 -- -v
-abbrev pub opposite_of : Number → Number
-opposite_of v = record {
+abbrev pub negation_of : Number → Number
+negation_of v = record {
   numerator = neg_ℤ v.numerator;
   denominator = v.denominator;
   lowest = lowest-neg v.numerator v.denominator v.lowest;

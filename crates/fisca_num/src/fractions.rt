@@ -1,6 +1,6 @@
 //! The type of exact fractions.
 ghost use Rattle.std.specs.Prelude.{◌≡◌};
-ghost use Rattle.fisca_num.specs.Number.{opposite_of, trunc_of, zero_number, one_number};
+ghost use Rattle.fisca_num.specs.Number.{negation_of, trunc_of, zero_number, one_number};
 ghost use Rattle.fisca_num.specs.Rational.{IsLowest, IsWithin};
 
 use std::marker::Model;
@@ -68,7 +68,7 @@ impl Fraction {
 
     /// The number with the other sign. It is always within the limits.
     pub fn neg(self) -> Fraction
-        ensures { result ≡ opposite_of self }
+        ensures { result ≡ negation_of self }
     {
         Fraction {
             numerator: -self.numerator,

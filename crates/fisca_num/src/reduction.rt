@@ -40,7 +40,7 @@ pub(crate) fn parts_of_word(number: i64) -> (bool, u64)
     (number < 0, number.unsigned_abs())
 }
 
-/// The number that `size / denominator` is, or its opposite.
+/// The number that `size / denominator` is, or its negation.
 pub(crate) fn reduce_size(
     negative: bool,
     size: u128,
@@ -170,8 +170,8 @@ pub(crate) fn from_lowest(
     })
 }
 
-/// `size`, or its opposite.
-fn with_sign(negative: bool, size: u64) -> i64
+/// `size`, or its negation.
+pub(crate) fn with_sign(negative: bool, size: u64) -> i64
     requires { size < 2 ^ 63 }
     ensures { result ≡ signed negative size }
 {

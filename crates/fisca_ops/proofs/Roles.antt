@@ -4,7 +4,7 @@ use Rattle.std.proofs.lemmas.Bool.{true≢false}
 use Rattle.std.specs.Prelude.{slice_get, Option, Some, None, true, false}
 use Rattle.fisca_model.specs.Groups.{Groups, with_role}
 use Rattle.fisca_model.specs.declared.role_place.RolePlace.{RolePlace}
-use Rattle.fisca_ops.specs.Persons.{is_meant}
+use Rattle.fisca_ops.specs.Steps.Persons.{is_meant}
 use Rattle.fisca_ops.proofs.Next.{next_item}
 
 kept : (g : Groups) (entity : ℕ) (role : Option RolePlace) (p : ℕ) (ps : List ℕ) → is_meant g entity role p ≡ true → with_role g entity role (p ∷ ps) ≡ p ∷ with_role g entity role ps

@@ -14,7 +14,8 @@ use Rattle.fisca_model.specs.declared.role_place.RolePlace.{RolePlace}
 use Rattle.fisca_typing.specs.declared.operations.Total.TheVariants as total
 use Rattle.fisca_ops.specs.Casts.{cast}
 use Rattle.fisca_ops.specs.Persons.{persons_from, first}
-use Rattle.fisca_ops.specs.Totals.{beginning, step_of}
+use Rattle.fisca_ops.specs.Totals.{step_of}
+use Rattle.fisca_ops.specs.Steps.Totals.{beginning}
 
 -- Casts
 

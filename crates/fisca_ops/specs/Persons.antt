@@ -1,7 +1,7 @@
 -- The persons of a group, one after another.
-use Rattle.std.specs.Prelude.{ℕ, Bool, true, List, [], ◌∷◌, drop, Option, Some, None}
+use Rattle.std.specs.Prelude.{ℕ, List, [], ◌∷◌, drop, Option, Some, None}
 use Rattle.fisca_model.specs.declared.role_place.RolePlace.{RolePlace}
-use Rattle.fisca_model.specs.Groups.{Groups, has, with_role}
+use Rattle.fisca_model.specs.Groups.{Groups, with_role}
 
 -- those of the role from a place among all persons of the group on
 abbrev pub persons_from : Groups → ℕ → ℕ → Option RolePlace → ℕ → List ℕ
@@ -10,7 +10,3 @@ persons_from g entity group role next = with_role g entity role (drop next (g.pe
 abbrev pub first : List ℕ → Option ℕ
 first [] = None
 first (p ∷ ps) = Some p
-
-abbrev pub is_meant : Groups → ℕ → Option RolePlace → ℕ → Bool
-is_meant g entity None p = true
-is_meant g entity (Some r) p = has r (g.role_of entity p)

@@ -11,7 +11,7 @@ use fisca_params::ParamFault;
 
 /// Why a formula has no value.
 #[derive(Clone, Copy, Debug, PartialEq, Eq)]
-pub enum Fault {
+pub enum OperationFault {
     /// A division by 0.
     ZeroDivisor,
     /// A number has a part beyond the limits.
@@ -29,26 +29,26 @@ pub enum Fault {
 }
 
 /// What the fault of an operation on numbers means: `ZeroDivisor` or `TooWide`.
-pub fn fault_of(fault: NumFault) -> Fault
+pub fn fault_of(fault: NumFault) -> OperationFault
     ensures { fault_seen result ≡ dialogues.fault_of fault }
 {
     match fault {
-        NumFault::ZeroDivisor => Fault::ZeroDivisor,
-        NumFault::TooWide | NumFault::NotANumber | NumFault::Memory => Fault::TooWide,
+        NumFault::ZeroDivisor => OperationFault::ZeroDivisor,
+        NumFault::TooWide | NumFault::NotANumber | NumFault::Memory => OperationFault::TooWide,
     }
 }
 
 /// What the fault of a scale means: `ParameterUndefined` where no bracket is complete, that of a number where one is, else `BadScale`.
-pub fn scale_fault(fault: ParamFault) -> Fault
+pub fn scale_fault(fault: ParamFault) -> OperationFault
     ensures { fault_seen result ≡ meaning.scale_fault fault }
 {
     match fault {
-        ParamFault::Undefined => Fault::ParameterUndefined,
+        ParamFault::Undefined => OperationFault::ParameterUndefined,
         ParamFault::Number(number) => fault_of(number),
         ParamFault::Yaml { .. }
         | ParamFault::BadParameter { .. }
         | ParamFault::DuplicateName { .. }
         | ParamFault::BadScale
-        | ParamFault::Memory => Fault::BadScale,
+        | ParamFault::Memory => OperationFault::BadScale,
     }
 }

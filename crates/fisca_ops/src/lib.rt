@@ -14,10 +14,10 @@ mod results;
 mod totals;
 
 pub use defaults::{default_by, default_of};
-pub use fault::{Fault, fault_of, scale_fault};
+pub use fault::{OperationFault, fault_of, scale_fault};
 pub use numbers::{by, compares, whole};
 pub use operands::{member_of, number_of, truth_of};
-pub use operations::{arithmetic, comparison, logic, negative, opposite, same};
+pub use operations::{arithmetic, comparison, logic, same, unary};
 pub use parameters::{parameter_at, scale_sum_at};
 pub use periods::{
     counted, has_no_parts, key_period, moved, moved_all, next_part, part_of, start_at,

@@ -6,7 +6,7 @@ ghost use Rattle.fisca_key_semantics.specs.Dialogues.{computed};
 ghost use Rattle.fisca_num.specs.Operations.{number_over};
 ghost use Rattle.fisca_ops.specs.Ended.{ended};
 
-use crate::fault::{Fault, fault_of};
+use crate::fault::{OperationFault, fault_of};
 use fisca_ast::Comparison;
 use fisca_model::Value;
 use fisca_num::{Fraction, NumFault};
@@ -44,7 +44,7 @@ pub fn compares(comparison: Comparison, left: Fraction, right: Fraction) -> bool
 }
 
 /// The value of a computed number, or what its fault means.
-pub(crate) fn computed(number: Result<Fraction, NumFault>) -> Result<Value, Fault>
+pub(crate) fn computed(number: Result<Fraction, NumFault>) -> Result<Value, OperationFault>
     ensures { ended result ≡ computed number }
 {
     match number {
@@ -54,7 +54,7 @@ pub(crate) fn computed(number: Result<Fraction, NumFault>) -> Result<Value, Faul
 }
 
 /// The value of a whole number.
-pub fn whole(number: i64) -> Result<Value, Fault>
+pub fn whole(number: i64) -> Result<Value, OperationFault>
     ensures { ended result ≡ computed (number_over number (pos 1)) }
 {
     computed(Fraction::new(number, 1))

@@ -2,21 +2,22 @@
 
 ghost use Rattle.std.specs.Prelude.{◌≡◌};
 ghost use Rattle.fisca_model.specs.Seen.{value_seen};
-ghost use Rattle.fisca_formula_semantics.specs.Answers.{arithmetic_of, comparison_of, logic_of, negative_of, not_of, same_of};
+ghost use Rattle.fisca_formula_semantics.specs.Answers.{arithmetic_of, comparison_of, logic_of, same_of, unary_of};
 ghost use Rattle.fisca_ops.specs.Ended.{IsMoving, ended};
 
-use crate::fault::Fault;
+use crate::fault::OperationFault;
 use crate::numbers::{by, compares, computed};
 use crate::operands::{member_of, number_of, truth_of};
 use fisca_ast::Comparison;
 use fisca_model::Value;
-use fisca_typing::{Arithmetic, Logic};
+use fisca_num::Fraction;
+use fisca_typing::{Arithmetic, Logic, Unary, is_places};
 
 /// A number of two numbers, as `arithmetic_of` has it; bools count as 0 and 1.
 ///
 /// `ZeroDivisor` of a division by 0, `TooWide` where a part of the number is beyond the limits.
 #[inline(always)]
-pub fn arithmetic(operation: Arithmetic, left: Value, right: Value) -> Result<Value, Fault>
+pub fn arithmetic(operation: Arithmetic, left: Value, right: Value) -> Result<Value, OperationFault>
     requires { IsMoving (arithmetic_of operation (value_seen left) (value_seen right)) }
     ensures { ended result ≡ arithmetic_of operation (value_seen left) (value_seen right) }
 {
@@ -58,18 +59,30 @@ pub fn same(left: Value, right: Value) -> Value
     Value::Bool(left == right)
 }
 
-/// The number with the other sign, as `negative_of` has it; a bool counts as 0 or 1.
-pub fn negative(value: Value) -> Value
-    requires { IsMoving (negative_of (value_seen value)) }
-    ensures { ended (Ok result) ≡ negative_of (value_seen value) }
+/// The nearest number with so many decimal places, from -9 to 9. `TooWide` where a part of it is beyond the limits.
+fn rounded(places: i8, value: Value) -> Result<Value, OperationFault>
+    requires { IsMoving (unary_of (Unary.Round places) (value_seen value)) }
+    ensures { ended result ≡ unary_of (Unary.Round places) (value_seen value) }
 {
-    Value::Number(number_of(value).neg())
+    if !is_places(i64::from(places)) {
+        unreachable!();
+    }
+    computed(number_of(value).round_to(places))
 }
 
-/// The bool that another is not, as `not_of` has it.
-pub fn opposite(value: Value) -> Value
-    requires { IsMoving (not_of (value_seen value)) }
-    ensures { ended (Ok result) ≡ not_of (value_seen value) }
+/// A value of one, as `unary_of` has it; a bool counts as 0 or 1 where a number is meant.
+///
+/// `TooWide` where a part of a rounded number is beyond the limits.
+pub fn unary(operation: Unary, value: Value) -> Result<Value, OperationFault>
+    requires { IsMoving (unary_of operation (value_seen value)) }
+    ensures { ended result ≡ unary_of operation (value_seen value) }
 {
-    Value::Bool(!truth_of(value))
+    match operation {
+        Unary::Not => Ok(Value::Bool(!truth_of(value))),
+        Unary::Minus => Ok(Value::Number(number_of(value).neg())),
+        Unary::Floor => computed(Fraction::whole(number_of(value).floor())),
+        Unary::Ceil => computed(Fraction::whole(number_of(value).ceil())),
+        Unary::Round(places) => rounded(places, value),
+        Unary::Absolute => Ok(Value::Number(number_of(value).abs())),
+    }
 }

@@ -6,18 +6,18 @@ ghost use Rattle.fisca_params.specs.Lookup.{sum_in, value_in};
 ghost use Rattle.fisca_params.specs.Tree.{content_at};
 ghost use Rattle.fisca_ops.specs.Ended.{ended};
 
-use crate::fault::{Fault, scale_fault};
+use crate::fault::{OperationFault, scale_fault};
 use fisca_model::Value;
 use fisca_num::Fraction;
 use fisca_params::{NodeId, NodeKind, ParamTree, ParamValue};
 use fisca_time::Instant;
 
 /// The value of a parameter, if it has one.
-fn value_or_fault(found: Option<ParamValue>) -> Result<Value, Fault>
+fn value_or_fault(found: Option<ParamValue>) -> Result<Value, OperationFault>
     ensures { ended result ≡ parameter_value found }
 {
     let Some(value) = found else {
-        return Err(Fault::ParameterUndefined);
+        return Err(OperationFault::ParameterUndefined);
     };
     match value {
         ParamValue::Number(number) => Ok(Value::Number(number)),
@@ -26,12 +26,14 @@ fn value_or_fault(found: Option<ParamValue>) -> Result<Value, Fault>
 }
 
 /// The value of the parameter at a place on a day, as `parameter_value` has it. `ParameterUndefined` where there is none.
-pub fn parameter_at(tree: &ParamTree, place: NodeId, day: Instant) -> Result<Value, Fault>
+pub fn parameter_at(tree: &ParamTree, place: NodeId, day: Instant) -> Result<Value, OperationFault>
     ensures { ended result ≡ parameter_value (value_in (content_at tree.now place) day) }
 {
     match tree.kind(place) {
         NodeKind::Number | NodeKind::Bool => value_or_fault(tree.value_at(place, day)),
-        NodeKind::Node | NodeKind::Unusable | NodeKind::Scale => Err(Fault::ParameterUndefined),
+        NodeKind::Node | NodeKind::Unusable | NodeKind::Scale => Err(
+            OperationFault::ParameterUndefined,
+        ),
     }
 }
 
@@ -42,7 +44,7 @@ pub fn scale_sum_at(
     place: NodeId,
     day: Instant,
     base: Fraction,
-) -> Result<Value, Fault>
+) -> Result<Value, OperationFault>
     ensures { ended result ≡ scale_value (sum_in (content_at tree.now place) day base) }
 {
     match tree.kind(place) {
@@ -51,7 +53,7 @@ pub fn scale_sum_at(
             Err(fault) => Err(scale_fault(fault)),
         },
         NodeKind::Node | NodeKind::Number | NodeKind::Bool | NodeKind::Unusable => Err(
-            Fault::ParameterUndefined,
+            OperationFault::ParameterUndefined,
         ),
     }
 }

@@ -8,7 +8,7 @@ ghost use Rattle.fisca_time.specs.Instant.{CivilDate};
 ghost use Rattle.fisca_time.specs.Period.{subs};
 ghost use Rattle.fisca_ops.specs.Ended.{ended};
 
-use crate::fault::Fault;
+use crate::fault::OperationFault;
 use crate::numbers::whole;
 use fisca_model::Value;
 use fisca_time::{Instant, Period, TimeFault, Unit};
@@ -67,7 +67,7 @@ pub fn part_of(part: DatePart, day: Instant) -> u16
 }
 
 /// The number of what is counted, as `counted` has it.
-pub fn counted(count: usize) -> Result<Value, Fault>
+pub fn counted(count: usize) -> Result<Value, OperationFault>
     requires { count < 2 ^ 63 }
     ensures { ended result ≡ asking.counted count }
 {

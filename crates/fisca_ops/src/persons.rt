@@ -4,7 +4,7 @@ ghost use Rattle.std.specs.Prelude.{◌≡◌, [], ◌∷◌, ◌<◌, ◌≤◌
 ghost use Rattle.fisca_model.specs.Groups as asking;
 ghost use Rattle.fisca_model.specs.Groups.{with_role};
 ghost use Rattle.fisca_groups.specs.Grouped.{grouped};
-ghost use Rattle.fisca_ops.specs.Persons as spec;
+ghost use Rattle.fisca_ops.specs.Steps.Persons as spec;
 ghost use Rattle.fisca_ops.specs.Persons.{first, persons_from};
 
 use fisca_members::Members;

@@ -9,7 +9,7 @@ ghost use Rattle.fisca_num.specs.Operations.{quotient_of};
 ghost use Rattle.fisca_ops.specs.Ended.{IsMoving, asked, ended};
 ghost use Rattle.fisca_ops.specs.Parts as spec;
 
-use crate::fault::Fault;
+use crate::fault::OperationFault;
 use crate::numbers::computed;
 use crate::operands::number_of;
 use crate::periods::key_period;
@@ -36,10 +36,10 @@ pub struct YearPart {
 }
 
 /// The fault of a variable that has no value at this period.
-fn mismatch(variable: usize, member: u32, period: Period) -> Fault
-    ensures { result ≡ Fault.PeriodMismatch (record { variable = variable; member = member; period = period }) }
+fn mismatch(variable: usize, member: u32, period: Period) -> OperationFault
+    ensures { result ≡ OperationFault.PeriodMismatch (record { variable = variable; member = member; period = period }) }
 {
-    Fault::PeriodMismatch(Key {
+    OperationFault::PeriodMismatch(Key {
         variable,
         member,
         period,
@@ -47,7 +47,12 @@ fn mismatch(variable: usize, member: u32, period: Period) -> Fault
 }
 
 /// The key of a variable with definition period `unit` that is asked for as it stands, as `ask_plain` has it. `PeriodMismatch` where the period is no such one.
-pub fn plain_key(variable: usize, unit: Unit, member: u32, period: Period) -> Result<Key, Fault>
+pub fn plain_key(
+    variable: usize,
+    unit: Unit,
+    member: u32,
+    period: Period,
+) -> Result<Key, OperationFault>
     ensures { ask_plain variable unit member period ≡ asked result gives }
 {
     if !fits(unit, period) {
@@ -61,7 +66,12 @@ pub fn plain_key(variable: usize, unit: Unit, member: u32, period: Period) -> Re
 }
 
 /// The calendar year in which a period starts, with what of its value is meant. `PeriodOutOfRange` for eternity.
-fn year_with(variable: usize, member: u32, period: Period, share: Share) -> Result<YearPart, Fault>
+fn year_with(
+    variable: usize,
+    member: u32,
+    period: Period,
+    share: Share,
+) -> Result<YearPart, OperationFault>
     ensures { spec.year_by variable member period share ≡ spec.year_asked result }
 {
     match period.this_year() {
@@ -73,7 +83,7 @@ fn year_with(variable: usize, member: u32, period: Period, share: Share) -> Resu
             },
             share,
         }),
-        Err(_) => Err(Fault::PeriodOutOfRange),
+        Err(_) => Err(OperationFault::PeriodOutOfRange),
     }
 }
 
@@ -84,7 +94,7 @@ pub fn year_part(
     unit: Unit,
     member: u32,
     period: Period,
-) -> Result<YearPart, Fault>
+) -> Result<YearPart, OperationFault>
     ensures { ask_part variable unit member period ≡ spec.year_asked result }
 {
     if unit == Unit::Year && fits(Unit::Month, period) {
@@ -106,7 +116,7 @@ fn twelfth(number: Fraction) -> Result<Fraction, NumFault>
 }
 
 /// What falls to a period of a year's value, as `shared` has it. `TooWide` where a part of the twelfth is beyond the limits.
-pub fn share_of(share: Share, value: Value) -> Result<Value, Fault>
+pub fn share_of(share: Share, value: Value) -> Result<Value, OperationFault>
     requires { IsMoving (spec.shared share (value_seen value)) }
     ensures { ended result ≡ spec.shared share (value_seen value) }
 {

@@ -4,8 +4,9 @@ ghost use Rattle.std.specs.Prelude.{◌≡◌, option_map};
 ghost use Rattle.fisca_model.specs.Seen.{value_seen};
 ghost use Rattle.fisca_ops.specs.Ended.{IsMoving, ended};
 ghost use Rattle.fisca_ops.specs.Totals as spec;
+ghost use Rattle.fisca_ops.specs.Steps.Totals as steps;
 
-use crate::fault::Fault;
+use crate::fault::OperationFault;
 use crate::operations::{arithmetic, logic};
 use fisca_model::Value;
 use fisca_num::Fraction;
@@ -13,7 +14,7 @@ use fisca_typing::{Arithmetic, Logic, Total};
 
 /// What a total is of nobody: a sum is 0, of any is `False` and of all `True`; the lowest and the highest have none.
 pub fn beginning(total: Total) -> Option<Value>
-    ensures { option_map value_seen result ≡ spec.beginning total }
+    ensures { option_map value_seen result ≡ steps.beginning total }
 {
     match total {
         Total::Sum => Some(Value::Number(Fraction::zero())),
@@ -24,7 +25,7 @@ pub fn beginning(total: Total) -> Option<Value>
 }
 
 /// A total with one person more, as `step_of` has it. `TooWide` where a part of a sum is beyond the limits.
-pub fn stepped(total: Total, sum: Value, value: Value) -> Result<Value, Fault>
+pub fn stepped(total: Total, sum: Value, value: Value) -> Result<Value, OperationFault>
     requires { IsMoving (spec.step_of total (value_seen sum) (value_seen value)) }
     ensures { ended result ≡ spec.step_of total (value_seen sum) (value_seen value) }
 {

@@ -12,8 +12,9 @@ use Rattle.std.proofs.lemmas.Bool.{and_from}
 use Rattle.fisca_yaml.specs.declared.tree.Entry.{Entry}
 use Rattle.fisca_yaml.specs.Views.{entries_view}
 use Rattle.fisca_params.specs.Dates.{Dated, date_of_number}
-use Rattle.fisca_params.specs.Dates.{is_before, is_in_order, put_in_time, in_time_with, in_time}
-use Rattle.fisca_params.specs.Content.{are_instants, is_date_map}
+use Rattle.fisca_params.specs.Dates.{is_before, is_in_order}
+use Rattle.fisca_params.specs.Steps.Dates.{put_in_time, in_time_with, in_time}
+use Rattle.fisca_params.specs.Steps.Content.{are_instants, is_date_map}
 use Rattle.fisca_params.specs.Written.{numbered_pair}
 use Rattle.fisca_params.proofs.Days.{days_cmp}
 use Rattle.fisca_params.proofs.Latest.{IsBehind, first_before, tail_in_order, put-behind}

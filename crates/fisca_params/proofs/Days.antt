@@ -7,7 +7,8 @@ use Rattle.std.specs.Ordering.{MatchOrdering, nat_cmp, ordering_then, is_le, is_
 use Rattle.std.specs.declared.cmp.Ordering.{Ordering}
 use Rattle.std.specs.declared.cmp.Ordering.TheVariants.{Less, Equal, Greater}
 use Rattle.fisca_time.specs.Instant.{CivilDate, date_cmp}
-use Rattle.fisca_params.specs.Dates.{day_number, date_of_number}
+use Rattle.fisca_params.specs.Dates.{date_of_number}
+use Rattle.fisca_params.specs.Steps.Dates.{day_number}
 
 -- how two numbers rank
 abbrev Ranks : Ordering → ℕ → ℕ → Type 0

@@ -1,7 +1,8 @@
 -- What holds of each file of a list, and so of each file of the list in path order, and the other way round.
 use Rattle.std.proofs.Common.{◌≡◌, Bool, true, false, cond, List, [], ◌∷◌, inl, inr}
 use Rattle.std.proofs.lemmas.Bool.{cases_Bool}
-use Rattle.fisca_params.specs.Files.{Placed, is_path_before, put_by_path, in_path_order_with}
+use Rattle.fisca_params.specs.Files.{Placed}
+use Rattle.fisca_params.specs.Steps.Files.{is_path_before, put_by_path, in_path_order_with}
 
 abbrev pub Each : (Placed → Type 0) → List Placed → Type 0
 Each P [] = Unit

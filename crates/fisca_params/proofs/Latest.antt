@@ -11,7 +11,8 @@ use Rattle.std.specs.List.Sorted.{IsPartitionedBy}
 use Rattle.std.proofs.lemmas.Bool.{and_parts}
 use Rattle.fisca_time.specs.Instant.{CivilDate, date_cmp}
 use Rattle.fisca_params.specs.Dates.{Dated}
-use Rattle.fisca_params.specs.Dates.{is_before, latest, is_in_order, put_in_time}
+use Rattle.fisca_params.specs.Dates.{is_before, latest, is_in_order}
+use Rattle.fisca_params.specs.Steps.Dates.{put_in_time}
 
 pub date_total : IsTotalOrder date_cmp
 date_total = then_total (on_total (λ d. d.year) nat_cmp_total) (then_total (on_total (λ d. d.month) nat_cmp_total) (on_total (λ d. d.day) nat_cmp_total))

@@ -7,7 +7,8 @@ use Rattle.std.specs.Ordering.{nat_cmp, ordering_then, is_lt, match_ordering}
 use Rattle.std.specs.declared.cmp.Ordering.{Ordering}
 use Rattle.std.specs.declared.cmp.Ordering.TheVariants.{Less, Equal, Greater}
 use Rattle.fisca_params.specs.Source.{Source}
-use Rattle.fisca_params.specs.Files.{Placed, is_path_before, put_by_path}
+use Rattle.fisca_params.specs.Files.{Placed}
+use Rattle.fisca_params.specs.Steps.Files.{is_path_before, put_by_path}
 use denote.Ref.{Bor}
 
 abbrev pub Key : Type 0

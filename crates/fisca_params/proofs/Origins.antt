@@ -8,18 +8,20 @@ use Rattle.std.specs.List.{position_from, enumerate_from}
 use Rattle.std.specs.Str.{bytes_eq}
 use Rattle.fisca_params.specs.declared.content.Content.{Content}
 use Rattle.fisca_params.specs.declared.content.Content.TheVariants as content
-use Rattle.fisca_yaml.specs.Find.{get}
+use Rattle.fisca_yaml.specs.Steps.Find.{get}
 use Rattle.fisca_yaml.specs.Grouping.{document}
 use Rattle.fisca_yaml.specs.Node.{Node, null, scalar, list, map, Entries, no_entries, entry}
 use Rattle.fisca_params.specs.Causes.{Cause, duplicate_name}
-use Rattle.fisca_params.specs.Content.{date_map, parameter_in, scale_of}
+use Rattle.fisca_params.specs.Steps.Content.{date_map, parameter_in, scale_of}
 use Rattle.fisca_params.specs.FaultLines.{line_at, values_line, scale_line}
-use Rattle.fisca_params.specs.Files.{Placed, in_path_order, with_tree, with_names, with_file, after_file, with_files, root_alone, tree_of}
+use Rattle.fisca_params.specs.Files.{Placed, with_tree, with_names, with_file, after_file, with_files, root_alone}
+use Rattle.fisca_params.specs.Steps.Files.{in_path_order, tree_of}
 use Rattle.fisca_params.specs.Paths.{names_of}
 use Rattle.fisca_params.specs.Places.{walk, EachReachedOnce, Says, EntrySays, SaysBelow, FileSays, SomeFileSays}
 use Rattle.fisca_params.specs.Results.{and_then}
 use Rattle.fisca_params.specs.Source.{Source}
-use Rattle.fisca_params.specs.Tree.{TreeNode, child_of, child_node, is_child, is_at, content_at, with_child, with_read, put_map, put_node, put_children, is_description, is_folder, describes_folder, enter_child, put_below}
+use Rattle.fisca_params.specs.Tree.{TreeNode, child_of, child_node, is_child, is_at, content_at}
+use Rattle.fisca_params.specs.Steps.Tree.{with_child, with_read, put_map, put_node, put_children, is_description, is_folder, describes_folder, enter_child, put_below}
 use Rattle.fisca_params.proofs.EachFile.{Each, each-ordered}
 use Rattle.fisca_params.proofs.Standing.{Kept, put-found, Grows, grows-if, grows-then, grows-from, grows-either, there-grows, kept-same, kept-put}
 

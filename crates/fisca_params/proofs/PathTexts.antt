@@ -2,13 +2,15 @@
 use Rattle.std.proofs.Common.{◌≡◌, ℕ, ◌-◌, ◌<◌, ◌∷◌, [], true, false, eqb, List, length, take, Option, Some, None, option_map, MatchOption, refl, ap, ◌∙◌, ◌+◌, arith, count_by, length-drop}
 use Rattle.std.proofs.lemmas.Str.Pattern.{ends_text}
 use Rattle.std.specs.Str.Pattern.{FindsTextSuffix, StripsSuffix}
-use Rattle.fisca_params.specs.Paths.{without_ending, names_in}
+use Rattle.fisca_params.specs.Paths.{names_in}
+use Rattle.fisca_params.specs.Steps.Paths.{without_ending}
 use Rattle.std.specs.List.{position_or_len, before_first, after_first}
 use Rattle.std.proofs.lemmas.List.Splits.{slice_split_none, slice_split_first, length-slice_split}
 use Rattle.std.proofs.lemmas.List.Sums.{fails_before_first}
 use Rattle.fisca_yaml.specs.Node.{Node}
 use Rattle.fisca_params.specs.Results.{and_then}
-use Rattle.fisca_params.specs.Tree.{TreeNode, put_below, enter}
+use Rattle.fisca_params.specs.Tree.{TreeNode}
+use Rattle.fisca_params.specs.Steps.Tree.{put_below, enter}
 use denote.Ref.{Bor}
 
 pub ending_is : (n s : List ℕ) (r : Option (Bor (List ℕ))) → MatchOption r (FindsTextSuffix n s None) (λ x. StripsSuffix (FindsTextSuffix n) s x.now)

@@ -7,7 +7,8 @@ use Rattle.fisca_params.specs.declared.fault.ParamFault.{ParamFault}
 use Rattle.fisca_params.specs.declared.fault.ParamFault.TheVariants as params
 use Rattle.fisca_params.specs.Answers.{cause_of, fault_in, Refuses, file_of}
 use Rattle.fisca_params.specs.Causes.{Cause, bad_parameter, duplicate_name, Refused}
-use Rattle.fisca_params.specs.Files.{Placed, in_path_order, after_file, with_file, with_files, root_alone, tree_of}
+use Rattle.fisca_params.specs.Files.{Placed, after_file, with_file, with_files, root_alone}
+use Rattle.fisca_params.specs.Steps.Files.{in_path_order, tree_of}
 use Rattle.fisca_params.specs.Source.{Source}
 use Rattle.fisca_params.specs.Tree.{TreeNode}
 use Rattle.fisca_params.proofs.EachFile.{Each, each-ordered}

@@ -3,20 +3,22 @@ use Rattle.std.proofs.Common.{◌≡◌, ℕ, suc, zero, ◌+◌, Bool, true, fa
 use Rattle.std.proofs.lemmas.Slice.Eq.{bytes_eq-Decides}
 use Rattle.std.specs.List.{enumerate_from}
 use Rattle.std.specs.Str.{bytes_eq}
-use Rattle.fisca_yaml.specs.Find.{get}
+use Rattle.fisca_yaml.specs.Steps.Find.{get}
 use Rattle.fisca_yaml.specs.Grouping.{document}
 use Rattle.fisca_yaml.specs.Node.{Node, null, scalar, list, map, Entries, no_entries, entry}
 use Rattle.fisca_params.specs.declared.content.Content.{Content}
 use Rattle.fisca_params.specs.declared.content.Content.TheVariants as content
 use Rattle.fisca_params.specs.Causes.{Cause, duplicate_name}
-use Rattle.fisca_params.specs.Content.{date_map, parameter_in, scale_of}
+use Rattle.fisca_params.specs.Steps.Content.{date_map, parameter_in, scale_of}
 use Rattle.fisca_params.specs.FaultLines.{line_at, values_line, scale_line}
-use Rattle.fisca_params.specs.Files.{Placed, in_path_order, with_tree, with_names, with_file, after_file, with_files, root_alone, tree_of}
+use Rattle.fisca_params.specs.Files.{Placed, with_tree, with_names, with_file, after_file, with_files, root_alone}
+use Rattle.fisca_params.specs.Steps.Files.{in_path_order, tree_of}
 use Rattle.fisca_params.specs.Paths.{names_of}
 use Rattle.fisca_params.specs.Places.{content_in, is_branch, Stands, ChildrenStand, StandsBelow, StandsAtItsPath, EachStands}
 use Rattle.fisca_params.specs.Results.{and_then}
 use Rattle.fisca_params.specs.Source.{Source}
-use Rattle.fisca_params.specs.Tree.{TreeNode, child_of, child_node, content_at, with_child, with_read, put_map, put_node, put_children, is_description, is_folder, describes_folder, Entered, entered, enter_child, put_below}
+use Rattle.fisca_params.specs.Tree.{TreeNode, child_of, child_node, content_at, Entered, entered}
+use Rattle.fisca_params.specs.Steps.Tree.{with_child, with_read, put_map, put_node, put_children, is_description, is_folder, describes_folder, enter_child, put_below}
 use Rattle.fisca_params.proofs.EachFile.{Each, of-ordered}
 use Rattle.fisca_params.proofs.Indexed.{child-put, child-put_below}
 

@@ -12,11 +12,13 @@ use Rattle.fisca_params.specs.declared.fault.ParamFault.{ParamFault}
 use Rattle.fisca_params.specs.declared.bracket.ScaleKind.{ScaleKind}
 use Rattle.fisca_params.specs.declared.lowest.Lowest.{Lowest}
 use Rattle.fisca_params.specs.Results.{and_then}
-use Rattle.fisca_params.specs.Scale.{is_below, put_in_order, in_order, starts_at, has_equal, after_bracket, total, in_params, sum_of_sorted}
+use Rattle.fisca_params.specs.Scale.{put_in_order, in_order, starts_at, has_equal, after_bracket, total, in_params, sum_of_sorted}
+use Rattle.fisca_params.specs.Steps.Scale.{is_below}
 use Rattle.fisca_params.specs.declared.tally.Tally.{Tally}
 use Rattle.fisca_params.specs.declared.fault.ParamFault.TheVariants as fault
-use Rattle.fisca_params.specs.Tally.{is_above, tally_with, tally_of, answer_of, rises_from, sum_if_distinct, sum_if_rising, empty_tally}
-use Rattle.fisca_params.specs.Lowest.{lower_of, lowest_above}
+use Rattle.fisca_params.specs.Tally.{tally_with, tally_of, answer_of, rises_from, sum_if_distinct, sum_if_rising, empty_tally}
+use Rattle.fisca_params.specs.Steps.Tally.{is_above}
+use Rattle.fisca_params.specs.Steps.Lowest.{lower_of, lowest_above}
 
 -- is_below is a strict order
 

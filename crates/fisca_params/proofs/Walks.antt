@@ -1,6 +1,6 @@
 -- What is left of a map's entries, or of a list's items, from a place on.
 use Rattle.std.proofs.Common.{◌≡◌, ℕ, suc, ◌+◌, ◌<◌, List, ◌∷◌, length, get_or, drop, drop-cons, add-one, sym, ◌∙◌, ap, ◌++◌, [], Option, Some, None, option_map, refl, append_assoc}
-use Rattle.fisca_params.specs.Content.{onto}
+use Rattle.fisca_params.specs.Steps.Content.{onto}
 use Rattle.fisca_yaml.specs.Node.{Node, entry}
 use Rattle.fisca_yaml.specs.declared.tree.Entry.{Entry, fold_out-Entry}
 use Rattle.fisca_yaml.specs.Views.{node, Seen_entry, Seen_item, seen_entry, tree_step, entry_step, item_step, entries_view}

@@ -7,7 +7,8 @@ use Rattle.fisca_num.specs.Number.{Number, ratio_of, whole_number, zero_number}
 use Rattle.fisca_num.specs.Operations.{sum_of, difference_of, product_of, only_number_of}
 use Rattle.fisca_time.specs.Instant.{CivilDate}
 use Rattle.fisca_params.specs.declared.fault.ParamFault.TheVariants as fault
-use Rattle.fisca_params.specs.Dates.{Dated, value_at, in_time}
+use Rattle.fisca_params.specs.Dates.{Dated, value_at}
+use Rattle.fisca_params.specs.Steps.Dates.{in_time}
 use Rattle.fisca_params.specs.Scale.{ScaleText, scale_sum}
 
 abbrev day : ℕ → ℕ → ℕ → CivilDate

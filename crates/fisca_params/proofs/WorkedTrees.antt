@@ -4,7 +4,8 @@ use Rattle.std.specs.Prelude.{Ok, Err}
 use Rattle.fisca_yaml.specs.Flow.{flow_value, series}
 use Rattle.fisca_yaml.specs.Grouping.{document, block}
 use Rattle.fisca_params.specs.Causes.{no_yaml_tree, bad_parameter, duplicate_name}
-use Rattle.fisca_params.specs.Files.{tree_of, root_alone}
+use Rattle.fisca_params.specs.Files.{root_alone}
+use Rattle.fisca_params.specs.Steps.Files.{tree_of}
 use Rattle.fisca_params.specs.Source.{Source}
 
 abbrev file : List ℕ → List ℕ → Source

@@ -48,7 +48,4 @@ abbrev pub file_of : ParamFault → Option ℕ
 file_of (params.Yaml file fault) = Some file
 file_of (params.BadParameter file line) = Some file
 file_of (params.DuplicateName file line) = Some file
-file_of params.BadScale = None
-file_of params.Undefined = None
-file_of (params.Number fault) = None
-file_of params.Memory = None
+file_of _ = None

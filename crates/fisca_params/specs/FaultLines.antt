@@ -1,14 +1,12 @@
 -- Which line of a file does not fit.
 use Rattle.std.specs.Prelude.{ℕ, Bool, ◌&&◌, List, Option, None, option_map, option_and_then, is_some, is_none, if◌then◌else◌, codes}
 use Rattle.std.specs.Option.{unwrap_or}
-use Rattle.fisca_yaml.specs.Find.{get, begins_on}
-pub use Rattle.fisca_yaml.specs.Find.{line_at}
+use Rattle.fisca_yaml.specs.Steps.Find.{get}
 use Rattle.fisca_yaml.specs.Node.{Node, null, scalar, list, map, Items, no_items, item}
-use Rattle.fisca_params.specs.Content.{is_map, date_of, written_value, date_map, dates_or_none, first_line, names_field, bracket_of}
-
--- of a scalar its own, of a list that of its first item, else the one given, which is that of its key
-abbrev pub line_of : ℕ → Node → ℕ
-line_of given n = if is_map n then given else unwrap_or (begins_on n) given
+use Rattle.fisca_params.specs.Content.{date_of, first_line}
+use Rattle.fisca_params.specs.Steps.Content.{written_value, date_map, dates_or_none, names_field, bracket_of}
+pub use Rattle.fisca_yaml.specs.Find.{line_at}
+use Rattle.fisca_params.specs.Steps.FaultLines.{line_of}
 
 -- of the first entry of a map that fails a test, else of the node
 abbrev pub first_entry : (List ℕ → Node → Bool) → Node → Option ℕ

@@ -2,13 +2,13 @@
 use Rattle.std.specs.Prelude.{◌≡◌, ℕ, false, true, List, [], ◌∷◌, Some, None}
 use Rattle.std.specs.Str.{bytes_eq}
 use Rattle.std.specs.Prelude.{codes}
-use Rattle.fisca_yaml.specs.Find.{get}
+use Rattle.fisca_yaml.specs.Steps.Find.{get}
 use Rattle.fisca_yaml.specs.Grouping.{document}
 use Rattle.fisca_yaml.specs.Node.{Node, null, scalar, list, map, Entries, no_entries, entry}
 use Rattle.fisca_params.specs.Paths.{names_of}
 use Rattle.fisca_params.specs.Places.{content_in, is_branch}
 use Rattle.fisca_params.specs.Source.{Source}
-use Rattle.fisca_params.specs.Tree.{describes_folder, is_description}
+use Rattle.fisca_params.specs.Steps.Tree.{describes_folder, is_description}
 use Rattle.fisca_params.specs.declared.content.Content.{Content}
 
 abbrev mutual

@@ -5,7 +5,6 @@ pub mod Dates
 pub mod FaultLines
 pub mod Files
 pub mod Lookup
-pub mod Lowest
 pub mod Names
 pub mod Nodes
 pub mod Paths
@@ -14,6 +13,7 @@ pub mod Fits
 pub mod Results
 pub mod Scale
 pub mod Source
+pub mod Steps
 pub mod Tally
 pub mod Tree
 pub mod Written

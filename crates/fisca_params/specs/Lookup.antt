@@ -1,5 +1,5 @@
 -- What the nodes of a parameter tree tell.
-use Rattle.std.specs.Prelude.{Bool, true, false, Option, Some, None, option_map, Result, Err}
+use Rattle.std.specs.Prelude.{Option, Some, None, option_map, Result, Err}
 use Rattle.fisca_num.specs.Number.{Number}
 use Rattle.fisca_time.specs.Instant.{CivilDate}
 use Rattle.fisca_params.specs.declared.content.Content.{Content}
@@ -12,7 +12,6 @@ use Rattle.fisca_params.specs.declared.fault.ParamFault.{ParamFault}
 use Rattle.fisca_params.specs.declared.fault.ParamFault.TheVariants as fault
 use Rattle.fisca_params.specs.Dates.{value_at}
 use Rattle.fisca_params.specs.Scale.{ScaleText, scale_sum}
-use Rattle.fisca_params.specs.Tree.{TreeNode}
 
 abbrev pub kind_of_content : Content → NodeKind
 kind_of_content content.Folder = kind.Node
@@ -27,36 +26,15 @@ abbrev pub kind_of : Option Content → NodeKind
 kind_of None = kind.Node
 kind_of (Some c) = kind_of_content c
 
--- a dated parameter or a scale
-abbrev pub counts : Content → Bool
-counts content.Folder = false
-counts content.Branch = false
-counts (content.Numbers ds) = true
-counts (content.Bools ds) = true
-counts content.Unusable = true
-counts (content.Scale s) = true
-
-abbrev pub is_counted : TreeNode → Bool
-is_counted n = counts n.content
-
 -- the value of a parameter at an instant
 abbrev pub value_in : Option Content → CivilDate → Option ParamValue
-value_in None instant = None
-value_in (Some content.Folder) instant = None
-value_in (Some content.Branch) instant = None
 value_in (Some (content.Numbers ds)) instant = option_map value.Number (value_at ds instant)
 value_in (Some (content.Bools ds)) instant = option_map value.Bool (value_at ds instant)
-value_in (Some content.Unusable) instant = None
-value_in (Some (content.Scale s)) instant = None
+value_in _ _ = None
 
 abbrev pub scale_in : Option Content → Option ScaleText
-scale_in None = None
-scale_in (Some content.Folder) = None
-scale_in (Some content.Branch) = None
-scale_in (Some (content.Numbers ds)) = None
-scale_in (Some (content.Bools ds)) = None
-scale_in (Some content.Unusable) = None
 scale_in (Some (content.Scale s)) = Some s
+scale_in _ = None
 
 -- what a scale makes of a base at an instant (anything but a scale has no sum)
 abbrev pub sum_of_scale : Option ScaleText → CivilDate → Number → Result Number ParamFault

@@ -1,20 +1,8 @@
 -- Which files are parameter files, and the names in their paths.
-use Rattle.std.specs.Prelude.{ℕ, ◌==◌, nat_eq, ◌-◌, List, length, take, drop, Option, Some, None, option_map, option_and_then, if◌then◌else◌, codes}
-use Rattle.std.specs.List.{slice_split, starts_with, ends_with}
+use Rattle.std.specs.Prelude.{ℕ, ◌==◌, nat_eq, List, length, drop, Option, Some, None, option_map, option_and_then, if◌then◌else◌, codes}
+use Rattle.std.specs.List.{slice_split, starts_with}
 use Rattle.fisca_yaml.specs.Characters.{slash}
-
--- what stands before an ending
-abbrev pub without_ending : List ℕ → List ℕ → Option (List ℕ)
-without_ending ending text =
-    if ends_with nat_eq text ending then Some (take (length text - length ending) text) else None
-
-abbrev pub first_of : Option (List ℕ) → Option (List ℕ) → Option (List ℕ)
-first_of (Some a) b = Some a
-first_of None b = b
-
--- without the ending of a YAML file
-abbrev pub without_yaml : List ℕ → Option (List ℕ)
-without_yaml text = first_of (without_ending (codes ".yaml") text) (without_ending (codes ".yml") text)
+use Rattle.fisca_params.specs.Steps.Paths.{without_yaml}
 
 abbrev pub after_start : List ℕ → List ℕ → Option (List ℕ)
 after_start start text = if starts_with nat_eq text start then Some (drop (length start) text) else None

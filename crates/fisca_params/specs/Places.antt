@@ -1,13 +1,14 @@
 -- What stands where in a tree of parameters.
 use Rattle.std.specs.Prelude.{◌≡◌, ◌⊎◌, ℕ, ◌<◌, length, Bool, true, false, ◌&&◌, List, [], ◌∷◌, Option, Some, None, is_none, option_and_then, codes}
 use Rattle.std.specs.Str.{bytes_eq}
-use Rattle.fisca_yaml.specs.Find.{get}
+use Rattle.fisca_yaml.specs.Steps.Find.{get}
 use Rattle.fisca_yaml.specs.Grouping.{document}
 use Rattle.fisca_yaml.specs.Node.{Node, null, scalar, list, map, Entries, no_entries, entry}
-use Rattle.fisca_params.specs.Content.{date_map, parameter_in, scale_of}
+use Rattle.fisca_params.specs.Steps.Content.{date_map, parameter_in, scale_of}
 use Rattle.fisca_params.specs.Paths.{names_of}
 use Rattle.fisca_params.specs.Source.{Source}
-use Rattle.fisca_params.specs.Tree.{TreeNode, child_of, content_at, is_description}
+use Rattle.fisca_params.specs.Tree.{TreeNode, child_of, content_at}
+use Rattle.fisca_params.specs.Steps.Tree.{is_description}
 use Rattle.fisca_params.specs.declared.content.Content.{Content}
 use Rattle.fisca_params.specs.declared.content.Content.TheVariants as content
 

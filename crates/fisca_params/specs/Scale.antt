@@ -1,13 +1,11 @@
 -- The three sums of a scale.
-use Rattle.std.specs.Prelude.{Bool, false, ◌||◌, List, [], ◌∷◌, Option, Some, None, Result, Ok, Err, is_some, if◌then◌else◌}
+use Rattle.std.specs.Prelude.{Bool, false, ◌||◌, List, [], ◌∷◌, Option, Some, None, Result, Ok, Err, if◌then◌else◌}
 use Rattle.std.specs.List.{list_any, filter_map}
-use Rattle.std.specs.Ordering.{is_lt, is_eq}
+use Rattle.std.specs.Ordering.{is_eq}
 use Rattle.fisca_num.specs.Number.{Number, number_cmp, zero_number}
 use Rattle.fisca_num.specs.Operations.{sum_of, difference_of, product_of}
 use Rattle.fisca_num.specs.declared.faults.NumFault.{NumFault}
 use Rattle.fisca_time.specs.Instant.{CivilDate}
-use Rattle.fisca_params.specs.Dates.{value_at}
-use Rattle.fisca_params.specs.Dates.{Dated}
 use Rattle.fisca_params.specs.Results.{and_then}
 use Rattle.fisca_params.specs.declared.fault.ParamFault.{ParamFault}
 use Rattle.fisca_params.specs.declared.fault.ParamFault.TheVariants as fault
@@ -15,14 +13,12 @@ use Rattle.fisca_params.specs.declared.bracket.Bracket.{Bracket}
 use Rattle.fisca_params.specs.declared.bracket.CompleteBracket.{CompleteBracket}
 use Rattle.fisca_params.specs.declared.bracket.ScaleKind.{ScaleKind}
 use Rattle.fisca_params.specs.declared.bracket.ScaleKind.TheVariants.{MarginalRate, MarginalAmount, SingleAmount}
+use Rattle.fisca_params.specs.Steps.Scale.{has_amount_at, complete_at, is_below, upper_end}
 
 -- what a scale's file says of it
 pub record ScaleText : Type 0 where
   pub is_single_amount : Bool
   pub brackets : List Bracket
-
-abbrev pub has_amount_at : CivilDate → Bracket → Bool
-has_amount_at instant b = is_some (value_at b.amount instant)
 
 -- a scale that is not marked single amount sums amounts where some bracket has one at the instant, else rates
 abbrev pub kind_at : ScaleText → CivilDate → ScaleKind
@@ -31,27 +27,9 @@ kind_at scale instant =
     else if list_any (has_amount_at instant) scale.brackets then MarginalAmount
     else MarginalRate
 
--- the field that a kind of scale sums
-abbrev pub summed_field : ScaleKind → Bracket → List (Dated Number)
-summed_field MarginalRate b = b.rate
-summed_field MarginalAmount b = b.amount
-summed_field SingleAmount b = b.amount
-
-abbrev pub complete_if_both : Option Number → Option Number → Option CompleteBracket
-complete_if_both (Some t) (Some v) = Some (record { threshold = t; value = v })
-complete_if_both (Some t) None = None
-complete_if_both None v = None
-
--- a bracket as it stands at an instant, where it has its threshold and the field summed
-abbrev pub complete_at : ScaleKind → CivilDate → Bracket → Option CompleteBracket
-complete_at kind instant b = complete_if_both (value_at b.threshold instant) (value_at (summed_field kind b) instant)
-
 -- the brackets that are complete at an instant, as they are written
 abbrev pub complete_brackets : ScaleText → CivilDate → List CompleteBracket
 complete_brackets scale instant = filter_map (complete_at (kind_at scale instant) instant) scale.brackets
-
-abbrev pub is_below : Number → Number → Bool
-is_below a b = is_lt (number_cmp a b)
 
 abbrev pub put_in_order : CompleteBracket → List CompleteBracket → List CompleteBracket
 put_in_order b [] = b ∷ []
@@ -74,11 +52,6 @@ has_equal (b ∷ bs) = starts_at b.threshold bs || has_equal bs
 abbrev pub next_threshold : List CompleteBracket → Option Number
 next_threshold [] = None
 next_threshold (b ∷ bs) = Some b.threshold
-
--- the base, or the next threshold where that is less
-abbrev pub upper_end : Number → Option Number → Number
-upper_end base None = base
-upper_end base (Some next) = if is_below next base then next else base
 
 -- sum + rate * (upper end - threshold)
 abbrev pub plus_rate : Number → Number → CompleteBracket → Option Number → Result Number NumFault

@@ -1,22 +1,13 @@
 -- A sum that is worked out bracket by bracket: each counts once the next threshold is known.
 use Rattle.std.specs.Prelude.{Bool, true, false, List, [], ◌∷◌, Option, Some, None, Result, Ok, Err, is_none, if◌then◌else◌}
 use Rattle.fisca_num.specs.Number.{Number, zero_number}
-use Rattle.fisca_num.specs.declared.faults.NumFault.{NumFault}
 use Rattle.fisca_params.specs.declared.fault.ParamFault.{ParamFault}
 use Rattle.fisca_params.specs.declared.fault.ParamFault.TheVariants as fault
 use Rattle.fisca_params.specs.declared.bracket.CompleteBracket.{CompleteBracket}
 use Rattle.fisca_params.specs.declared.bracket.ScaleKind.{ScaleKind}
 use Rattle.fisca_params.specs.declared.tally.Tally.{Tally}
-use Rattle.fisca_params.specs.Results.{and_then}
-use Rattle.fisca_params.specs.Scale.{is_below, after_bracket, in_params, has_equal}
-
-abbrev pub last_counted : Tally → Option CompleteBracket → Option Number → Result Number NumFault
-last_counted t None next = t.sum
-last_counted t (Some b) next = and_then t.sum (λ s. after_bracket t.kind t.base s b next)
-
--- the sum with the last bracket, whose next threshold is given
-abbrev pub with_last : Tally → Option Number → Result Number NumFault
-with_last t next = last_counted t t.last next
+use Rattle.fisca_params.specs.Scale.{in_params, has_equal}
+use Rattle.fisca_params.specs.Steps.Tally.{with_last, is_above}
 
 abbrev pub empty_tally : ScaleKind → Number → Tally
 empty_tally kind base = record { kind = kind; base = base; last = None; sum = Ok zero_number }
@@ -31,11 +22,6 @@ tally_of t (b ∷ bs) = tally_of (tally_with t b) bs
 -- the sum with all brackets
 abbrev pub answer_of : Tally → Result Number ParamFault
 answer_of t = if is_none t.last then Err fault.Undefined else in_params (with_last t None)
-
--- above a threshold, where one is given
-abbrev pub is_above : Option Number → Number → Bool
-is_above None t = true
-is_above (Some low) t = is_below low t
 
 abbrev pub threshold_of : Option CompleteBracket → Option Number
 threshold_of None = None

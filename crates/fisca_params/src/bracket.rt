@@ -1,7 +1,8 @@
 //! The brackets of a scale.
 ghost use Rattle.std.specs.Prelude.{◌≡◌};
 ghost use Rattle.fisca_num.specs.Number.{number_cmp};
-ghost use Rattle.fisca_params.specs.Scale.{has_amount_at, complete_at, after_bracket, upper_end};
+ghost use Rattle.fisca_params.specs.Scale.{after_bracket};
+ghost use Rattle.fisca_params.specs.Steps.Scale.{has_amount_at, complete_at, upper_end};
 
 use crate::dates::Dates;
 use fisca_num::{Fraction, NumFault};

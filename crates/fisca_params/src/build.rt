@@ -2,7 +2,8 @@
 ghost use Rattle.std.specs.Prelude.{◌≡◌, ◌<◌, ◌≤◌, length, is_none, OnOk, IfOk, IfSome};
 ghost use Rattle.fisca_yaml.specs.Views.{node, entries_view};
 ghost use Rattle.fisca_params.specs.Answers.{Gives, Leaves};
-ghost use Rattle.fisca_params.specs.Tree.{entered, put_node, put_children, put_file, put_below, enter, is_description, names_description, describes_folder, is_folder};
+ghost use Rattle.fisca_params.specs.Tree.{entered};
+ghost use Rattle.fisca_params.specs.Steps.Tree.{put_node, put_children, put_file, put_below, enter, is_description, names_description, describes_folder, is_folder};
 ghost use Rattle.fisca_params.specs.Content.{first_line};
 ghost use Rattle.fisca_params.specs.FaultLines.{entry_or_node};
 ghost use Rattle.fisca_params.specs.Paths.{names_in};

@@ -3,8 +3,9 @@ ghost use Rattle.std.specs.Prelude.{◌≡◌, ◌<◌, [], None, IfOk, MatchOpt
 ghost use Rattle.std.specs.Ordering.{is_le};
 ghost use Rattle.fisca_time.specs.Instant.{date_cmp};
 ghost use Rattle.fisca_yaml.specs.Views.{node};
-ghost use Rattle.fisca_params.specs.Dates.{value_at, latest, is_before, in_time, day_number};
-ghost use Rattle.fisca_params.specs.Content.{read_value, dates_by};
+ghost use Rattle.fisca_params.specs.Dates.{value_at, latest, is_before};
+ghost use Rattle.fisca_params.specs.Steps.Dates.{in_time, day_number};
+ghost use Rattle.fisca_params.specs.Steps.Content.{read_value, dates_by};
 ghost use Rattle.fisca_params.specs.Written.{numbered_pair, seen};
 
 use crate::written::Written;
@@ -175,7 +176,7 @@ pub(crate) trait DatedValue: Copy {
 }
 
 impl DatedValue for Fraction {
-    ghost use Rattle.fisca_yaml.specs.Find.{as_number};
+    ghost use Rattle.fisca_yaml.specs.Steps.Find.{as_number};
 
     ghost reads = { as_number };
 
@@ -185,7 +186,7 @@ impl DatedValue for Fraction {
 }
 
 impl DatedValue for bool {
-    ghost use Rattle.fisca_yaml.specs.Find.{as_bool};
+    ghost use Rattle.fisca_yaml.specs.Steps.Find.{as_bool};
 
     ghost reads = { as_bool };
 

@@ -1,7 +1,7 @@
 //! Laws of parameter trees.
 
 ghost use Rattle.std.specs.Prelude.{◌≡◌, ℕ, List, Ok, Some};
-ghost use Rattle.fisca_params.specs.Files.{tree_of};
+ghost use Rattle.fisca_params.specs.Steps.Files.{tree_of};
 ghost use Rattle.fisca_params.specs.Fits.{AllFit};
 ghost use Rattle.fisca_params.specs.Places.{EachReachedOnce, EachStands, SomeFileSays, walk};
 ghost use Rattle.fisca_params.specs.Source.{Source};

@@ -1,9 +1,9 @@
 //! The lowest of brackets that may be written in any order.
 ghost use Rattle.std.specs.Prelude.{◌≡◌, Some};
 ghost use Rattle.std.specs.List.{filter_map};
-ghost use Rattle.fisca_params.specs.Scale.{complete_at};
-ghost use Rattle.fisca_params.specs.Tally.{is_above};
-ghost use Rattle.fisca_params.specs.Lowest.{lowest_above, lower_of};
+ghost use Rattle.fisca_params.specs.Steps.Scale.{complete_at};
+ghost use Rattle.fisca_params.specs.Steps.Tally.{is_above};
+ghost use Rattle.fisca_params.specs.Steps.Lowest.{lowest_above, lower_of};
 
 use crate::bracket::{Bracket, CompleteBracket, ScaleKind};
 use fisca_num::Fraction;

@@ -1,8 +1,9 @@
 //! The nodes of the parameter tree, and the look-up of a child by its name.
 ghost use Rattle.std.specs.Prelude.{nat_lt, ◌≡◌, ◌<◌, ◌++◌, ◌∷◌, [], length, count_by, Some, None, IfOk, OnOk, IfSome, string_bytes};
-ghost use Rattle.fisca_params.specs.Tree.{child_of, child_node, content_at, is_folder};
+ghost use Rattle.fisca_params.specs.Tree.{child_of, child_node, content_at};
+ghost use Rattle.fisca_params.specs.Steps.Tree.{is_folder};
 ghost use Rattle.fisca_params.specs.Files.{root_alone};
-ghost use Rattle.fisca_params.specs.Lookup.{is_counted};
+ghost use Rattle.fisca_params.specs.Steps.Lookup.{is_counted};
 
 use crate::content::Content;
 use std::alloc::{AllocError, Global};

@@ -1,11 +1,12 @@
 //! Parameters and scales as their files have them.
 ghost use Rattle.std.specs.Prelude.{◌≡◌, is_none};
-ghost use Rattle.fisca_yaml.specs.Find.{get};
+ghost use Rattle.fisca_yaml.specs.Steps.Find.{get};
 ghost use Rattle.fisca_yaml.specs.Views.{node, entries_view, items_view};
 ghost use Rattle.fisca_params.specs.Answers.{Finds};
 ghost use Rattle.std.specs.Option.{unwrap_or};
 ghost use Rattle.fisca_params.specs.FaultLines.{values_line, field_line, unreadable, bracket_line, brackets_line, scale_line};
-ghost use Rattle.fisca_params.specs.Content.{parameter_in, number_dates, dates_or_none, is_bracket_field, names_field, first_line, bracket_of, brackets_of, brackets_in, is_single_amount, scale_of};
+ghost use Rattle.fisca_params.specs.Content.{first_line};
+ghost use Rattle.fisca_params.specs.Steps.Content.{parameter_in, number_dates, dates_or_none, is_bracket_field, names_field, bracket_of, brackets_of, brackets_in, is_single_amount, scale_of};
 
 use crate::bracket::Bracket;
 use crate::content::Content;

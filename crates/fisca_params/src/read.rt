@@ -1,7 +1,8 @@
 //! Reading parameter files.
 ghost use Rattle.std.specs.Prelude.{◌≡◌, ◌≢◌, ◌<◌, Ok, Some, length, map, IfOk, IfErr, IfSome, OnOk};
 ghost use Rattle.fisca_params.specs.Answers.{Refuses, file_of};
-ghost use Rattle.fisca_params.specs.Files.{tree_of, with_file, after_file, with_files, in_path_order};
+ghost use Rattle.fisca_params.specs.Files.{with_file, after_file, with_files};
+ghost use Rattle.fisca_params.specs.Steps.Files.{tree_of, in_path_order};
 
 use crate::build::put_below;
 use crate::nodes::Nodes;

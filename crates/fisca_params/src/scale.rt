@@ -1,6 +1,7 @@
 //! Scales, and their sums at an instant.
 ghost use Rattle.std.specs.Prelude.{◌≡◌};
-ghost use Rattle.fisca_params.specs.Scale.{kind_at, has_amount_at, complete_at, in_order, scale_sum};
+ghost use Rattle.fisca_params.specs.Scale.{kind_at, in_order, scale_sum};
+ghost use Rattle.fisca_params.specs.Steps.Scale.{has_amount_at, complete_at};
 ghost use Rattle.fisca_params.specs.Tally.{empty_tally, sum_if_rising, sum_if_distinct};
 ghost use Rattle.std.specs.List.{filter_map, list_any};
 

@@ -1,6 +1,7 @@
 //! The files that a rule set is read from.
 ghost use Rattle.std.specs.Prelude.{◌≡◌, string_bytes, is_some, option_map};
-ghost use Rattle.fisca_params.specs.Paths.{names_of, inner_path, without_yaml};
+ghost use Rattle.fisca_params.specs.Paths.{names_of, inner_path};
+ghost use Rattle.fisca_params.specs.Steps.Paths.{without_yaml};
 
 use std::marker::Model;
 

@@ -1,6 +1,7 @@
 //! The parameter tree.
 ghost use Rattle.std.specs.Prelude.{◌≡◌, ◌<◌, length, Some, IfSome, IsSome, count_by};
-ghost use Rattle.fisca_params.specs.Lookup.{kind_of, value_in, sum_in, scale_in, is_counted};
+ghost use Rattle.fisca_params.specs.Lookup.{kind_of, value_in, sum_in, scale_in};
+ghost use Rattle.fisca_params.specs.Steps.Lookup.{is_counted};
 ghost use Rattle.fisca_params.specs.Tree.{child_of, content_at};
 
 use crate::ParamFault;

@@ -2,8 +2,10 @@
 ghost use Rattle.std.specs.Prelude.{◌≡◌, Some, None, IfSome, IfOk, MatchResult, codes, map, option_map};
 ghost use Rattle.std.specs.Result.{result_err};
 ghost use Rattle.fisca_yaml.specs.Views.{node, entries_view};
-ghost use Rattle.fisca_params.specs.Content.{written_value, written_values, written_if_both, date_of, are_instants, is_date_map, date_map, first_line};
-ghost use Rattle.fisca_params.specs.FaultLines.{line_of, line_at, is_dated};
+ghost use Rattle.fisca_params.specs.Content.{written_if_both, date_of, first_line};
+ghost use Rattle.fisca_params.specs.Steps.Content.{written_value, written_values, are_instants, is_date_map, date_map};
+ghost use Rattle.fisca_params.specs.FaultLines.{line_at, is_dated};
+ghost use Rattle.fisca_params.specs.Steps.FaultLines.{line_of};
 ghost use Rattle.fisca_params.specs.Written.{seen};
 
 use fisca_time::Instant;

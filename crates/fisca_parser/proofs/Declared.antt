@@ -5,7 +5,8 @@ use Rattle.std.specs.Str.{bytes_eq}
 use Rattle.std.proofs.lemmas.Bool.{and_parts}
 use Rattle.fisca_ast.specs.declared.fault.FormulaKind.TheVariants.{Unsupported}
 use Rattle.fisca_lexer.specs.Texts.{joined}
-use Rattle.fisca_lexer.specs.Tokens.{Lexed, tokens}
+use Rattle.fisca_lexer.specs.Tokens.{Lexed}
+use Rattle.fisca_lexer.specs.Steps.Tokens.{tokens}
 use Rattle.fisca_expr_parser.specs.declared.sign.Sign.{Sign}
 use Rattle.fisca_expr_parser.specs.declared.sign.Sign.TheVariants as sign
 use Rattle.fisca_expr_parser.specs.declared.mode.Mode.TheVariants as mode
@@ -14,9 +15,10 @@ use Rattle.fisca_parser.specs.declared.heading.Base.{Base}
 use Rattle.fisca_parser.specs.declared.heading.Base.TheVariants as base
 use Rattle.fisca_parser.specs.declared.shape.Shape.{Shape}
 use Rattle.fisca_parser.specs.declared.shape.Shape.TheVariants as shape
-use Rattle.fisca_parser.specs.Forms.{is_entity, is_list_of_names, declared, is_week_attribute}
+use Rattle.fisca_parser.specs.Steps.Forms.{is_entity, is_list_of_names, declared, is_week_attribute}
 use Rattle.fisca_parser.specs.Headings.{alone, assignment, class_heading}
-use Rattle.fisca_parser.specs.Lines.{Line, number, on_line, lines, last_line}
+use Rattle.fisca_parser.specs.Lines.{Line}
+use Rattle.fisca_parser.specs.Steps.Lines.{number, on_line, lines, last_line}
 use Rattle.fisca_ast.specs.Modules.{Assigned, Item, attribute, formula, Statement, entity, entities, choices, variable}
 use Rattle.fisca_parser.specs.Reading.{Outcome, pure, refuse, shape_at, skipped, assigned_in, below, block, enum_line, formula_at, with_unit, variable_line, variable_line_by, with_form, class_of, class_at, module_line, module_line_by, first_of, of_lines, of_tokens, module_of}
 use Rattle.fisca_parser.specs.Grammar.{IsAssigned, IsClass, IsBlock, IsEnumLine, IsVariableLine, IsModuleLine, IsModule}

@@ -6,7 +6,8 @@ use Rattle.fisca_ast.specs.declared.fault.FormulaFault.{FormulaFault}
 use Rattle.fisca_ast.specs.declared.fault.FormulaKind.TheVariants.{Indent}
 use Rattle.fisca_expr_parser.specs.declared.sign.Sign.{Sign}
 use Rattle.fisca_expr_parser.specs.Reading.{Outcome as Noted}
-use Rattle.fisca_parser.specs.Lines.{Line, number, told, fault}
+use Rattle.fisca_parser.specs.Lines.{Line, fault}
+use Rattle.fisca_parser.specs.Steps.Lines.{number, told}
 use Rattle.fisca_parser.specs.Reading.{Outcome, Reader, and_then, pure, given, missing, next_at, deeper, put, turn, turn_by, after_turn, block, below}
 use Rattle.fisca_parser.specs.Grammar.{IsBlock, over, more, IsBelow}
 

@@ -11,8 +11,9 @@ use Rattle.fisca_expr_parser.specs.declared.sign.Sign.{Sign}
 use Rattle.fisca_expr_parser.specs.declared.sign.Sign.TheVariants as sign
 use Rattle.fisca_expr_parser.specs.declared.mode.Mode.{Mode}
 use Rattle.fisca_ast.specs.Tree.{Tree}
-use Rattle.fisca_ast.specs.Words.{is_name}
-use Rattle.fisca_expr_parser.specs.Reading.{Outcome, and_then, refuse, stop, tail, begins, word_ahead, expect, take_name}
+use Rattle.fisca_ast.specs.Steps.Words.{is_name}
+use Rattle.fisca_expr_parser.specs.Reading.{Outcome, and_then, refuse, stop, tail, word_ahead, expect, take_name}
+use Rattle.fisca_expr_parser.specs.Steps.Reading.{begins}
 use Rattle.fisca_expr_parser.specs.Views.{whole}
 use Rattle.fisca_expr_parser.proofs.Steps.{fine, and_then_ok, made_ok, then_ok, else_ok, begun, word-is, take_name-ok, expect-ok}
 use Rattle.fisca_expr_parser.proofs.Laws.{expression_found}
@@ -21,9 +22,10 @@ use Rattle.fisca_parser.specs.declared.heading.Base.TheVariants as base
 use Rattle.fisca_ast.specs.declared.module.Signature.{Signature}
 use Rattle.fisca_parser.specs.declared.shape.Shape.{Shape}
 use Rattle.fisca_parser.specs.declared.shape.Shape.TheVariants as shape
-use Rattle.fisca_parser.specs.Shapes.{is_import, begins_nothing, worded, begun_by, quoted, shape_of}
-use Rattle.fisca_parser.specs.Starts.{start_of}
-use Rattle.fisca_parser.specs.Headings.{limit, ended, assignment, text, text_at, labelled, bases_open, base_named, base_ahead, base_of, bases_close, class_heading, start_found, start_named, start, is_word, other_name, third_name, past_comma, third_at, third, signature, definition_heading}
+use Rattle.fisca_parser.specs.Steps.Shapes.{is_import, begins_nothing, worded, begun_by, quoted, shape_of}
+use Rattle.fisca_parser.specs.Steps.Starts.{start_of}
+use Rattle.fisca_parser.specs.Headings.{limit, ended, assignment, labelled, bases_open, bases_close, class_heading, signature, definition_heading}
+use Rattle.fisca_parser.specs.Steps.Headings.{text, text_at, base_named, base_ahead, base_of, start_found, start_named, start, is_word, other_name, third_name, past_comma, third_at, third}
 use Rattle.fisca_parser.specs.Grammar.{IsImport, IsText, IsAssignment, IsLabelled, IsSignature, IsThird, base_word, spelled_third, spelled_comma}
 
 none_left : (ts : List Sign) → length ts ≤ 0 → ts ≡ []

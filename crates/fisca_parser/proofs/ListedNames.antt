@@ -6,7 +6,7 @@ use Rattle.fisca_ast.specs.Tree.{Argument}
 use Rattle.fisca_ast.specs.Views.{argument_view, series_view, series_of}
 use Rattle.fisca_ast.specs.declared.tree.Arguments.{Arguments}
 use Rattle.fisca_ast.specs.declared.tree.Argument.{Argument as Given}
-use Rattle.fisca_parser.specs.Forms.{is_any_name, are_names}
+use Rattle.fisca_parser.specs.Steps.Forms.{is_any_name, are_names}
 
 and_true : (b : Bool) → (b && true) ≡ b
 and_true true = refl

@@ -9,17 +9,18 @@ use Rattle.fisca_expr_parser.specs.declared.sign.Sign.{Sign}
 use Rattle.fisca_expr_parser.specs.declared.sign.Sign.TheVariants as sign
 use Rattle.fisca_expr_parser.specs.declared.mode.Mode.{Mode}
 use Rattle.fisca_expr_parser.specs.declared.mode.Mode.TheVariants as mode
-use Rattle.fisca_expr_parser.specs.Marks.{same_mark}
+use Rattle.fisca_expr_parser.specs.Steps.Marks.{same_mark}
 use Rattle.fisca_ast.specs.Tree.{Tree}
-use Rattle.fisca_ast.specs.Words.{is_name, is_keyword}
+use Rattle.fisca_ast.specs.Steps.Words.{is_name, is_keyword}
 use Rattle.fisca_expr_parser.proofs.Laws.{expression_only}
 use Rattle.fisca_parser.specs.declared.heading.Base.{Base}
 use Rattle.fisca_parser.specs.declared.heading.Base.TheVariants as base
 use Rattle.fisca_ast.specs.declared.module.Signature.{Signature}
 use Rattle.fisca_parser.specs.declared.shape.Shape.TheVariants as shape
-use Rattle.fisca_parser.specs.Shapes.{shape_of}
-use Rattle.fisca_parser.specs.Starts.{start_of}
-use Rattle.fisca_parser.specs.Headings.{limit, alone, assignment, returned, labelled, base_of, class_heading, start, other_name, third_name, third, signature, definition_heading}
+use Rattle.fisca_parser.specs.Steps.Shapes.{shape_of}
+use Rattle.fisca_parser.specs.Steps.Starts.{start_of}
+use Rattle.fisca_parser.specs.Headings.{limit, alone, assignment, returned, labelled, class_heading, signature, definition_heading}
+use Rattle.fisca_parser.specs.Steps.Headings.{base_of, start, other_name, third_name, third}
 use Rattle.fisca_ast.specs.Modules.{Formula}
 use Rattle.fisca_parser.specs.Grammar.{IsText, IsPass, IsImport, IsAssignment, IsReturn, IsLabelled, IsClass, IsSignature, IsThird, IsDefinition, base_word, spelled_third, spelled_comma}
 

@@ -4,7 +4,8 @@ use Rattle.std.proofs.lemmas.List.{reverse-append, reverse-reverse, length-rever
 use Rattle.std.proofs.Math.Seq.{take-length}
 use Rattle.std.specs.Prelude.{Bool, false, Option, Some, None, is_none, cond}
 use Rattle.fisca_lexer.specs.declared.token.Token.{Token}
-use Rattle.fisca_parser.specs.Lines.{Line, lines, line_by, within_len, indent_of}
+use Rattle.fisca_parser.specs.Lines.{Line, line_by, indent_of}
+use Rattle.fisca_parser.specs.Steps.Lines.{lines, within_len}
 
 abbrev weight : Option ℕ → ℕ
 weight o = cond (is_none o) 1 0

@@ -12,11 +12,12 @@ use Rattle.fisca_expr_parser.proofs.Laws.{expression_found}
 use Rattle.fisca_ast.specs.declared.module.Member.{Member}
 use Rattle.fisca_time.specs.Instant.{CivilDate}
 use Rattle.fisca_ast.specs.declared.module.Signature.{Signature}
-use Rattle.fisca_parser.specs.Shapes.{is_text}
+use Rattle.fisca_parser.specs.Steps.Shapes.{is_text}
 use Rattle.fisca_parser.specs.declared.shape.Shape.{Shape}
 use Rattle.fisca_parser.specs.declared.shape.Shape.TheVariants as shape
 use Rattle.fisca_parser.specs.Headings.{limit, alone, assignment, returned, labelled, definition_heading}
-use Rattle.fisca_parser.specs.Lines.{Line, number, on_line}
+use Rattle.fisca_parser.specs.Lines.{Line}
+use Rattle.fisca_parser.specs.Steps.Lines.{number, on_line}
 use Rattle.fisca_ast.specs.Modules.{Assigned, Answer, Step, local, result, Formula}
 use Rattle.fisca_parser.specs.Reading.{and_then, pure, next_at, shape_at, skipped, assigned_in, ended_by, enum_line, enum_line_by, body_line, body_line_by, deeper, documented, documented_body, after_step, step_by, step_at, body, formula_at}
 use Rattle.fisca_parser.specs.Grammar.{IsText, IsPass, IsAssigned, IsAssignment, IsReturn, IsLabelled, IsEnumLine, IsLocals, IsBody, IsFormula, IsDefinition}

@@ -6,19 +6,20 @@ use Rattle.fisca_expr_parser.specs.declared.sign.Sign.{Sign}
 use Rattle.fisca_expr_parser.specs.declared.mode.Mode.{Mode}
 use Rattle.fisca_expr_parser.specs.declared.mode.Mode.TheVariants as mode
 use Rattle.fisca_lexer.specs.Texts.{joined}
-use Rattle.fisca_ast.specs.Groups.{bare as ungrouped}
+use Rattle.fisca_ast.specs.Steps.Groups.{bare as ungrouped}
 use Rattle.fisca_expr_parser.specs.Signs.{signs}
 use Rattle.fisca_ast.specs.Tree.{Tree, name, number as numeral, text, bracketed, attribute as member, applied, prefixed, binary, compare}
 use Rattle.fisca_parser.specs.declared.heading.Base.{Base}
 use Rattle.fisca_parser.specs.declared.heading.Base.TheVariants as base
 use Rattle.fisca_ast.specs.declared.module.Member.{Member}
 use Rattle.fisca_parser.specs.declared.shape.Shape.TheVariants as shape
-use Rattle.fisca_parser.specs.Forms.{is_entity, builds_entity, is_list_of_names, lists_names, declared}
+use Rattle.fisca_parser.specs.Steps.Forms.{is_entity, builds_entity, is_list_of_names, lists_names, declared}
 use Rattle.fisca_parser.specs.Headings.{alone, assignment, returned, labelled, class_heading, definition_heading}
-use Rattle.fisca_parser.specs.Lines.{Line, number, told, on_line, lines, last_line}
+use Rattle.fisca_parser.specs.Lines.{Line}
+use Rattle.fisca_parser.specs.Steps.Lines.{number, told, on_line, lines, last_line}
 use Rattle.fisca_ast.specs.Modules.{Assigned, Answer, local, result, Formula, Item, attribute, formula, Statement, entity, entities, choices, variable}
 use Rattle.fisca_parser.specs.Reading.{Reader, deeper, shape_at, assigned_in, enum_line, body_line, documented, documented_body, body, formula_at, variable_line, class_at, block, module_line, module_of}
-use Rattle.fisca_parser.specs.Shapes.{shape_of, is_text}
+use Rattle.fisca_parser.specs.Steps.Shapes.{shape_of, is_text}
 use Rattle.fisca_parser.specs.Grammar.{IsPass, IsAssigned, IsAssignment, IsReturn, IsLabelled, IsClass, IsDefinition, IsEnumLine, IsLocals, IsBody, IsFormula, IsVariableLine, IsModuleLine, IsModule, IsBelow}
 use Rattle.fisca_parser.proofs.Spelled.{assignment-read, returned-read, labelled-read, alone-read, class-read, definition-read, assigned-shape, text-shape, pass-shape, import-shape, class-shape, definition-shape, return-shape}
 use Rattle.fisca_parser.proofs.Found.{Ends}

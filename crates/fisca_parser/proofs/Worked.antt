@@ -8,18 +8,19 @@ use Rattle.fisca_expr_parser.specs.declared.sign.Sign.{Sign}
 use Rattle.fisca_expr_parser.specs.declared.sign.Sign.TheVariants as sign
 use Rattle.fisca_ast.specs.declared.tree.Bracket.TheVariants as bracket
 use Rattle.fisca_ast.specs.declared.tree.Suffix.TheVariants as suffix
-use Rattle.fisca_expr_parser.specs.Marks.{same_mark}
+use Rattle.fisca_expr_parser.specs.Steps.Marks.{same_mark}
 use Rattle.fisca_expr_parser.specs.Reading.{reads, climb, operand, joined, compared}
 use Rattle.fisca_ast.specs.Tree.{Tree, name, bracketed, attribute as member, applied, nothing, last, next, positional}
-use Rattle.fisca_ast.specs.Words.{is_keyword, is_atom, is_left_out}
+use Rattle.fisca_ast.specs.Words.{is_left_out}
+use Rattle.fisca_ast.specs.Steps.Words.{is_keyword, is_atom}
 use Rattle.fisca_parser.specs.declared.shape.Shape.TheVariants as shape
-use Rattle.fisca_parser.specs.Forms.{is_entity, is_list_of_names, is_week_unit, declared, is_week_attribute}
-use Rattle.fisca_parser.specs.Headings.{base_of, start, other_name, third_name, third}
+use Rattle.fisca_parser.specs.Steps.Forms.{is_entity, is_list_of_names, is_week_unit, declared, is_week_attribute}
+use Rattle.fisca_parser.specs.Steps.Headings.{base_of, start, other_name, third_name, third}
 use Rattle.fisca_parser.specs.Lines.{fault}
 use Rattle.fisca_ast.specs.Modules.{choices, variable, formula}
 use Rattle.fisca_parser.specs.Reading.{module_of, block, module_line, class_at, enum_line, variable_line, formula_at, body, body_line, documented}
-use Rattle.fisca_parser.specs.Shapes.{shape_of}
-use Rattle.fisca_parser.specs.Starts.{start_of}
+use Rattle.fisca_parser.specs.Steps.Shapes.{shape_of}
+use Rattle.fisca_parser.specs.Steps.Starts.{start_of}
 
 abbrev w : List ℕ → Sign
 w = sign.Word

@@ -5,7 +5,7 @@ use Rattle.std.specs.Str.{bytes_eq}
 use Rattle.fisca_lexer.specs.declared.token.Mark.TheVariants as mark
 use Rattle.fisca_lexer.specs.declared.token.Token.{Token}
 use Rattle.fisca_lexer.specs.Texts.{joined}
-use Rattle.fisca_lexer.specs.Tokens.{tokens}
+use Rattle.fisca_lexer.specs.Steps.Tokens.{tokens}
 use Rattle.fisca_expr_parser.specs.declared.sign.Sign.{Sign}
 use Rattle.fisca_expr_parser.specs.declared.sign.Sign.TheVariants as sign
 use Rattle.fisca_expr_parser.specs.declared.mode.Mode.{Mode}
@@ -13,17 +13,18 @@ use Rattle.fisca_expr_parser.specs.declared.mode.Mode.TheVariants as mode
 use Rattle.fisca_expr_parser.specs.Signs.{signs}
 use Rattle.fisca_expr_parser.specs.Spelling.{IsExpression}
 use Rattle.fisca_ast.specs.Tree.{Tree, height}
-use Rattle.fisca_ast.specs.Words.{is_name}
+use Rattle.fisca_ast.specs.Steps.Words.{is_name}
 use Rattle.fisca_parser.specs.declared.heading.Base.{Base}
 use Rattle.fisca_parser.specs.declared.heading.Base.TheVariants as base
 use Rattle.fisca_ast.specs.declared.module.Member.{Member}
 use Rattle.fisca_ast.specs.declared.module.Signature.{Signature}
-use Rattle.fisca_parser.specs.Forms.{is_entity, is_list_of_names, is_week_attribute}
-use Rattle.fisca_parser.specs.Lines.{Line, lines, number}
+use Rattle.fisca_parser.specs.Steps.Forms.{is_entity, is_list_of_names, is_week_attribute}
+use Rattle.fisca_parser.specs.Lines.{Line}
+use Rattle.fisca_parser.specs.Steps.Lines.{lines, number}
 use Rattle.fisca_ast.specs.Modules.{Assigned, Answer, Formula, Item, attribute, formula, Statement, entity, entities, choices, variable}
 use Rattle.fisca_parser.specs.Reading.{put}
-use Rattle.fisca_parser.specs.Shapes.{is_import}
-use Rattle.fisca_parser.specs.Starts.{start_of}
+use Rattle.fisca_parser.specs.Steps.Shapes.{is_import}
+use Rattle.fisca_parser.specs.Steps.Starts.{start_of}
 
 -- Single lines
 

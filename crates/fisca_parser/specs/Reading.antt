@@ -5,7 +5,8 @@ use Rattle.fisca_ast.specs.declared.fault.FormulaKind.TheVariants.{Syntax, Inden
 use Rattle.fisca_ast.specs.declared.fault.FormulaFault.{FormulaFault}
 use Rattle.fisca_lexer.specs.declared.token.Token.{Token}
 use Rattle.fisca_lexer.specs.Texts.{joined}
-use Rattle.fisca_lexer.specs.Tokens.{Lexed, tokens}
+use Rattle.fisca_lexer.specs.Tokens.{Lexed}
+use Rattle.fisca_lexer.specs.Steps.Tokens.{tokens}
 use Rattle.fisca_expr_parser.specs.declared.mode.Mode.TheVariants as mode
 use Rattle.fisca_ast.specs.Tree.{Tree}
 use Rattle.fisca_expr_parser.specs.Signs.{signs}
@@ -15,10 +16,11 @@ use Rattle.fisca_ast.specs.declared.module.Member.{Member}
 use Rattle.fisca_parser.specs.declared.shape.Shape.{Shape}
 use Rattle.fisca_parser.specs.declared.shape.Shape.TheVariants as shape
 use Rattle.fisca_parser.specs.Headings.{alone, assignment, returned, labelled, class_heading, definition_heading}
-use Rattle.fisca_parser.specs.Forms.{declared, is_week_attribute}
-use Rattle.fisca_parser.specs.Lines.{Line, lines, number, fault, on_line, last_line}
+use Rattle.fisca_parser.specs.Steps.Forms.{declared, is_week_attribute}
+use Rattle.fisca_parser.specs.Lines.{Line, fault}
+use Rattle.fisca_parser.specs.Steps.Lines.{lines, number, on_line, last_line}
 use Rattle.fisca_ast.specs.Modules.{Assigned, Answer, Formula, Item, attribute, formula, Step, local, result, Statement, choices, variable}
-use Rattle.fisca_parser.specs.Shapes.{shape_of, is_text}
+use Rattle.fisca_parser.specs.Steps.Shapes.{shape_of, is_text}
 
 abbrev pub Outcome : Type 0 → Type 0
 Outcome A = Result (A × List Line) FormulaFault

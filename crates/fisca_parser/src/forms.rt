@@ -3,7 +3,7 @@
 ghost use Rattle.std.specs.Prelude.{◌≡◌, option_map};
 ghost use Rattle.std.specs.List.{list_all};
 ghost use Rattle.fisca_ast.specs.Views.{tree, series_view, argument_view};
-ghost use Rattle.fisca_parser.specs.Forms as spec;
+ghost use Rattle.fisca_parser.specs.Steps.Forms as spec;
 ghost use Rattle.fisca_ast.specs.ModuleViews.{assigned, statement};
 
 use fisca_ast::{Argument, Arguments, Assignment, Bracket, Expr, Statement, Suffix, bare, is_name};
@@ -99,7 +99,7 @@ fn is_list_of_names(value: &Expr) -> bool
 }
 
 /// What a module declares by a name and a value.
-#[tactic(auto, unfolding(crate::specs::Forms::declared))]
+#[tactic(auto, unfolding(crate::specs::Steps::Forms::declared))]
 pub(crate) fn declared(assignment: Assignment<'_>) -> Option<Statement<'_>>
     ensures { option_map statement result ≡ spec.declared (assigned assignment.entry) }
 {
@@ -138,7 +138,7 @@ fn is_week_unit(value: &Expr) -> bool
 }
 
 /// Whether a definition period of weeks.
-#[tactic(auto, unfolding(crate::specs::Forms::is_week_attribute))]
+#[tactic(auto, unfolding(crate::specs::Steps::Forms::is_week_attribute))]
 pub(crate) fn is_week_attribute(assignment: &Assignment) -> bool
     ensures { result ≡ spec.is_week_attribute (assigned assignment.now) }
 {

@@ -4,6 +4,7 @@ ghost use Rattle.std.specs.Prelude.{◌≡◌, [], ◌∷◌};
 ghost use Rattle.fisca_expr_parser.specs.Reading.{Reads};
 ghost use Rattle.fisca_ast.specs.Views.{tree};
 ghost use Rattle.fisca_parser.specs.Headings as spec;
+ghost use Rattle.fisca_parser.specs.Steps.Headings as steps;
 
 use crate::start::start_of;
 use fisca_ast::{Expr, FormulaKind, Signature, Slice, is_name};
@@ -70,7 +71,7 @@ pub(crate) fn returned<'a>(
 
 /// A text in quotes that ends the line.
 fn text<'a>(cursor: &mut Cursor<'a, '_>) -> Result<Slice<'a>, ParseRefusal>
-    ensures { Reads (λ t. t) (spec.text cursor.old) result cursor.new }
+    ensures { Reads (λ t. t) (steps.text cursor.old) result cursor.new }
 {
     match cursor.sign() {
         None => Err(cursor.refuse(FormulaKind::Syntax)),
@@ -110,9 +111,9 @@ fn bases_open(cursor: &mut Cursor<'_, '_>) -> Result<(), ParseRefusal>
 }
 
 /// The base of a class.
-#[tactic(auto, unfolding(crate::specs::Headings::base_of))]
+#[tactic(auto, unfolding(crate::specs::Steps::Headings::base_of))]
 fn base_of(cursor: &mut Cursor<'_, '_>) -> Result<Base, ParseRefusal>
-    ensures { Reads (λ b. b) (spec.base_of cursor.old) result cursor.new }
+    ensures { Reads (λ b. b) (steps.base_of cursor.old) result cursor.new }
 {
     let Some(word) = cursor.word() else {
         if cursor.begins(Mark::Close) {
@@ -162,9 +163,9 @@ pub(crate) fn class_heading<'a>(
 }
 
 /// The name of a formula.
-#[tactic(auto, unfolding(crate::specs::Headings::start))]
+#[tactic(auto, unfolding(crate::specs::Steps::Headings::start))]
 fn start(cursor: &mut Cursor<'_, '_>) -> Result<Instant, ParseRefusal>
-    ensures { Reads (λ d. d) (spec.start cursor.old) result cursor.new }
+    ensures { Reads (λ d. d) (steps.start cursor.old) result cursor.new }
 {
     let Some(word) = cursor.word() else {
         return Err(cursor.refuse(FormulaKind::Syntax));
@@ -182,9 +183,9 @@ fn start(cursor: &mut Cursor<'_, '_>) -> Result<Instant, ParseRefusal>
 }
 
 /// A name that is not this one.
-#[tactic(auto, unfolding(crate::specs::Headings::other_name))]
+#[tactic(auto, unfolding(crate::specs::Steps::Headings::other_name))]
 fn other_name<'a>(cursor: &mut Cursor<'a, '_>, first: &Slice<'a>) -> Result<Slice<'a>, ParseRefusal>
-    ensures { Reads (λ n. n) (spec.other_name first.now cursor.old) result cursor.new }
+    ensures { Reads (λ n. n) (steps.other_name first.now cursor.old) result cursor.new }
 {
     if let Some(word) = cursor.word() {
         if word.as_bytes() == first.as_bytes() {
@@ -195,13 +196,13 @@ fn other_name<'a>(cursor: &mut Cursor<'a, '_>, first: &Slice<'a>) -> Result<Slic
 }
 
 /// A name that is none of these.
-#[tactic(auto, unfolding(crate::specs::Headings::third_name))]
+#[tactic(auto, unfolding(crate::specs::Steps::Headings::third_name))]
 fn third_name<'a>(
     cursor: &mut Cursor<'a, '_>,
     first: &Slice<'a>,
     second: &Slice<'a>,
 ) -> Result<Slice<'a>, ParseRefusal>
-    ensures { Reads (λ n. n) (spec.third_name first.now second.now cursor.old) result cursor.new }
+    ensures { Reads (λ n. n) (steps.third_name first.now second.now cursor.old) result cursor.new }
 {
     if let Some(word) = cursor.word() {
         if word.as_bytes() == first.as_bytes() {
@@ -213,7 +214,7 @@ fn third_name<'a>(
 
 /// Past a comma, if it comes next.
 fn past_comma(cursor: &mut Cursor<'_, '_>)
-    ensures { cursor.new ≡ spec.past_comma cursor.old }
+    ensures { cursor.new ≡ steps.past_comma cursor.old }
 {
     if cursor.begins(Mark::Comma) {
         cursor.advance();
@@ -221,13 +222,13 @@ fn past_comma(cursor: &mut Cursor<'_, '_>)
 }
 
 /// Behind the second name: perhaps a comma, and then perhaps a third one.
-#[tactic(auto, unfolding(crate::specs::Headings::third))]
+#[tactic(auto, unfolding(crate::specs::Steps::Headings::third))]
 fn third<'a>(
     cursor: &mut Cursor<'a, '_>,
     first: &Slice<'a>,
     second: &Slice<'a>,
 ) -> Result<Option<Slice<'a>>, ParseRefusal>
-    ensures { Reads (λ n. n) (spec.third first.now second.now cursor.old) result cursor.new }
+    ensures { Reads (λ n. n) (steps.third first.now second.now cursor.old) result cursor.new }
 {
     if !cursor.begins(Mark::Comma) {
         return Ok(None);

@@ -3,6 +3,7 @@
 ghost use Rattle.std.specs.Prelude.{◌≡◌, ◌≤◌, ◌<◌, [], ◌++◌, length, take, drop, reverse, IfOk, IfSome, MatchOption, OnOk};
 ghost use Rattle.fisca_expr_parser.specs.Views.{line_in};
 ghost use Rattle.fisca_parser.specs.Lines as spec;
+ghost use Rattle.fisca_parser.specs.Steps.Lines as steps;
 
 use fisca_ast::{FormulaFault, FormulaKind};
 use fisca_expr_parser::{Cursor, ParseRefusal};
@@ -50,7 +51,7 @@ fn line_of(tokens: &[Token], left: usize) -> usize
 
 /// The line of the last token.
 pub(crate) fn last_line(tokens: &[Token]) -> usize
-    ensures { result ≡ spec.last_line tokens.now }
+    ensures { result ≡ steps.last_line tokens.now }
 {
     line_of(tokens, 0)
 }
@@ -67,7 +68,7 @@ impl Line {
 
     /// The number of the line on which it begins.
     pub fn number(&self) -> usize
-        ensures { result ≡ spec.number self.now }
+        ensures { result ≡ steps.number self.now }
     {
         let tokens = self.tokens();
         line_of(tokens, tokens.len())
@@ -90,7 +91,7 @@ impl Line {
 
     /// This fault on its first line.
     pub fn refuse(&self, kind: FormulaKind) -> FormulaFault
-        ensures { result ≡ spec.fault (spec.number self.now) kind }
+        ensures { result ≡ spec.fault (steps.number self.now) kind }
     {
         FormulaFault {
             line: self.number(),
@@ -101,7 +102,7 @@ impl Line {
     /// The fault of a refusal, at the line of its token; an expression that is too high is told on the first line, and want of
     /// memory has none.
     pub fn placed(&self, refusal: ParseRefusal) -> FormulaFault
-        ensures { result ≡ spec.fault_in self.now refusal }
+        ensures { result ≡ steps.fault_in self.now refusal }
     {
         let line = match refusal.kind {
             FormulaKind::TooDeep => self.number(),
@@ -117,7 +118,7 @@ impl Line {
 
 /// How many tokens stand in front that begin no line.
 fn within_len(tokens: &[Token]) -> usize
-    ensures value { result ≡ spec.within_len tokens.now }
+    ensures value { result ≡ steps.within_len tokens.now }
     ensures bound { result ≤ length tokens.now }
 {
     tokens.iter().take_while(|t| t.indent.is_none()).count()
@@ -125,7 +126,7 @@ fn within_len(tokens: &[Token]) -> usize
 
 /// How many tokens stand at the end that begin no line.
 fn last_within_len(tokens: &[Token]) -> usize
-    ensures value { result ≡ spec.within_len (reverse tokens.now) }
+    ensures value { result ≡ steps.within_len (reverse tokens.now) }
     ensures bound { result ≤ length tokens.now }
 {
     tokens
@@ -138,8 +139,8 @@ fn last_within_len(tokens: &[Token]) -> usize
 /// Where the last line begins, if there is one.
 #[tactic(auto, using(crate::proofs::Split::none_cut, crate::proofs::Split::last_cut, crate::proofs::Split::last_alone))]
 fn last_start(tokens: &[Token]) -> Option<usize>
-    ensures value { MatchOption result (spec.lines tokens.now ≡ []) (λ at. spec.lines tokens.now ≡ spec.lines (take at tokens.now) ++ spec.lines (drop at tokens.now)) }
-    ensures alone { IfSome result (λ at. spec.lines (drop at tokens.now) ≡ spec.line_by (spec.indent_of (drop at tokens.now)) (drop at tokens.now) []) }
+    ensures value { MatchOption result (steps.lines tokens.now ≡ []) (λ at. steps.lines tokens.now ≡ steps.lines (take at tokens.now) ++ steps.lines (drop at tokens.now)) }
+    ensures alone { IfSome result (λ at. steps.lines (drop at tokens.now) ≡ spec.line_by (spec.indent_of (drop at tokens.now)) (drop at tokens.now) []) }
     ensures bound { IfSome result (λ at. at < length tokens.now) }
 {
     let within = last_within_len(tokens);
@@ -152,7 +153,7 @@ fn last_start(tokens: &[Token]) -> Option<usize>
 /// Where the last group of lines begins, if there is a line.
 #[tactic(auto, using(crate::proofs::Split::first_cut))]
 fn group_start(tokens: &[Token]) -> Option<usize>
-    ensures value { MatchOption result (spec.lines tokens.now ≡ []) (λ at. spec.lines tokens.now ≡ spec.lines (take at tokens.now) ++ spec.lines (drop at tokens.now)) }
+    ensures value { MatchOption result (steps.lines tokens.now ≡ []) (λ at. steps.lines tokens.now ≡ steps.lines (take at tokens.now) ++ steps.lines (drop at tokens.now)) }
     ensures bound { IfSome result (λ at. at < length tokens.now) }
 {
     let from = tokens.len().saturating_sub(GROUP);
@@ -167,8 +168,8 @@ fn group_start(tokens: &[Token]) -> Option<usize>
 /// Takes the last lines' tokens off, if there is a line. What they took is given back before it is much, so that few tokens are kept
 /// twice.
 fn cut(tokens: &mut Vec<Token>) -> Result<Option<Vec<Token>>, AllocError>
-    ensures value { IfOk result (λ cut. MatchOption cut (spec.lines tokens.old.items ≡ [])
-        (λ group. spec.lines tokens.old.items ≡ spec.lines tokens.new.items ++ spec.lines group.items)) }
+    ensures value { IfOk result (λ cut. MatchOption cut (steps.lines tokens.old.items ≡ [])
+        (λ group. steps.lines tokens.old.items ≡ steps.lines tokens.new.items ++ steps.lines group.items)) }
     ensures shorter { IfOk result (λ cut. IfSome cut (λ _. length tokens.new.items < length tokens.old.items)) }
 {
     let Some(at) = group_start(tokens.as_slice()) else {
@@ -206,7 +207,7 @@ fn push(
 /// Puts the lines of a group at the end, the last one first.
 #[tactic(auto, using(crate::proofs::Split::one_more, crate::proofs::Split::at_the_end))]
 fn push_lines(found: &mut Vec<Line>, group: &Rc<Vec<Token>>) -> Result<(), AllocError>
-    ensures { OnOk result (found.new.items ≡ found.old.items ++ reverse (spec.lines group.now.value.items)) }
+    ensures { OnOk result (found.new.items ≡ found.old.items ++ reverse (steps.lines group.now.value.items)) }
 {
     let mut end = group.len();
     while let Some(start) = last_start(group.as_slice().split_at(end).0) {
@@ -219,7 +220,7 @@ fn push_lines(found: &mut Vec<Line>, group: &Rc<Vec<Token>>) -> Result<(), Alloc
 /// The lines of these tokens, the last one first.
 #[tactic(auto, using(crate::proofs::Split::more, crate::proofs::Split::turned_back))]
 pub(crate) fn lines(alloc: Global, mut tokens: Vec<Token>) -> Result<Vec<Line>, AllocError>
-    ensures { IfOk result (λ v. reverse v.items ≡ spec.lines tokens.items) }
+    ensures { IfOk result (λ v. reverse v.items ≡ steps.lines tokens.items) }
 {
     let mut found = Vec::new(alloc);
     while let Some(group) = cut(&mut tokens)? {

@@ -2,7 +2,7 @@
 
 ghost use Rattle.std.specs.Prelude.{◌≡◌};
 ghost use Rattle.fisca_expr_parser.specs.Signs.{signs};
-ghost use Rattle.fisca_parser.specs.Shapes as spec;
+ghost use Rattle.fisca_parser.specs.Steps.Shapes as spec;
 
 use fisca_ast::{FormulaKind, is_name};
 use fisca_expr_parser::{Cursor, Sign};
@@ -109,7 +109,7 @@ fn begun_by(word: &[u8], behind: &Cursor) -> Shape
 }
 
 /// What a line of these tokens of a text is.
-#[tactic(auto, unfolding(crate::specs::Shapes::shape_of))]
+#[tactic(auto, unfolding(crate::specs::Steps::Shapes::shape_of))]
 pub(crate) fn shape_of(text: &str, tokens: &[Token]) -> Shape
     ensures { result ≡ spec.shape_of (signs text.now tokens.now) }
 {

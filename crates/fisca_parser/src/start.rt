@@ -1,7 +1,7 @@
 //! Names of formulas.
 
 ghost use Rattle.std.specs.Prelude.{◌≡◌, ◌<◌, ◌≤◌, IfSome};
-ghost use Rattle.fisca_parser.specs.Starts as spec;
+ghost use Rattle.fisca_parser.specs.Steps.Starts as spec;
 
 use fisca_time::Instant;
 
@@ -78,7 +78,7 @@ fn start_behind(rest: &[u8]) -> Option<Instant>
 
 /// From when on a formula of this name is in force: `formula`, `formula_YYYY`, `formula_YYYY_MM` or `formula_YYYY_MM_DD`
 /// with a day that the calendar has.
-#[tactic(auto, unfolding(crate::specs::Starts::start_of))]
+#[tactic(auto, unfolding(crate::specs::Steps::Starts::start_of))]
 pub(crate) fn start_of(name: &[u8]) -> Option<Instant>
     ensures { result ≡ spec.start_of name.now }
 {

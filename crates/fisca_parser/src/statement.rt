@@ -3,7 +3,7 @@
 ghost use Rattle.std.specs.Prelude.{◌≡◌};
 ghost use Rattle.fisca_ast.specs.Views.{tree};
 ghost use Rattle.fisca_parser.specs.Headings as heading;
-ghost use Rattle.fisca_parser.specs.Lines.{on_line};
+ghost use Rattle.fisca_parser.specs.Steps.Lines.{on_line};
 ghost use Rattle.fisca_parser.specs.Reading.{Tells};
 
 use crate::heading::{

@@ -1,13 +1,15 @@
 -- What is known of the rule set that files make: modules make it beside a tree of parameters.
 use Rattle.std.proofs.Common.{◌≡◌, List, Result, Ok, Err, ap}
 use Rattle.fisca_names.specs.declared.fault.BuildFault.{BuildFault}
-use Rattle.fisca_params.specs.Files.{in_path_order}
+use Rattle.fisca_params.specs.Steps.Files.{in_path_order}
 use Rattle.fisca_params.specs.Results.{and_then}
 use Rattle.fisca_params.specs.Source.{Source}
 use Rattle.fisca_params.specs.Tree.{TreeNode}
-use Rattle.fisca_rules.specs.Rules.{Rules, rules_of}
+use Rattle.fisca_rules.specs.Rules.{Rules}
+use Rattle.fisca_rules.specs.Steps.Rules.{rules_of}
 use Rattle.fisca_ast.specs.Modules.{Statement}
-use Rattle.fisca_rule_files.specs.Modules.{FileFault, declared_by, modules_in, told_by}
+use Rattle.fisca_rule_files.specs.Modules.{FileFault, declared_by, told_by}
+use Rattle.fisca_rule_files.specs.Steps.Modules.{modules_in}
 use Rattle.fisca_rule_files.specs.RuleFiles.{IsAccepted}
 
 told_built : (fs : List Source) (o : Result Rules BuildFault) (rules : Rules) → told_by fs o ≡ Ok rules → o ≡ Ok rules

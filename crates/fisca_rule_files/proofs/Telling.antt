@@ -5,7 +5,7 @@ use Rattle.fisca_params.specs.Results.{and_then}
 use Rattle.fisca_params.specs.Source.{Source}
 use Rattle.fisca_params.specs.Tree.{TreeNode}
 use Rattle.fisca_params.specs.declared.fault.ParamFault.{ParamFault}
-use Rattle.fisca_rules.specs.Rules.{rules_of}
+use Rattle.fisca_rules.specs.Steps.Rules.{rules_of}
 use Rattle.fisca_ast.specs.Modules.{Statement}
 use Rattle.fisca_parser.specs.Reading.{module_of}
 use Rattle.fisca_ast.specs.declared.fault.FormulaFault.{FormulaFault}

@@ -1,23 +1,13 @@
 -- What `fisca check` answers and writes.
-use Rattle.std.specs.Prelude.{◌≡◌, ◌⊎◌, ℕ, ◌++◌, List, count_by, length, codes, Option, Result, Ok, Err}
-use Rattle.std.specs.Fmt.{decimal}
+use Rattle.std.specs.Prelude.{◌≡◌, ◌⊎◌, ℕ, List, Option, Result, Ok, Err}
 use Rattle.std.specs.Io.KnownBytes.{Appends, Keeps}
 use Rattle.fisca_writer.specs.Run.{AppendsPart}
-use Rattle.fisca_params.specs.Lookup.{is_counted}
 use Rattle.fisca_params.specs.Source.{Source}
 use Rattle.fisca_rules.specs.Rules.{Rules}
 use Rattle.fisca_rule_files.specs.RuleFiles.{IsAccepted, RefusesFiles}
 use Rattle.fisca_rule_files.specs.declared.refusal.Refusal.{Refusal}
 use Rattle.fisca_rule_files.specs.declared.refusal.Refusal.TheVariants.{Write, Memory}
-
--- the line of so many entities, variables, and dated parameters with scales
-abbrev pub text_of_counts : ℕ → ℕ → ℕ → List ℕ
-text_of_counts entities variables parameters =
-    codes "entities " ++ (decimal entities ++ (codes ", variables " ++ (decimal variables ++ (codes ", parameters " ++ (decimal parameters ++ codes "\n")))))
-
--- the line of a rule set
-abbrev pub text_of : Rules → List ℕ
-text_of rules = text_of_counts (length rules.entities) (length rules.variables) (count_by is_counted rules.parameters)
+use Rattle.fisca_rule_files.specs.Steps.Check.{text_of}
 
 -- what the writing of a line answers, and what a sink that held `old` then holds
 abbrev pub IsWritten : List ℕ → Option (List ℕ) → Option (List ℕ) → Result Unit Refusal → Type 0

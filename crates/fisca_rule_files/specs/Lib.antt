@@ -2,3 +2,4 @@ pub mod Check
 pub mod Modules
 pub mod Refusal
 pub mod RuleFiles
+pub mod Steps

@@ -1,27 +1,23 @@
 -- The rule set that files make: what their modules declare beside parameters, or the first fault.
-use Rattle.std.specs.Prelude.{◌≡◌, ◌⊎◌, ℕ, String, List, [], ◌∷◌, slice_get, codes, string_bytes, Option, Some, None, Result, Ok, Err, if◌then◌else◌}
+use Rattle.std.specs.Prelude.{◌≡◌, ◌⊎◌, ℕ, String, List, slice_get, codes, string_bytes, Option, Some, None, Result, Ok, Err}
 use Rattle.std.specs.declared.alloc.Global.{Global}
-use Rattle.fisca_folder.specs.RulePaths.{is_module}
 use Rattle.fisca_names.specs.declared.fault.BuildFault.{BuildFault}
-use Rattle.fisca_params.specs.Files.{Placed, in_path_order}
+use Rattle.fisca_params.specs.Steps.Files.{in_path_order}
 use Rattle.fisca_params.specs.Results.{and_then}
 use Rattle.fisca_params.specs.Source.{Source}
 use Rattle.fisca_params.specs.Tree.{TreeNode}
-use Rattle.fisca_rules.specs.Rules.{Rules, all_of, rules_of}
+use Rattle.fisca_rules.specs.Rules.{Rules, all_of}
+use Rattle.fisca_rules.specs.Steps.Rules.{rules_of}
 use Rattle.fisca_ast.specs.Modules.{Statement}
 use Rattle.fisca_parser.specs.Reading.{module_of}
 use Rattle.fisca_ast.specs.declared.fault.FormulaFault.{FormulaFault}
 use Rattle.fisca_rule_files.specs.declared.refusal.Refusal.{Refusal}
 use Rattle.fisca_rule_files.specs.declared.refusal.Refusal.TheVariants.{Formula, Memory}
+use Rattle.fisca_rule_files.specs.Steps.Modules.{modules_in}
 
 -- a fault of a file, which is told with its path
 abbrev pub FileFault : Type 0
 FileFault = List ℕ × FormulaFault
-
--- the modules among these files
-abbrev pub modules_in : List Placed → List Source
-modules_in [] = []
-modules_in (f ∷ fs) = if is_module f.1.path then f.1 ∷ modules_in fs else modules_in fs
 
 abbrev pub told_with : {X : Type 0} → List ℕ → Result X FormulaFault → Result X FileFault
 told_with path (Ok x) = Ok x

@@ -104,7 +104,7 @@ place_of path TooManyFiles = []
 
 -- the text of a key, behind a space
 abbrev pub key_in : Unanswered → List ℕ
-key_in unanswered = codes " " ++ string_bytes unanswered.key
+key_in unanswered = codes " " ++ shown (string_bytes unanswered.key)
 
 -- the key that a fault is told of
 abbrev pub key_of : Refusal → List ℕ

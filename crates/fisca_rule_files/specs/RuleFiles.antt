@@ -1,9 +1,9 @@
 -- The rule set that files make together, or why they are refused.
 use Rattle.std.specs.Prelude.{◌≡◌, ◌⊎◌, ℕ, ◌<◌, ◌≤◌, String, List, [], count_by, slice_get, string_bytes, Option, Some, None, Ok}
 use Rattle.std.specs.declared.alloc.Global.{Global}
-use Rattle.fisca_folder.specs.RulePaths.{is_rule_path}
+use Rattle.fisca_folder.specs.Steps.RulePaths.{is_rule_path}
 use Rattle.fisca_params.specs.Answers.{Refuses}
-use Rattle.fisca_params.specs.Files.{tree_of}
+use Rattle.fisca_params.specs.Steps.Files.{tree_of}
 use Rattle.fisca_params.specs.Source.{Source}
 use Rattle.fisca_params.specs.Tree.{TreeNode}
 use Rattle.fisca_params.specs.declared.fault.ParamFault.{ParamFault}
@@ -30,10 +30,7 @@ abbrev pub place_of : ParamFault → Option (ℕ × ℕ)
 place_of (params.Yaml file fault) = Some (file, fault.line)
 place_of (params.BadParameter file line) = Some (file, line)
 place_of (params.DuplicateName file line) = Some (file, line)
-place_of params.BadScale = None
-place_of params.Undefined = None
-place_of (params.Number fault) = None
-place_of params.Memory = None
+place_of _ = None
 
 abbrev pub path_of : Option Source → List ℕ
 path_of None = []

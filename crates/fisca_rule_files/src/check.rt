@@ -3,7 +3,8 @@
 ghost use Rattle.std.specs.Prelude.{◌≡◌, IfOk, string_bytes};
 ghost use Rattle.fisca_writer.specs.Sink.{CountsFailure};
 ghost use Rattle.fisca_rules.specs.Views.{rule_set};
-ghost use Rattle.fisca_rule_files.specs.Check.{text_of, text_of_counts, IsCheck, IsWritten};
+ghost use Rattle.fisca_rule_files.specs.Check.{IsCheck, IsWritten};
+ghost use Rattle.fisca_rule_files.specs.Steps.Check.{text_of, text_of_counts};
 ghost use Rattle.fisca_rule_files.specs.Refusal.{is_write};
 
 use super::rule_files::rules_of;

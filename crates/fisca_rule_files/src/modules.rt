@@ -2,8 +2,9 @@
 
 ghost use Rattle.std.specs.Prelude.{◌≡◌, IfOk, map, slice_get};
 ghost use Rattle.fisca_rule_files.specs.Modules as spec;
+ghost use Rattle.fisca_rule_files.specs.Steps.Modules as steps;
 ghost use Rattle.fisca_rule_files.specs.Modules.{IsFaultOf, TellsFile};
-ghost use Rattle.fisca_params.specs.Files.{in_path_order};
+ghost use Rattle.fisca_params.specs.Steps.Files.{in_path_order};
 ghost use Rattle.fisca_rules.specs.Views.{rule_set};
 ghost use Rattle.fisca_ast.specs.ModuleViews.{statements};
 
@@ -18,7 +19,7 @@ use std::alloc::{AllocError, Global};
 
 /// The modules among these files, in order of their paths.
 fn modules_in<'a>(alloc: Global, files: &'a [SourceFile]) -> Result<Vec<&'a SourceFile>, AllocError>
-    ensures { IfOk result (λ fs. map (λ f. f.now) fs.items ≡ spec.modules_in (in_path_order files.now)) }
+    ensures { IfOk result (λ fs. map (λ f. f.now) fs.items ≡ steps.modules_in (in_path_order files.now)) }
 {
     let sorted = in_path_order(alloc, files)?;
     let mut modules = Vec::new(alloc);

@@ -123,12 +123,12 @@ fn write_position(position: u64, line: &mut String) -> Result<(), AllocError>
     }
 }
 
-/// Appends a space and the text of a key.
+/// Appends a space and the text of a key, as a line shows it.
 fn write_key_of(unanswered: &Unanswered, line: &mut String) -> Result<(), AllocError>
     ensures { OnOk result (string_bytes line.new ≡ string_bytes line.old ++ key_in unanswered.now) }
 {
     line.push(' ')?;
-    line.push_str(unanswered.key.as_str())
+    write_shown(unanswered.key.as_str(), line)
 }
 
 impl Refusal {

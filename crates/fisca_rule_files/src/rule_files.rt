@@ -2,7 +2,7 @@
 
 ghost use Rattle.std.specs.Prelude.{◌≡◌, nat_lt, ℕ, ◌<◌, IfOk, IfErr, IfSome, length};
 ghost use Rattle.fisca_params.specs.Answers.{file_of, Refuses};
-ghost use Rattle.fisca_params.specs.Files.{tree_of};
+ghost use Rattle.fisca_params.specs.Steps.Files.{tree_of};
 ghost use Rattle.fisca_rules.specs.Views.{rule_set};
 ghost use Rattle.fisca_rule_files.specs.RuleFiles.{count_of_files, IsAccepted, IsToldAt, IsToldOf, RefusesFiles};
 

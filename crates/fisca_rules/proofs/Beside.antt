@@ -6,7 +6,8 @@ use Rattle.fisca_ast.specs.Modules.{Item, Statement, entity, entities, choices, 
 use Rattle.fisca_declarations.specs.VariableForms.{Written}
 use Rattle.fisca_declarations.specs.declared.declared.Declared.{Declared}
 use Rattle.fisca_names.specs.Names.{Placed, placed_from, names_from}
-use Rattle.fisca_rules.specs.Build.{Found, Whole, declared_in, enums_in, found_from, none_yet, second_pass, statement_found, tables_of, variable_in, with_person, with_variable}
+use Rattle.fisca_rules.specs.Build.{Found, Whole, none_yet, with_variable}
+use Rattle.fisca_rules.specs.Steps.Build.{declared_in, enums_in, found_from, second_pass, statement_found, tables_of, variable_in, with_person}
 use Rattle.fisca_symbols.specs.declared.variable.Variable.{Variable}
 use Rattle.fisca_rules.proofs.Members.{entity_keeps, kept, person_keeps, same_found, then_ok, told_ok}
 

@@ -1,12 +1,14 @@
 -- A rule set, pass after pass.
 use Rattle.std.proofs.Common.{◌≡◌, ◌∙◌, ap, List, [], map}
 use Rattle.std.specs.Prelude.{Ok, Err}
-use Rattle.fisca_rules.specs.Build.{Whole, declared_by, tables_of}
+use Rattle.fisca_rules.specs.Build.{Whole}
+use Rattle.fisca_rules.specs.Steps.Build.{declared_by, tables_of}
 use Rattle.fisca_names.specs.Names.{placed_from}
 use Rattle.fisca_names.specs.declared.fault.BuildFault.{BuildFault}
 use Rattle.fisca_params.specs.Results.{and_then}
 use Rattle.fisca_params.specs.Tree.{TreeNode}
-use Rattle.fisca_rules.specs.Rules.{Dated, Rules, all_formulas, rules_of, with_formulas}
+use Rattle.fisca_rules.specs.Rules.{Dated, Rules}
+use Rattle.fisca_rules.specs.Steps.Rules.{all_formulas, rules_of, with_formulas}
 use Rattle.fisca_ast.specs.Modules.{Statement}
 use Rattle.fisca_symbols.specs.Known as tables
 use Rattle.fisca_symbols.specs.declared.tables.Tables.{Tables}

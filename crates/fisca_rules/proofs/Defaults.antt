@@ -1,15 +1,17 @@
 -- In an accepted rule set each default is of its variable's type, and days and texts have no formulas.
 use Rattle.std.proofs.Common.{arith, ◌≡◌, ◌∙◌, ap, sym, subst, ℕ, zero, suc, ◌<◌, List, [], ◌∷◌, ◌++◌, map, length, Bool, true, false, refl}
 use Rattle.std.specs.Prelude.{nat_lt, if◌then◌else◌, slice_get, Option, Some, None, option_map, Result, Ok, Err, codes}
+use Rattle.std.specs.Result.{result_ok}
 use Rattle.std.specs.Str.{bytes_eq}
 use Rattle.std.proofs.lemmas.Bool.{lt-ltb}
 use Rattle.std.proofs.lemmas.List.{length-map}
-use Rattle.fisca_attributes.specs.AttributeForms.{value_at, type_value, period_value}
-use Rattle.fisca_attributes.specs.Values.{needed, or_bad, number_value, truth_value, text_value, date_value, dotted_value}
+use Rattle.fisca_attributes.specs.Steps.AttributeForms.{value_at}
+use Rattle.fisca_attributes.specs.Steps.Values.{or_bad, number_value, truth_value, text_value, date_value, dotted_value}
 use Rattle.fisca_attributes.specs.declared.attributes.TypeName.{TypeName}
 use Rattle.fisca_attributes.specs.declared.attributes.TypeName.TheVariants as named
 use Rattle.fisca_attributes.specs.declared.dotted.Dotted.{Dotted}
-use Rattle.fisca_rules.specs.Build.{Found, Whole, enums_in, declared_in, found_from, statement_found, second_pass, variable_in, items_fit, with_person, with_variable, none_yet, tables_of}
+use Rattle.fisca_rules.specs.Build.{Found, Whole, with_variable, none_yet}
+use Rattle.fisca_rules.specs.Steps.Build.{enums_in, declared_in, found_from, statement_found, second_pass, variable_in, with_person, tables_of}
 use Rattle.fisca_ast.specs.Tree.{Tree}
 use Rattle.fisca_ast.specs.Words.{is}
 use Rattle.fisca_names.specs.Names.{Placed, placed_from, names_from, told_at}
@@ -30,14 +32,15 @@ use Rattle.fisca_time.specs.declared.unit.Unit.{Unit as TimeUnit}
 use Rattle.fisca_ast.specs.declared.fault.FormulaKind.{FormulaKind}
 use Rattle.fisca_model.specs.Tables.{Tables, members_of, place_in}
 use Rattle.fisca_model.specs.declared.value_type.ValueType.{ValueType}
-use Rattle.fisca_declarations.specs.VariableForms.{Written, enum_value, declared_type, default_or_none, entity_value, basics_of, told_of, variable_of, if_allowed, is_int, member_place, member_of}
-use Rattle.fisca_declarations.specs.declared.basics.Basics.{Basics}
+use Rattle.fisca_declarations.specs.VariableForms.{Written}
+use Rattle.fisca_declarations.specs.Steps.VariableForms.{declaration_by, declared_type, default_of, default_or_none, default_typed, if_allowed, is_int, joined, member_of, member_place, no_default, read, said, type_lines, variable_by, variable_of}
 use Rattle.fisca_declarations.specs.declared.declared.Declared.{Declared}
-use Rattle.fisca_declarations.specs.declared.told.Told.{Told}
-use Rattle.fisca_rules.specs.Rules.{Dated, Rules, all_formulas, formulas_by, formulas_of, known, rules_of, with_formulas}
+use Rattle.fisca_declarations.specs.declared.types.TypeLines.{TypeLines}
+use Rattle.fisca_rules.specs.Rules.{Dated, Rules, known}
+use Rattle.fisca_rules.specs.Steps.Rules.{all_formulas, formulas_by, formulas_of, rules_of, with_formulas}
 use Rattle.fisca_rules.specs.Safety.{is_number, is_whole, is_bool, is_date, is_text, is_member, is_default, AllDefaultsFit, DefaultsFit, AreUncomputed, DaysAndTextsHaveNoFormulas}
 use Rattle.fisca_rules.proofs.Beside.{declared_beside}
-use Rattle.fisca_rules.proofs.Members.{then_ok, told_ok, position_inside, entity_keeps, same_found, person_keeps, made}
+use Rattle.fisca_rules.proofs.Members.{then_ok, told_ok, position_inside, entity_keeps, same_found, person_keeps, made, variable_made}
 
 -- Each type
 
@@ -102,69 +105,66 @@ fits_in c d v = is_default (map known_choices c.enums) d v ≡ true
 declared_as : (c : Declared) (d made_type : DeclaredType) (v : DefaultValue) → ◌≡◌ {A = Result DeclaredType FormulaKind} (Ok made_type) (Ok d) → fits_in c made_type v → fits_in c d v
 declared_as c d made_type v h t = let same : made_type ≡ d = cc in subst (λ x. fits_in c x v) same t
 
-enum_typed : (c : Declared) (values : Option Tree) (d : DeclaredType) → and_then (needed (enum_value c) values) (λ n. Ok (type.Enum n)) ≡ Ok d → (e : ℕ) × (type.Enum e ≡ d)
-enum_typed c values d h =
-    let one = then_ok (needed (enum_value c) values) (λ n. Ok (type.Enum n)) d h in
-    let same : type.Enum one.0 ≡ d = cc in
-    (one.0, same)
-
 made_default : (v w : DefaultValue) (is_fit : DefaultValue → Bool) → ◌≡◌ {A = Result DefaultValue FormulaKind} (Ok w) (Ok v) → is_fit w ≡ true → is_fit v ≡ true
 made_default v w is_fit h t = let same : w ≡ v = cc in subst (λ x. is_fit x ≡ true) same t
 
-enum_fits : (c : Declared) (e : ℕ) (o : Option Tree) (v : DefaultValue) → default_or_none c named.Enum (type.Enum e) o ≡ Ok v → fits_in c (type.Enum e) v
-enum_fits c e None v h = cc
-enum_fits c e (Some t) v h =
-    let one = then_ok (dotted_value t) (λ d. or_bad (option_map default.Member (member_of (slice_get c.enums e) d))) v h in
-    member_fits c.enums e one.0 v one.2
+-- of what is said, by each type
+said_fits : (c : Declared) (t : TypeName) (enums : Result ℕ FormulaKind) (d : DeclaredType) (e : Tree) (v : DefaultValue) → declared_type t enums ≡ Ok d → default_of c (result_ok enums) t e ≡ Ok v → fits_in c d v
+said_fits c named.Float enums d e v h k = declared_as c d type.Float v h (number_fits (number_value e) v k)
+said_fits c named.Int enums d e v h k = declared_as c d type.Int v h (whole_fits (number_value e) v k)
+said_fits c named.Bool enums d e v h k = declared_as c d type.Bool v h (bool_fits (truth_value e) v k)
+said_fits c named.Date enums d e v h k = declared_as c d type.Date v h (date_fits (date_value e) v k)
+said_fits c named.Text enums d e v h k = declared_as c d type.Text v h (text_fits (text_value e) v k)
+said_fits c named.Enum (Ok n) d e v h k =
+    let one = then_ok (dotted_value e) (λ x. or_bad (option_map default.Member (member_of (slice_get c.enums n) x))) v k in
+    declared_as c d (type.Enum n) v h (member_fits c.enums n one.0 v one.2)
+said_fits c named.Enum (Err k) d e v h p = cc
 
-default_fits : (c : Declared) (t : TypeName) (values : Option Tree) (d : DeclaredType) (o : Option Tree) (v : DefaultValue) → declared_type c t values ≡ Ok d → default_or_none c t d o ≡ Ok v → fits_in c d v
-default_fits c named.Float values d None v h k = declared_as c d type.Float v h (made_default v _ is_number k refl)
-default_fits c named.Float values d (Some e) v h k = declared_as c d type.Float v h (number_fits (number_value e) v k)
-default_fits c named.Int values d None v h k = declared_as c d type.Int v h (made_default v _ is_whole k refl)
-default_fits c named.Int values d (Some e) v h k = declared_as c d type.Int v h (whole_fits (number_value e) v k)
-default_fits c named.Bool values d None v h k = declared_as c d type.Bool v h (made_default v _ is_bool k refl)
-default_fits c named.Bool values d (Some e) v h k = declared_as c d type.Bool v h (bool_fits (truth_value e) v k)
-default_fits c named.Date values d None v h k = declared_as c d type.Date v h (made_default v _ is_date k refl)
-default_fits c named.Date values d (Some e) v h k = declared_as c d type.Date v h (date_fits (date_value e) v k)
-default_fits c named.Text values d None v h k = declared_as c d type.Text v h (made_default v _ is_text k refl)
-default_fits c named.Text values d (Some e) v h k = declared_as c d type.Text v h (text_fits (text_value e) v k)
-default_fits c named.Enum values d o v h k =
-    let one = enum_typed c values d h in
-    subst (λ x. fits_in c x v) one.1 (enum_fits c one.0 o v (ap (λ x. default_or_none c named.Enum x o) one.1 ∙ k))
+-- of what is taken where nothing is said
+none_fits : (c : Declared) (t : TypeName) (enums : Result ℕ FormulaKind) (d : DeclaredType) (v : DefaultValue) → declared_type t enums ≡ Ok d → no_default t ≡ Ok v → fits_in c d v
+none_fits c named.Float enums d v h k = declared_as c d type.Float v h (made_default v _ is_number k refl)
+none_fits c named.Int enums d v h k = declared_as c d type.Int v h (made_default v _ is_whole k refl)
+none_fits c named.Bool enums d v h k = declared_as c d type.Bool v h (made_default v _ is_bool k refl)
+none_fits c named.Date enums d v h k = declared_as c d type.Date v h (made_default v _ is_date k refl)
+none_fits c named.Text enums d v h k = declared_as c d type.Text v h (made_default v _ is_text k refl)
+none_fits c named.Enum enums d v h k = cc
+
+default_fits : (c : Declared) (t : TypeName) (enums : Result ℕ FormulaKind) (d : DeclaredType) (o : Option Tree) (v : DefaultValue) → declared_type t enums ≡ Ok d →
+    default_or_none t (joined (read (default_typed c (result_ok enums) (Ok t)) o)) ≡ Ok v → fits_in c d v
+default_fits c t enums d None v h k = none_fits c t enums d v h k
+default_fits c t enums d (Some e) v h k = by (default_of c (result_ok enums) t e) refl k
+  where
+    by : (r : Result DefaultValue FormulaKind) → default_of c (result_ok enums) t e ≡ r → default_or_none t (joined (result_ok (and_then r (λ w. Ok (Some w))))) ≡ Ok v → fits_in c d v
+    by (Ok w) p q = let same : w ≡ v = cc in said_fits c t enums d e v h (p ∙ ap (λ x. Ok x) same)
+    by (Err f) p q = none_fits c t enums d v h q
 
 -- Variables
 
-abbrev BasicsFit : Declared → Basics → Type 0
-BasicsFit c b = fits_in c b.value_type b.default_value
+abbrev VariableFits : Declared → Variable → Type 0
+VariableFits c v = fits_in c v.value_type v.default_value
 
-basics_by : (c : Declared) (b : Basics) (types : Result TypeName FormulaKind) (places : Result ℕ FormulaKind) (periods : Result TimeUnit FormulaKind) (values default : Option Tree) →
-    and_then types (λ t. and_then places (λ place. and_then periods (λ period. and_then (declared_type c t values) (λ d. and_then (default_or_none c t d default) (λ v.
-    Ok (record { entity = place; value_type = d; definition_period = period; default_value = v })))))) ≡ Ok b → BasicsFit c b
-basics_by c b (Ok t) (Ok place) (Ok period) values default h =
-    let one = then_ok (declared_type c t values) (λ d. and_then (default_or_none c t d default) (λ v. Ok (record { entity = place; value_type = d; definition_period = period; default_value = v }))) b h in
-    let two = then_ok (default_or_none c t one.0 default) (λ v. Ok (record { entity = place; value_type = one.0; definition_period = period; default_value = v })) b one.2 in
-    let same : record { entity = place; value_type = one.0; definition_period = period; default_value = two.0 } ≡ b = cc in
-    subst (BasicsFit c) same (default_fits c t values one.0 default two.0 one.1 two.1)
-basics_by c b (Ok t) (Ok place) (Err k) values default h = cc
-basics_by c b (Ok t) (Err k) periods values default h = cc
-basics_by c b (Err k) places periods values default h = cc
+parts_fit : (c : Declared) (w : Variable) (make : ℕ → TimeUnit → DeclaredType → DefaultValue → Variable) →
+    ((place : ℕ) (period : TimeUnit) (d : DeclaredType) (v : DefaultValue) → fits_in c d v → VariableFits c (make place period d v)) →
+    (types : Result TypeName FormulaKind) (places : Result ℕ FormulaKind) (periods : Result TimeUnit FormulaKind) (enums : Result ℕ FormulaKind) (default : Option Tree) →
+    and_then types (λ t. and_then places (λ place. and_then periods (λ period. and_then (declared_type t enums) (λ d. and_then (default_or_none t (joined (read (default_typed c (result_ok enums) types) default))) (λ v.
+    Ok (make place period d v)))))) ≡ Ok w → VariableFits c w
+parts_fit c w make keeps (Ok t) (Ok place) (Ok period) enums default h =
+    let taken = default_or_none t (joined (read (default_typed c (result_ok enums) (Ok t)) default)) in
+    let one = then_ok (declared_type t enums) (λ d. and_then taken (λ v. Ok (make place period d v))) w h in
+    let two = then_ok taken (λ v. Ok (make place period one.0 v)) w one.2 in
+    let same : make place period one.0 two.0 ≡ w = cc in
+    subst (VariableFits c) same (keeps place period one.0 two.0 (default_fits c t enums one.0 default two.0 one.1 two.1))
+parts_fit c w make keeps (Ok t) (Ok place) (Err k) enums default h = cc
+parts_fit c w make keeps (Ok t) (Err k) periods enums default h = cc
+parts_fit c w make keeps (Err k) places periods enums default h = cc
 
-basics_fit : (c : Declared) (xs : List Item) (b : Basics) → basics_of c xs ≡ Ok b → BasicsFit c b
-basics_fit c xs b h =
-    basics_by c b (needed type_value (value_at (codes "value_type") xs)) (needed (entity_value c) (value_at (codes "entity") xs)) (needed period_value (value_at (codes "definition_period") xs))
-    (value_at (codes "possible_values") xs) (value_at (codes "default_value") xs) h
-
-abbrev VariableFits : Declared → Variable × Written → Type 0
-VariableFits c v = fits_in c v.0.value_type v.0.default_value
-
-made_fits : (c : Declared) (v : Variable × Written) (basics : Result Basics FormulaKind) (told : Result Told FormulaKind) (make : Basics → Told → Variable × Written) → ((b : Basics) (s : Told) → BasicsFit c b → VariableFits c (make b s)) →
-    ((b : Basics) → basics ≡ Ok b → BasicsFit c b) → and_then basics (λ b. and_then told (λ s. Ok (make b s))) ≡ Ok v → VariableFits c v
-made_fits c v (Ok b) (Ok s) make keeps fit h = let same : make b s ≡ v = cc in subst (VariableFits c) same (keeps b s (fit b refl))
-made_fits c v (Ok b) (Err k) make keeps fit h = cc
-made_fits c v (Err k) told make keeps fit h = cc
-
-variable_fits : (c : Declared) (place line : ℕ) (n : List ℕ) (xs : List Item) (v : Variable × Written) → variable_of c place line n xs ≡ Ok v → VariableFits c v
-variable_fits c place line n xs v h = made_fits c v (basics_of c xs) (told_of xs) (made place line n xs) (λ b s t. t) (λ b e. basics_fit c xs b e) h
+variable_fits : (c : Declared) (place line : ℕ) (n : List ℕ) (k : TypeLines) (xs : List Item) (v : Variable × Written) → variable_of place line n k (said c k xs) xs ≡ Ok v → VariableFits c v.0
+variable_fits c place line n k xs v h =
+    let s = said c k xs in
+    let one = then_ok (variable_by n k s) (λ w. Ok (w, declaration_by place line s xs)) v h in
+    let same : (one.0, declaration_by place line s xs) ≡ v = cc in
+    subst (λ (p : Variable × Written). VariableFits c p.0) same
+    (parts_fit c one.0 (made n s) (λ p u d w t. t) k.value_type (or_bad s.entity) k.definition_period k.possible_values (value_at (codes "default_value") xs) one.1)
 
 abbrev AllFit : Declared → Found → Type 0
 AllFit c f = AllDefaultsFit (map known_choices c.enums) f.variables
@@ -180,8 +180,7 @@ variable_step c ps f g place (entities a) rest k t = rest t.0 t.2 (subst (λ (p 
 variable_step c ps f g place (choices line n ms) rest k t = rest t.0 t.2 (subst (λ (p : List Variable × List Written). AllDefaultsFit (map known_choices c.enums) p.0) (same_found _ f t.0 t.1) k)
 variable_step c ps f g place (variable line n xs) rest k t =
     let one = then_ok (variable_in c place line n xs) (λ v. Ok (with_variable f v)) t.0 t.1 in
-    let fits = then_ok (items_fit c place xs [] xs) (λ _. told_at place line (variable_of c place line n xs)) one.0 one.1 in
-    let fit = variable_fits c place line n xs one.0 (told_ok place line _ one.0 fits.2) in
+    let fit = variable_fits c place line n (type_lines c xs) xs one.0 (variable_made c place line n xs one.0 one.1) in
     let same : with_variable f one.0 ≡ t.0 = cc in
     rest t.0 t.2 (subst (AllFit c) same (fits_and (map known_choices c.enums) f.variables one.0.0 k fit))
 

@@ -1,15 +1,18 @@
 -- In an accepted rule set the Enum of each variable has a member.
-use Rattle.std.proofs.Common.{◌≡◌, ◌∙◌, ap, subst, arith, ℕ, zero, suc, ◌+◌, ◌<◌, List, [], ◌∷◌, ◌++◌, map, length, Bool, true, false, refl}
+use Rattle.std.proofs.Common.{◌≡◌, ◌∙◌, sym, ap, subst, arith, ℕ, zero, suc, ◌+◌, ◌<◌, List, [], ◌∷◌, ◌++◌, map, length, Bool, true, false, refl}
 use Rattle.std.specs.Prelude.{⊤, ◌||◌, ◌==◌, nat_lt, if◌then◌else◌, slice_get, Option, Some, None, Result, Ok, Err, codes}
 use Rattle.std.specs.List.{position_from}
-use Rattle.fisca_attributes.specs.AttributeForms.{value_at, type_value, period_value}
-use Rattle.fisca_attributes.specs.Values.{bad_attribute, name_value, needed}
+use Rattle.fisca_attributes.specs.Steps.AttributeForms.{value_at, type_value, period_value}
+use Rattle.fisca_attributes.specs.Values.{bad_attribute, needed}
+use Rattle.fisca_attributes.specs.Steps.Values.{name_value, or_bad}
 use Rattle.fisca_attributes.specs.declared.attributes.TypeName.{TypeName}
 use Rattle.fisca_attributes.specs.declared.attributes.TypeName.TheVariants as named
-use Rattle.fisca_rules.specs.Build.{Found, Whole, members_of, members_fit, enums_in, declared_in, found_from, statement_found, second_pass, variable_in, items_fit, with_entity, with_variable, with_person, none_yet, tables_of}
-use Rattle.fisca_declarations.specs.VariableForms.{Written, place_of_enum, or_unknown, enum_value, declared_type, default_or_none, entity_value, basics_of, told_of, variable_by, declaration_by, variable_of}
-use Rattle.fisca_declarations.specs.declared.basics.Basics.{Basics}
-use Rattle.fisca_declarations.specs.declared.told.Told.{Told}
+use Rattle.fisca_rules.specs.Build.{Found, Whole, items_fit, items_said, with_variable, none_yet}
+use Rattle.fisca_rules.specs.Steps.Build.{members_of, members_fit, enums_in, declared_in, found_from, statement_found, second_pass, variable_in, with_entity, with_person, tables_of}
+use Rattle.fisca_declarations.specs.VariableForms.{Written, place_of_enum}
+use Rattle.fisca_declarations.specs.Steps.VariableForms.{or_unknown, enum_value, declared_type, default_or_none, said, type_lines, variable_by, declaration_by, variable_of}
+use Rattle.fisca_declarations.specs.declared.attributes.Attributes.{Attributes}
+use Rattle.fisca_declarations.specs.declared.types.TypeLines.{TypeLines}
 use Rattle.fisca_declarations.specs.declared.declared.Declared.{Declared}
 use Rattle.fisca_ast.specs.Tree.{Tree}
 use Rattle.fisca_model.specs.Tables.{type_in}
@@ -102,7 +105,7 @@ enum_inside c (Some tree) n h =
     let inside = position_inside _ 0 c.enums n (or_unknown_ok (place_of_enum c name.0) n name.2) in
     omega (arith, inside)
 
-declared_inside : (c : Declared) (t : TypeName) (e : Option Tree) (d : DeclaredType) → declared_type c t e ≡ Ok d → IsInside (length c.enums) d
+declared_inside : (c : Declared) (t : TypeName) (e : Option Tree) (d : DeclaredType) → declared_type t (needed (enum_value c) e) ≡ Ok d → IsInside (length c.enums) d
 declared_inside c named.Float e d h = let same : type.Float ≡ d = cc in subst (IsInside (length c.enums)) same tt
 declared_inside c named.Int e d h = let same : type.Int ≡ d = cc in subst (IsInside (length c.enums)) same tt
 declared_inside c named.Bool e d h = let same : type.Bool ≡ d = cc in subst (IsInside (length c.enums)) same tt
@@ -113,41 +116,49 @@ declared_inside c named.Enum e d h =
     let same : type.Enum one.0 ≡ d = cc in
     subst (IsInside (length c.enums)) same (enum_inside c e one.0 one.1)
 
-value_ok : (place : ℕ) (d : DeclaredType) (period : TimeUnit) (b : Basics) (r : Result DefaultValue FormulaKind) →
-    and_then r (λ v. Ok (record { entity = place; value_type = d; definition_period = period; default_value = v })) ≡ Ok b → d ≡ b.value_type
-value_ok place d period b (Ok v) h = let same : record { entity = place; value_type = d; definition_period = period; default_value = v } ≡ b = cc in ap (λ (x : Basics). x.value_type) same
-value_ok place d period b (Err k) h = cc
+value_ok : (make : DefaultValue → Variable) (d : DeclaredType) (w : Variable) (r : Result DefaultValue FormulaKind) → ((v : DefaultValue) → (make v).value_type ≡ d) →
+    and_then r (λ v. Ok (make v)) ≡ Ok w → d ≡ w.value_type
+value_ok make d w (Ok v) keeps h = let same : make v ≡ w = cc in sym (keeps v) ∙ ap (λ (x : Variable). x.value_type) same
+value_ok make d w (Err k) keeps h = cc
 
-declared_ok : (n place : ℕ) (period : TimeUnit) (b : Basics) (r : Result DeclaredType FormulaKind) (value : DeclaredType → Result DefaultValue FormulaKind) → ((d : DeclaredType) → r ≡ Ok d → IsInside n d) →
-    and_then r (λ d. and_then (value d) (λ v. Ok (record { entity = place; value_type = d; definition_period = period; default_value = v }))) ≡ Ok b → IsInside n b.value_type
-declared_ok n place period b (Ok d) value inside h = subst (IsInside n) (value_ok place d period b (value d) h) (inside d refl)
-declared_ok n place period b (Err k) value inside h = cc
+declared_ok : (n : ℕ) (make : DeclaredType → DefaultValue → Variable) (w : Variable) (r : Result DeclaredType FormulaKind) (value : Result DefaultValue FormulaKind) →
+    ((d : DeclaredType) (v : DefaultValue) → (make d v).value_type ≡ d) → ((d : DeclaredType) → r ≡ Ok d → IsInside n d) →
+    and_then r (λ d. and_then value (λ v. Ok (make d v))) ≡ Ok w → IsInside n w.value_type
+declared_ok n make w (Ok d) value keeps inside h = subst (IsInside n) (value_ok (make d) d w value (keeps d) h) (inside d refl)
+declared_ok n make w (Err k) value keeps inside h = cc
 
-basics_by : (c : Declared) (b : Basics) (types : Result TypeName FormulaKind) (places : Result ℕ FormulaKind) (periods : Result TimeUnit FormulaKind) (values default : Option Tree) →
-    and_then types (λ t. and_then places (λ place. and_then periods (λ period. and_then (declared_type c t values) (λ d. and_then (default_or_none c t d default) (λ v.
-    Ok (record { entity = place; value_type = d; definition_period = period; default_value = v })))))) ≡ Ok b → IsInside (length c.enums) b.value_type
-basics_by c b (Ok t) (Ok place) (Ok period) values default h =
-    declared_ok (length c.enums) place period b (declared_type c t values) (λ d. default_or_none c t d default) (λ d e. declared_inside c t values d e) h
-basics_by c b (Ok t) (Ok place) (Err k) values default h = cc
-basics_by c b (Ok t) (Err k) periods values default h = cc
-basics_by c b (Err k) places periods values default h = cc
+parts_inside : (c : Declared) (w : Variable) (make : ℕ → TimeUnit → DeclaredType → DefaultValue → Variable) →
+    ((place : ℕ) (period : TimeUnit) (d : DeclaredType) (v : DefaultValue) → (make place period d v).value_type ≡ d) →
+    (types : Result TypeName FormulaKind) (places : Result ℕ FormulaKind) (periods : Result TimeUnit FormulaKind) (values : Option Tree) (default : Option DefaultValue) →
+    and_then types (λ t. and_then places (λ place. and_then periods (λ period. and_then (declared_type t (needed (enum_value c) values)) (λ d. and_then (default_or_none t default) (λ v.
+    Ok (make place period d v)))))) ≡ Ok w → IsInside (length c.enums) w.value_type
+parts_inside c w make keeps (Ok t) (Ok place) (Ok period) values default h =
+    declared_ok (length c.enums) (make place period) w (declared_type t (needed (enum_value c) values)) (default_or_none t default) (keeps place period) (λ d e. declared_inside c t values d e) h
+parts_inside c w make keeps (Ok t) (Ok place) (Err k) values default h = cc
+parts_inside c w make keeps (Ok t) (Err k) periods values default h = cc
+parts_inside c w make keeps (Err k) places periods values default h = cc
 
-basics_inside : (c : Declared) (xs : List Item) (b : Basics) → basics_of c xs ≡ Ok b → IsInside (length c.enums) b.value_type
-basics_inside c xs b h =
-    basics_by c b (needed type_value (value_at (codes "value_type") xs)) (needed (entity_value c) (value_at (codes "entity") xs)) (needed period_value (value_at (codes "definition_period") xs))
-    (value_at (codes "possible_values") xs) (value_at (codes "default_value") xs) h
+-- a variable of these parts
+abbrev pub made : List ℕ → Attributes → ℕ → TimeUnit → DeclaredType → DefaultValue → Variable
+made n s place period d v = record { name = n; entity = place; value_type = d; definition_period = period; default_value = v; end = s.end; set_input = s.set_input }
 
-made_ok : (n : ℕ) (v : Variable × Written) (basics : Result Basics FormulaKind) (told : Result Told FormulaKind) (make : Basics → Told → Variable × Written) → ((b : Basics) (s : Told) → b.value_type ≡ (make b s).0.value_type) →
-    ((b : Basics) → basics ≡ Ok b → IsInside n b.value_type) → and_then basics (λ b. and_then told (λ s. Ok (make b s))) ≡ Ok v → IsInside n v.0.value_type
-made_ok n v (Ok b) (Ok s) make keeps inside h = let same : make b s ≡ v = cc in subst (IsInside n) (keeps b s ∙ ap (λ (x : Variable × Written). x.0.value_type) same) (inside b refl)
-made_ok n v (Ok b) (Err k) make keeps inside h = cc
-made_ok n v (Err k) told make keeps inside h = cc
+variable_inside : (c : Declared) (place line : ℕ) (n : List ℕ) (s : Attributes) (xs : List Item) (v : Variable × Written) → variable_of place line n (type_lines c xs) s xs ≡ Ok v → IsInside (length c.enums) v.0.value_type
+variable_inside c place line n s xs v h =
+    let one = then_ok (variable_by n (type_lines c xs) s) (λ w. Ok (w, declaration_by place line s xs)) v h in
+    let same : (one.0, declaration_by place line s xs) ≡ v = cc in
+    subst (λ (p : Variable × Written). IsInside (length c.enums) p.0.value_type) same
+    (parts_inside c one.0 (made n s) (λ p u d w. refl) (needed type_value (value_at (codes "value_type") xs)) (or_bad s.entity) (needed period_value (value_at (codes "definition_period") xs))
+    (value_at (codes "possible_values") xs) s.default_value one.1)
 
-abbrev pub made : ℕ → ℕ → List ℕ → List Item → Basics → Told → Variable × Written
-made place line n xs basics told = (variable_by n basics told, declaration_by place line told xs)
-
-variable_inside : (c : Declared) (place line : ℕ) (n : List ℕ) (xs : List Item) (v : Variable × Written) → variable_of c place line n xs ≡ Ok v → IsInside (length c.enums) v.0.value_type
-variable_inside c place line n xs v h = made_ok (length c.enums) v (basics_of c xs) (told_of xs) (made place line n xs) (λ b s. refl) (λ b e. basics_inside c xs b e) h
+-- a variable that was found is made of what its lines say
+pub variable_made : (c : Declared) (place line : ℕ) (n : List ℕ) (xs : List Item) (v : Variable × Written) → variable_in c place line n xs ≡ Ok v
+    → variable_of place line n (type_lines c xs) (said c (type_lines c xs) xs) xs ≡ Ok v
+variable_made c place line n xs v h =
+    let k = type_lines c xs in
+    let read = then_ok (items_said c place xs) (λ p. told_at place line (variable_of place line n p.0 p.1 xs)) v h in
+    let fits = then_ok (items_fit c place k [] xs) (λ _. Ok (k, said c k xs)) read.0 read.1 in
+    let same : (k, said c k xs) ≡ read.0 = cc in
+    told_ok place line _ v (subst (λ (p : TypeLines × Attributes). told_at place line (variable_of place line n p.0 p.1 xs) ≡ Ok v) (sym same) read.2)
 
 abbrev AllInside : ℕ → List Variable → Type 0
 AllInside n [] = ⊤
@@ -179,8 +190,7 @@ variable_step c ps f g place (entities a) rest k t = rest t.0 t.2 (subst (λ (p 
 variable_step c ps f g place (choices line n ms) rest k t = rest t.0 t.2 (subst (λ (p : List Variable × List Written). AllInside (length c.enums) p.0) (same_found _ f t.0 t.1) k)
 variable_step c ps f g place (variable line n xs) rest k t =
     let one = then_ok (variable_in c place line n xs) (λ v. Ok (with_variable f v)) t.0 t.1 in
-    let fits = then_ok (items_fit c place xs [] xs) (λ _. told_at place line (variable_of c place line n xs)) one.0 one.1 in
-    let inside = variable_inside c place line n xs one.0 (told_ok place line _ one.0 fits.2) in
+    let inside = variable_inside c place line n (said c (type_lines c xs) xs) xs one.0 (variable_made c place line n xs one.0 one.1) in
     let same : with_variable f one.0 ≡ t.0 = cc in
     rest t.0 t.2 (subst (λ (x : Found). AllInside (length c.enums) x.variables) same (inside_and (length c.enums) f.variables one.0.0 k inside))
 

@@ -8,7 +8,8 @@ use Rattle.fisca_model.specs.Groups.{Groups, Point}
 use Rattle.fisca_formula_semantics.specs.Safe.{IsSafe}
 use Rattle.fisca_formula_semantics.specs.Wellformed.{HasMembers, before_cast}
 use Rattle.fisca_params.specs.Tree.{TreeNode}
-use Rattle.fisca_rules.specs.Rules.{Dated, Rules, all_formulas, all_of, assigned_of, dated_of, formulas_by, formulas_of, known, names_for, rules_of, told_in}
+use Rattle.fisca_rules.specs.Rules.{Dated, Rules, all_of, assigned_of, known}
+use Rattle.fisca_rules.specs.Steps.Rules.{all_formulas, dated_of, formulas_by, formulas_of, names_for, rules_of, told_in}
 use Rattle.fisca_rules.specs.Safety.{IsNeverStuck, AllNeverStuck, EachNeverStuck, AreNeverStuck}
 use Rattle.fisca_ast.specs.Modules.{Formula, Statement}
 use Rattle.fisca_symbols.specs.KnownVariables.{value_type}
@@ -24,7 +25,7 @@ use Rattle.fisca_rules.proofs.Members.{then_ok, members_there_in}
 abbrev pub TypedAreSafe : Type 0
 TypedAreSafe = (n : Names) (groups : Groups) (t : ValueType) (locals : List typing.Assigned) (e : Tree) (f : typing.Formula) → n.locals ≡ [] → HasMembers n.tables → typing.formula_of n t locals e ≡ Ok f → (p : Point) → IsSafe n.tables (before_cast t) (formula_means n.tables groups f p)
 
-told_in_ok : {X : Type 0} (place : ℕ) (f : Formula) (r : Result X typing.Refusal) (x : X) → told_in place f r ≡ Ok x → r ≡ Ok x
+told_in_ok : {X : Type 0} (place : ℕ) (f : Formula) (r : Result X typing.RefusedFormula) (x : X) → told_in place f r ≡ Ok x → r ≡ Ok x
 told_in_ok place f (Ok x) y h = let same : x ≡ y = cc in ap (λ z. Ok z) same
 told_in_ok place f (Err r) y h = cc
 

@@ -2,7 +2,8 @@
 use Rattle.std.proofs.Common.{◌≡◌, ◌∙◌, sym, ap, refl, ℕ, suc, List, [], ◌∷◌, ◌++◌, append_assoc}
 use Rattle.fisca_names.specs.Names.{Placed, placed_from, placed_in}
 use Rattle.fisca_ast.specs.Modules.{Statement}
-use Rattle.fisca_rules.specs.Build.{constant_of, constants_in, enum_of, enums_in}
+use Rattle.fisca_rules.specs.Build.{constant_of}
+use Rattle.fisca_rules.specs.Steps.Build.{constants_in, enum_of, enums_in}
 use Rattle.fisca_rules.specs.Scans.{all_constants, all_enums, constants_of, enums_of}
 
 constants-more : (ps qs : List Placed) → constants_in (ps ++ qs) ≡ constants_in ps ++ constants_in qs

@@ -1,6 +1,6 @@
 -- The walk over the statements, one after another.
 use Rattle.std.proofs.Common.{◌≡◌, ◌∙◌, sym, ap, refl, arith, ℕ, length, List, [], ◌∷◌, ◌++◌, Option, None, Result, Ok, Err}
-use Rattle.fisca_names.specs.Clashes.{second_name}
+use Rattle.fisca_names.specs.Steps.Clashes.{second_name}
 use Rattle.fisca_names.specs.Names.{Placed, named_once, names_from}
 use Rattle.fisca_names.specs.Outcomes.{Tells}
 use Rattle.fisca_names.specs.Seen.{TellsOne}
@@ -12,7 +12,8 @@ use Rattle.fisca_symbols.specs.declared.entity.Entity.{Entity}
 use Rattle.fisca_symbols.specs.declared.variable.Variable.{Variable}
 use Rattle.fisca_declarations.specs.declared.declared.Declared.{Declared}
 use Rattle.fisca_rules.specs.declared.found.Found.{Found as Held}
-use Rattle.fisca_rules.specs.Build.{Found, Whole as Tables, declared_by, declared_in, enums_in, found_from, none_yet, statement_found, with_person}
+use Rattle.fisca_rules.specs.Build.{Found, Whole as Tables, none_yet}
+use Rattle.fisca_rules.specs.Steps.Build.{declared_by, declared_in, enums_in, found_from, statement_found, with_person}
 use Rattle.fisca_rules.specs.FoundViews.{found}
 use Rattle.fisca_rules.specs.Walk.{Reached}
 

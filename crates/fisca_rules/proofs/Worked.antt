@@ -4,17 +4,19 @@ use Rattle.std.specs.Prelude.{Option, Some, None, Result, Ok, Err, codes}
 use Rattle.fisca_ast.specs.declared.tree.Bracket.TheVariants as bracket
 use Rattle.fisca_ast.specs.declared.tree.Suffix.TheVariants as suffix
 use Rattle.fisca_ast.specs.Tree.{Tree, Series, Argument, name, number, text, bracketed, attribute as dotted, applied, nothing, last, next, positional, keyword, entry}
-use Rattle.fisca_ast.specs.Words.{is_keyword}
+use Rattle.fisca_ast.specs.Steps.Words.{is_keyword}
 use Rattle.fisca_num.specs.Literal.{number_of_literal}
 use Rattle.fisca_ast.specs.Modules.{Item, attribute, formula, Statement, entity, entities, choices, variable}
 use Rattle.fisca_ast.specs.declared.fault.FormulaKind.{FormulaKind}
 use Rattle.fisca_ast.specs.declared.fault.FormulaKind.TheVariants as kind
-use Rattle.fisca_ast.specs.Contents.{said_within}
+use Rattle.fisca_ast.specs.Steps.Contents.{said_within}
 use Rattle.fisca_names.specs.declared.fault.BuildFault.{BuildFault}
-use Rattle.fisca_rules.specs.Build.{Whole, tables_of}
-use Rattle.fisca_attributes.specs.Values.{truth_of}
-use Rattle.fisca_attributes.specs.AttributeForms.{type_named, period_named, sharing_named}
-use Rattle.fisca_declarations.specs.VariableForms.{attribute_fits, told_fits}
+use Rattle.fisca_rules.specs.Build.{Whole}
+use Rattle.fisca_rules.specs.Steps.Build.{tables_of}
+use Rattle.fisca_attributes.specs.Steps.Values.{truth_of}
+use Rattle.fisca_attributes.specs.Steps.AttributeForms.{type_named, period_named, sharing_named}
+use Rattle.fisca_declarations.specs.VariableForms.{passed_over}
+use Rattle.fisca_declarations.specs.Steps.VariableForms.{attribute_fits, told_fits}
 
 abbrev fault_in : Result Whole BuildFault → Option BuildFault
 fault_in (Ok w) = None
@@ -252,7 +254,7 @@ unfolding tables_of said_within truth_of type_named period_named sharing_named a
 missing_is_told_last = refl
 
 unknown_attribute : told ((first_person ∷ plain 3 (codes "v") (set 8 (codes "colour") (quoted []) ∷ []) ∷ []) ∷ []) ≡ at 0 8 kind.BadAttribute
-unfolding tables_of said_within truth_of type_named period_named sharing_named attribute_fits told_fits is_keyword number_of_literal
+unfolding tables_of said_within truth_of type_named period_named sharing_named attribute_fits told_fits passed_over is_keyword number_of_literal
 unknown_attribute = refl
 
 attribute_twice : told ((first_person ∷ plain 3 (codes "v") (set 8 (codes "label") (quoted []) ∷ set 9 (codes "label") (quoted []) ∷ []) ∷ []) ∷ []) ≡ at 0 9 kind.BadAttribute

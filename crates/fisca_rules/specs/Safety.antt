@@ -12,7 +12,7 @@ use Rattle.fisca_symbols.specs.declared.variable.DefaultValue.TheVariants as def
 use Rattle.fisca_symbols.specs.declared.variable.Variable.{Variable}
 use Rattle.fisca_model.specs.declared.value_type.ValueType.{ValueType}
 use Rattle.fisca_model.specs.Tables.{Choices, Tables, members_of}
-use Rattle.fisca_declarations.specs.VariableForms.{is_int}
+use Rattle.fisca_declarations.specs.Steps.VariableForms.{is_int}
 use Rattle.fisca_rules.specs.Rules.{Dated, Rules, known_by}
 
 -- As long as its questions are answered by values of the variables' types, a formula of this variable gives a value of its type, before
@@ -38,47 +38,29 @@ AreNeverStuck r = EachNeverStuck (known_by r) r.variables r.formulas
 
 abbrev pub is_number : DefaultValue → Bool
 is_number (default.Number n) = true
-is_number (default.Bool b) = false
-is_number (default.Member i) = false
-is_number (default.Date d) = false
-is_number (default.Text t) = false
+is_number _ = false
 
 -- a whole number of 32 bits
 abbrev pub is_whole : DefaultValue → Bool
 is_whole (default.Number n) = is_int n
-is_whole (default.Bool b) = false
-is_whole (default.Member i) = false
-is_whole (default.Date d) = false
-is_whole (default.Text t) = false
+is_whole _ = false
 
 abbrev pub is_bool : DefaultValue → Bool
-is_bool (default.Number n) = false
 is_bool (default.Bool b) = true
-is_bool (default.Member i) = false
-is_bool (default.Date d) = false
-is_bool (default.Text t) = false
+is_bool _ = false
 
 abbrev pub is_date : DefaultValue → Bool
-is_date (default.Number n) = false
-is_date (default.Bool b) = false
-is_date (default.Member i) = false
 is_date (default.Date d) = true
-is_date (default.Text t) = false
+is_date _ = false
 
 abbrev pub is_text : DefaultValue → Bool
-is_text (default.Number n) = false
-is_text (default.Bool b) = false
-is_text (default.Member i) = false
-is_text (default.Date d) = false
 is_text (default.Text t) = true
+is_text _ = false
 
 -- one of so many members
 abbrev pub is_member : ℕ → DefaultValue → Bool
-is_member n (default.Number x) = false
-is_member n (default.Bool b) = false
 is_member n (default.Member i) = nat_lt i n
-is_member n (default.Date d) = false
-is_member n (default.Text t) = false
+is_member _ _ = false
 
 -- a default of this type, where there are these Enums
 abbrev pub is_default : List Choices → DeclaredType → DefaultValue → Bool

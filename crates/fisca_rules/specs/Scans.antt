@@ -2,7 +2,8 @@
 use Rattle.std.specs.Prelude.{ℕ, List, [], ◌∷◌, ◌++◌}
 use Rattle.fisca_ast.specs.Modules.{Statement}
 use Rattle.fisca_symbols.specs.declared.choices.Choices.{Choices}
-use Rattle.fisca_rules.specs.Build.{constant_of, enum_of}
+use Rattle.fisca_rules.specs.Build.{constant_of}
+use Rattle.fisca_rules.specs.Steps.Build.{enum_of}
 
 abbrev pub constants_of : List Statement → List (List ℕ)
 constants_of [] = []

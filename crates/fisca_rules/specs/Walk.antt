@@ -10,7 +10,8 @@ use Rattle.fisca_ast.specs.Modules.{Statement}
 use Rattle.fisca_ast.specs.declared.fault.FormulaKind.TheVariants.{Memory}
 use Rattle.fisca_declarations.specs.declared.declared.Declared.{Declared}
 use Rattle.fisca_rules.specs.declared.found.Found.{Found as Held}
-use Rattle.fisca_rules.specs.Build.{Found, found_from}
+use Rattle.fisca_rules.specs.Build.{Found}
+use Rattle.fisca_rules.specs.Steps.Build.{found_from}
 use Rattle.fisca_rules.specs.FoundViews.{found}
 
 -- What was reached: these statements came before. What is left decides of the names, and, behind what was found so far, of the whole.

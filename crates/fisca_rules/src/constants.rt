@@ -4,6 +4,7 @@ ghost use Rattle.std.specs.Prelude.{◌≡◌, ◌++◌, IfOk, map};
 ghost use Rattle.fisca_names.specs.Names.{placed_from};
 ghost use Rattle.fisca_ast.specs.ModuleViews.{statement as statement_view, statements as statements_view};
 ghost use Rattle.fisca_rules.specs.Build as spec;
+ghost use Rattle.fisca_rules.specs.Steps.Build as steps;
 ghost use Rattle.fisca_rules.specs.Scans as scans;
 
 use crate::enums::enums_in;
@@ -59,7 +60,7 @@ pub(crate) fn declared_in<'a>(
     alloc: Global,
     modules: &[Module<'a>],
 ) -> Result<Declared<'a>, AllocError>
-    ensures { IfOk result (λ d. d ≡ spec.declared_in (placed_from 0 (map statements_view modules.now))) }
+    ensures { IfOk result (λ d. d ≡ steps.declared_in (placed_from 0 (map statements_view modules.now))) }
 {
     Ok(Declared {
         constants: constants_in(alloc, modules)?,

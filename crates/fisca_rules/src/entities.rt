@@ -2,11 +2,12 @@
 
 ghost use Rattle.std.specs.Prelude.{◌≡◌, map};
 ghost use Rattle.fisca_attributes.specs.Values.{is_among};
-ghost use Rattle.fisca_ast.specs.Groups.{bare as unwrapped};
+ghost use Rattle.fisca_ast.specs.Steps.Groups.{bare as unwrapped};
 ghost use Rattle.fisca_ast.specs.Views.{tree, argument_view};
 ghost use Rattle.fisca_ast.specs.Outcomes.{Gives};
 ghost use Rattle.fisca_ast.specs.ModuleViews.{assigned};
 ghost use Rattle.fisca_rules.specs.Build as spec;
+ghost use Rattle.fisca_rules.specs.Steps.Build as steps;
 
 use fisca_ast::{Argument, Assignment, Expr, FormulaKind, bare};
 use fisca_attributes::items_of;
@@ -38,7 +39,7 @@ fn is_entity(declared: &Declared<'_>, value: &Expr<'_>) -> bool
 
 /// Whether an element of a list is the constant of an entity.
 fn is_known(declared: &Declared<'_>, argument: &Argument<'_>) -> bool
-    ensures { result ≡ spec.is_known declared.now (argument_view argument.now) }
+    ensures { result ≡ steps.is_known declared.now (argument_view argument.now) }
 {
     match argument {
         Argument::Positional(value) => is_entity(declared, value),
@@ -48,7 +49,7 @@ fn is_known(declared: &Declared<'_>, argument: &Argument<'_>) -> bool
 
 /// Whether all elements of a list are constants of entities.
 fn all_known(declared: &Declared<'_>, items: &[Argument<'_>]) -> bool
-    ensures { result ≡ spec.all_known declared.now (map argument_view items.now) }
+    ensures { result ≡ steps.all_known declared.now (map argument_view items.now) }
 {
     for argument in items {
         if !is_known(declared, argument) {
@@ -60,7 +61,7 @@ fn all_known(declared: &Declared<'_>, items: &[Argument<'_>]) -> bool
 
 /// The elements of a list.
 fn listed_in<'e, 'a>(value: &'e Expr<'a>) -> &'e [Argument<'a>]
-    ensures { map argument_view result.now ≡ spec.listed_in (tree value.now) }
+    ensures { map argument_view result.now ≡ steps.listed_in (tree value.now) }
 {
     match bare(value) {
         Expr::Bracketed(_, inside) => items_of(inside),
@@ -80,7 +81,7 @@ pub(crate) fn entities_fit(
     declared: &Declared<'_>,
     written: &Assignment<'_>,
 ) -> Result<(), FormulaKind>
-    ensures { Gives (λ _. tt) (spec.entities_fit declared.now (assigned written.now)) result }
+    ensures { Gives (λ _. tt) (steps.entities_fit declared.now (assigned written.now)) result }
 {
     if all_known(declared, listed_in(&written.value)) {
         Ok(())

@@ -4,7 +4,7 @@ ghost use Rattle.std.specs.Prelude.{◌≡◌, [], ◌∷◌, ◌++◌, IfOk, le
 ghost use Rattle.fisca_names.specs.Clashes.{is_order as names_order};
 ghost use Rattle.fisca_ast.specs.Outcomes.{Gives};
 ghost use Rattle.fisca_ast.specs.ModuleViews.{statement as statement_view, statements as statements_view};
-ghost use Rattle.fisca_rules.specs.Build as spec;
+ghost use Rattle.fisca_rules.specs.Steps.Build as spec;
 ghost use Rattle.fisca_rules.specs.Scans as scans;
 
 use fisca_ast::{EnumClass, FormulaKind, Member, Module, Statement, content};

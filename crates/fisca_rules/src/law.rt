@@ -2,7 +2,8 @@
 
 ghost use Rattle.std.specs.Prelude.{◌≡◌, List, Ok};
 ghost use Rattle.fisca_params.specs.Tree.{TreeNode};
-ghost use Rattle.fisca_rules.specs.Rules.{Rules, rules_of};
+ghost use Rattle.fisca_rules.specs.Rules.{Rules};
+ghost use Rattle.fisca_rules.specs.Steps.Rules.{rules_of};
 ghost use Rattle.fisca_rules.specs.Safety.{AreNeverStuck, DaysAndTextsHaveNoFormulas, DefaultsFit};
 ghost use Rattle.fisca_ast.specs.Modules.{Statement};
 

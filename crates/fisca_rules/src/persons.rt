@@ -2,9 +2,10 @@
 
 ghost use Rattle.std.specs.Prelude.{◌≡◌};
 ghost use Rattle.fisca_rules.specs.Build as spec;
+ghost use Rattle.fisca_rules.specs.Steps.Build as steps;
 ghost use Rattle.fisca_rules.specs.FoundViews.{found as found_view};
 ghost use Rattle.fisca_names.specs.Outcomes.{Tells};
-ghost use Rattle.fisca_attributes.specs.EntityForms.{entity_of as entity_written};
+ghost use Rattle.fisca_attributes.specs.Steps.EntityForms.{entity_of as entity_written};
 ghost use Rattle.fisca_names.specs.Names.{told_at};
 ghost use Rattle.fisca_ast.specs.Outcomes.{Gives};
 ghost use Rattle.fisca_params.specs.Results.{and_then};
@@ -32,7 +33,7 @@ pub(crate) fn nothing_found<'a>(alloc: Global) -> Found<'a>
 
 /// One entity more, unless it is the persons once more.
 fn with_entity<'a>(found: Found<'a>, entity: Entity<'a>) -> Result<Found<'a>, FormulaKind>
-    ensures { Gives found_view (spec.with_entity (found_view found.entry) entity.entry) result }
+    ensures { Gives found_view (steps.with_entity (found_view found.entry) entity.entry) result }
 {
     let Found {
         mut entities,
@@ -59,7 +60,7 @@ fn behind_entity<'a>(
     found: Found<'a>,
     written: &Assignment<'a>,
 ) -> Result<Found<'a>, FormulaKind>
-    ensures { Gives found_view (and_then (entity_written (assigned written.now)) (spec.with_entity (found_view found.entry))) result }
+    ensures { Gives found_view (and_then (entity_written (assigned written.now)) (steps.with_entity (found_view found.entry))) result }
 {
     let entity = entity_of(alloc, written)?;
     with_entity(found, entity)
@@ -73,7 +74,7 @@ pub(crate) fn entity_found<'a>(
     written: &Assignment<'a>,
 ) -> Result<Found<'a>, BuildFault>
     ensures { Tells found_view
-        (told_at place written.now.line (and_then (entity_written (assigned written.now)) (spec.with_entity (found_view found.entry)))) result }
+        (told_at place written.now.line (and_then (entity_written (assigned written.now)) (steps.with_entity (found_view found.entry)))) result }
 {
     match behind_entity(alloc, found, written) {
         Ok(next) => Ok(next),
@@ -83,7 +84,7 @@ pub(crate) fn entity_found<'a>(
 
 /// The same, where the persons are among the entities; or else a fault of the first line of the first module.
 pub(crate) fn with_person(found: Found<'_>) -> Result<Found<'_>, BuildFault>
-    ensures { Tells found_view (spec.with_person (found_view found.entry)) result }
+    ensures { Tells found_view (steps.with_person (found_view found.entry)) result }
 {
     if !found.has_person {
         return Err(BuildFault {

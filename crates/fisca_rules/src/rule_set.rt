@@ -1,7 +1,7 @@
 //! Rule sets.
 ghost use Rattle.std.specs.Prelude.{◌≡◌, map};
 ghost use Rattle.fisca_rules.specs.Names.{entity_named, variable_named};
-ghost use Rattle.fisca_rules.specs.Rules as spec;
+ghost use Rattle.fisca_rules.specs.Steps.Rules as spec;
 ghost use Rattle.fisca_names.specs.Outcomes.{Tells};
 ghost use Rattle.fisca_rules.specs.Views.{rule_set};
 ghost use Rattle.fisca_ast.specs.ModuleViews.{statements};

@@ -6,6 +6,7 @@ ghost use Rattle.fisca_names.specs.declared.fault.BuildFault.{BuildFault};
 ghost use Rattle.fisca_ast.specs.ModuleViews.{assigned, item, statement as statement_view, statements as statements_view};
 ghost use Rattle.fisca_params.specs.Results.{and_then};
 ghost use Rattle.fisca_rules.specs.Build as spec;
+ghost use Rattle.fisca_rules.specs.Steps.Build as steps;
 ghost use Rattle.fisca_rules.specs.Walk as walk;
 ghost use Rattle.fisca_rules.specs.FoundViews.{found as found_view};
 ghost use Rattle.fisca_names.specs.Outcomes.{Tells};
@@ -27,7 +28,7 @@ fn entities_told(
     place: usize,
     written: &Assignment<'_>,
 ) -> Result<(), BuildFault>
-    ensures { Tells (λ _. tt) (told_at place written.now.line (spec.entities_fit declared.now (assigned written.now))) result }
+    ensures { Tells (λ _. tt) (told_at place written.now.line (steps.entities_fit declared.now (assigned written.now))) result }
 {
     match entities_fit(declared, written) {
         Ok(()) => Ok(()),
@@ -37,7 +38,7 @@ fn entities_told(
 
 /// Whether the members of an Enum are right, or its fault.
 fn enum_told(place: usize, class: &EnumClass<'_>) -> Result<(), BuildFault>
-    ensures { Tells (λ _. tt) (told_at place class.now.line (spec.members_fit class.now.members.items)) result }
+    ensures { Tells (λ _. tt) (told_at place class.now.line (steps.members_fit class.now.members.items)) result }
 {
     match members_fit(class.members.as_slice()) {
         Ok(()) => Ok(()),
@@ -54,7 +55,7 @@ fn variable_found<'a>(
     class: VariableClass<'a>,
 ) -> Result<Found<'a>, BuildFault>
     ensures { Tells found_view (spec.behind_variable (found_view found.entry)
-        (spec.variable_in declared.now place class.entry.line class.entry.name (map item class.entry.items.items))) result }
+        (steps.variable_in declared.now place class.entry.line class.entry.name (map item class.entry.items.items))) result }
 {
     let (variable, declaration) = variable_in(alloc, declared, place, class)?;
     let Found {
@@ -81,7 +82,7 @@ fn statement_found<'a>(
     place: usize,
     statement: Statement<'a>,
 ) -> Result<Found<'a>, BuildFault>
-    ensures { Tells found_view (spec.statement_found declared.now (found_view found.entry) place (statement_view statement.entry)) result }
+    ensures { Tells found_view (steps.statement_found declared.now (found_view found.entry) place (statement_view statement.entry)) result }
 {
     match statement {
         Statement::Entity(written) => entity_found(alloc, found, place, &written),
@@ -106,7 +107,7 @@ fn found_behind<'a>(
     statement: Statement<'a>,
 ) -> Result<Found<'a>, BuildFault>
     ensures { (outcome : Result spec.Found BuildFault) → Tells found_view outcome found.entry
-        → Tells found_view (and_then outcome (λ f. spec.statement_found declared.now f place (statement_view statement.entry))) result }
+        → Tells found_view (and_then outcome (λ f. steps.statement_found declared.now f place (statement_view statement.entry))) result }
 {
     match found {
         Ok(found) => statement_found(alloc, declared, found, place, statement),
@@ -165,7 +166,7 @@ fn walk_modules<'a>(
     modules: Vec<Module<'a>>,
 ) -> Result<Result<Found<'a>, BuildFault>, BuildFault>
     ensures { walk.Ends (names_from [] (placed_from 0 (map statements_view modules.entry.items)))
-        (spec.found_from declared.now spec.none_yet (placed_from 0 (map statements_view modules.entry.items))) result }
+        (steps.found_from declared.now spec.none_yet (placed_from 0 (map statements_view modules.entry.items))) result }
 {
     let mut seen = Seen::new(alloc);
     let mut found = Ok(nothing_found(alloc));
@@ -184,7 +185,7 @@ pub(crate) fn whole_found<'a>(
     modules: Vec<Module<'a>>,
 ) -> Result<Found<'a>, BuildFault>
     ensures { Tells found_view (and_then (names_from [] (placed_from 0 (map statements_view modules.entry.items)))
-        (λ _. and_then (spec.found_from declared.now spec.none_yet (placed_from 0 (map statements_view modules.entry.items))) spec.with_person)) result }
+        (λ _. and_then (steps.found_from declared.now spec.none_yet (placed_from 0 (map statements_view modules.entry.items))) steps.with_person)) result }
 {
     let found = walk_modules(alloc, declared, modules)??;
     with_person(found)

@@ -3,7 +3,7 @@
 ghost use Rattle.std.specs.Prelude.{◌≡◌, map};
 ghost use Rattle.fisca_names.specs.Names.{placed_from};
 ghost use Rattle.fisca_ast.specs.ModuleViews.{statements};
-ghost use Rattle.fisca_rules.specs.Build.{declared_by};
+ghost use Rattle.fisca_rules.specs.Steps.Build.{declared_by};
 ghost use Rattle.fisca_rules.specs.FoundViews.{whole};
 ghost use Rattle.fisca_names.specs.Outcomes.{Tells};
 

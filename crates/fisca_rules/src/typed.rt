@@ -3,6 +3,7 @@ ghost use Rattle.std.specs.Prelude.{◌≡◌, [], ◌∷◌, ◌++◌, map, OnO
 ghost use Rattle.fisca_declarations.specs.VariableForms.{written};
 ghost use Rattle.fisca_check.specs.Formulas.{formula_view as seen, Tells as TellsPlace};
 ghost use Rattle.fisca_rules.specs.Rules as spec;
+ghost use Rattle.fisca_rules.specs.Steps.Rules as steps;
 ghost use Rattle.fisca_check.specs.Views.{names as names_of};
 ghost use Rattle.fisca_names.specs.Outcomes.{Tells};
 ghost use Rattle.fisca_rules.specs.Views.{dated};
@@ -23,7 +24,7 @@ use std::alloc::{AllocError, Global};
 
 /// The line of the local at this place, or of the return behind them all.
 fn line_at(formula: &Formula<'_>, place: usize) -> usize
-    ensures { result ≡ spec.line_at (formula_view formula.now) place }
+    ensures { result ≡ steps.line_at (formula_view formula.now) place }
 {
     match formula.locals.as_slice().get(place) {
         Some(local) => local.line,
@@ -33,7 +34,7 @@ fn line_at(formula: &Formula<'_>, place: usize) -> usize
 
 /// A fault of a formula, told of the line of its statement.
 fn told(place: usize, formula: &Formula<'_>, refusal: FormulaRefusal) -> BuildFault
-    ensures { result ≡ record { «module» = place; line = spec.line_at (formula_view formula.now) refusal.place; kind = refusal.kind } }
+    ensures { result ≡ record { «module» = place; line = steps.line_at (formula_view formula.now) refusal.place; kind = refusal.kind } }
 {
     BuildFault {
         module: place,
@@ -49,7 +50,7 @@ fn names_for<'n, 'a>(
     variable: &'n Variable<'a>,
     formula: &'n Formula<'a>,
 ) -> FormulaScope<'n, 'a>
-    ensures names { names_of result ≡ spec.names_for (known tables.now) variable.now.entity (formula_view formula.now) }
+    ensures names { names_of result ≡ steps.names_for (known tables.now) variable.now.entity (formula_view formula.now) }
     ensures none { result.locals ≡ [] }
 {
     FormulaScope {
@@ -74,7 +75,7 @@ fn typed<'n, 'a>(
     value_type: ValueType,
     formula: &'n Formula<'a>,
 ) -> Result<Typed, FormulaRefusal>
-    ensures { TellsPlace seen (typing.formula_of (spec.names_for (known tables.now) variable.now.entity (formula_view formula.now)) value_type (map spec.assigned_of (formula_view formula.now).locals) (formula_view formula.now).returned.value) result }
+    ensures { TellsPlace seen (typing.formula_of (steps.names_for (known tables.now) variable.now.entity (formula_view formula.now)) value_type (map spec.assigned_of (formula_view formula.now).locals) (formula_view formula.now).returned.value) result }
 {
     let names = names_for(alloc, tables, variable, formula);
     let locals = formula.locals.as_slice();
@@ -90,7 +91,7 @@ fn dated_of<'n, 'a>(
     value_type: ValueType,
     formula: &'n Formula<'a>,
 ) -> Result<Dated, BuildFault>
-    ensures { Tells dated (spec.dated_of (known tables.now) place variable.now.entity value_type (formula_view formula.now)) result }
+    ensures { Tells dated (steps.dated_of (known tables.now) place variable.now.entity value_type (formula_view formula.now)) result }
 {
     match typed(alloc, tables, variable, value_type, formula) {
         Ok(made) => Ok(Dated {
@@ -122,7 +123,7 @@ fn formulas_by<'n, 'a>(
     declaration: &'n Declaration<'a>,
     value_type: ValueType,
 ) -> Result<Vec<Dated>, BuildFault>
-    ensures { Tells (λ fs. map dated fs.items) (spec.formulas_by (known tables.now) variable.now.entity (written declaration.now) (Some value_type)) result }
+    ensures { Tells (λ fs. map dated fs.items) (steps.formulas_by (known tables.now) variable.now.entity (written declaration.now) (Some value_type)) result }
 {
     let mut made = Vec::new(alloc);
     for line in declaration.formulas.lines() {
@@ -165,7 +166,7 @@ fn formulas_of<'n, 'a>(
     variable: &'n Variable<'a>,
     declaration: &'n Declaration<'a>,
 ) -> Result<Vec<Dated>, BuildFault>
-    ensures { Tells (λ fs. map dated fs.items) (spec.formulas_of (known tables.now) (variable.now, written declaration.now)) result }
+    ensures { Tells (λ fs. map dated fs.items) (steps.formulas_of (known tables.now) (variable.now, written declaration.now)) result }
 {
     match type_in_formulas(variable.value_type) {
         Some(value_type) => formulas_by(alloc, tables, variable, declaration, value_type),
@@ -180,7 +181,7 @@ pub(crate) fn formulas_of_all<'n, 'a>(
     tables: &'n Tables<'a>,
     declarations: &'n [Declaration<'a>],
 ) -> Result<Vec<Vec<Dated>>, BuildFault>
-    ensures { Tells (λ fs. map (λ gs. map dated gs.items) fs.items) (spec.all_formulas (known tables.now) tables.now.variables (map written declarations.now)) result }
+    ensures { Tells (λ fs. map (λ gs. map dated gs.items) fs.items) (steps.all_formulas (known tables.now) tables.now.variables (map written declarations.now)) result }
 {
     let variables = tables.variables.as_slice();
     let mut made = Vec::with_capacity(alloc, variables.len())?;

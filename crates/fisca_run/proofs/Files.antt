@@ -2,7 +2,7 @@
 use Rattle.std.proofs.Common.{◌≡◌, ℕ, List, [], ◌∷◌, ◌++◌, Bool, true, false, codes, refl, sym, ap, ap₂, subst, ◌∙◌, map as list_map, if◌then◌else◌}
 use Rattle.std.specs.Prelude.{Result, Ok, Err}
 use Rattle.std.specs.Option.{unwrap_or}
-use Rattle.fisca_columns.specs.Calc.{columns_in, default_in}
+use Rattle.fisca_columns.specs.Steps.Calc.{columns_in, default_in}
 use Rattle.fisca_columns.specs.Faults.{fault_at, told}
 use Rattle.fisca_columns.specs.declared.fault.RunFileKind.TheVariants as kind
 use Rattle.fisca_grid.specs.declared.axes.AxesFault.TheVariants.{AxisOverlap}
@@ -17,19 +17,20 @@ use Rattle.fisca_model.specs.declared.key.Key.{Key}
 use Rattle.fisca_groups.specs.Lookup.{counts_of}
 use Rattle.fisca_groups.specs.declared.entity_members.EntityMembers.{EntityMembers}
 use Rattle.fisca_params.specs.Results.{and_then}
-use Rattle.fisca_run.specs.Readings.{input_read}
-use Rattle.fisca_run_file.specs.Conditions.{conditions_in}
-use Rattle.fisca_run_file.specs.Grids.{grid_of}
+use Rattle.fisca_run_file.specs.Steps.Conditions.{conditions_in}
+use Rattle.fisca_run_file.specs.Steps.Grids.{grid_of}
 use Rattle.fisca_run_file.specs.Keys.{file_checked}
 use Rattle.fisca_run_file.specs.Moved.{apart_from, shared_or_fault, sharing_checked, with_moved}
 use Rattle.fisca_situations.specs.AllAxes.{is_overlap, put_all_in}
-use Rattle.fisca_run_file.specs.Neutral.{marks_in}
-use Rattle.fisca_run_file.specs.RunFiles.{Movement, RunFile, Setting, asked_of, moved_in, movement_at, movement_in, movement_of, neutralized, reading_in, run_file_by, run_file_of, setting_in, setting_of}
-use Rattle.fisca_run_file.specs.SaidAxes.{SaidAxes, axes_said}
-use Rattle.fisca_situations.specs.Situations.{Situation, situation_by}
+use Rattle.fisca_run_file.specs.Steps.Neutral.{marks_in}
+use Rattle.fisca_run_file.specs.RunFiles.{Movement, RunFile, BaseSituation, asked_of, moved_in, movement_at, movement_in, movement_of, reading_in, run_file_by, run_file_of, base_situation_in, base_situation_of}
+use Rattle.fisca_run_file.specs.SaidAxes.{SaidAxes}
+use Rattle.fisca_run_file.specs.Steps.SaidAxes.{axes_said}
+use Rattle.fisca_situations.specs.Steps.Situations.{reading_of}
 use Rattle.fisca_situations.specs.declared.reading.Reading.{Reading}
 use Rattle.fisca_symbols.specs.declared.tables.Tables.{Tables}
-use Rattle.fisca_yaml.specs.Find.{get, line_at}
+use Rattle.fisca_yaml.specs.Find.{line_at}
+use Rattle.fisca_yaml.specs.Steps.Find.{get}
 use Rattle.fisca_yaml.specs.Node.{Node, null}
 
 told_ok : {X : Type 0} (r : Result X SituationFault) (x : X) → told r ≡ Ok x → r ≡ Ok x
@@ -38,39 +39,37 @@ told_ok (Err f) x h = cc
 
 -- The situation
 
--- of which reading a setting is
-pub record IsSetting (c : Tables) (n : Node) (s : Setting) : Type 0 where
+-- the members of an input, and the inputs as they are given
+abbrev input_read : Tables → Node → Result Reading SituationFault
+input_read c n = reading_of c (default_in n) (line_at (codes "input") 1 n) (unwrap_or (get (codes "input") n) null)
+
+-- of which reading a base_situation is
+pub record IsBaseSituation (c : Tables) (n : Node) (s : BaseSituation) : Type 0 where
   pub reading : Reading
   pub read : input_read c n ≡ Ok reading
-  pub members : s.situation.members ≡ reading.members
+  pub members : s.members ≡ reading.members
   pub given : s.given ≡ reading.given
 
-members_kept : (c : Tables) (r : Reading) (s : Situation) → situation_by c r ≡ Ok s → s.members ≡ r.members
-members_kept c r s h =
-    let shared =
-    then_ok (inputs_of (list_map rule_of c.variables) (counts_of r.members) r.given) (λ es. Ok (record { members = r.members; inputs = es })) s h in
-    let same : record { members = r.members; inputs = shared.0 } ≡ s = cc in
-    ap (λ (x : Situation). x.members) (sym same)
-
-setting_of_read : (c : Tables) (n : Node) (marks : List Bool) (r : Reading) (s : Setting) → input_read c n ≡ Ok r → setting_of c marks r ≡ Ok s
-    → IsSetting c n s
-unfolding setting_of
-setting_of_read c n marks r s is h =
-    let made = then_ok (told (situation_by c r)) (λ x. Ok (record { given = r.given; neutral = marks; situation = neutralized marks x })) s h in
-    let same : record { given = r.given; neutral = marks; situation = neutralized marks made.0 } ≡ s = cc in
+base_situation_of_read : (c : Tables) (n : Node) (marks : List Bool) (r : Reading) (s : BaseSituation) → input_read c n ≡ Ok r → base_situation_of c marks r ≡ Ok s
+    → IsBaseSituation c n s
+unfolding base_situation_of
+base_situation_of_read c n marks r s is h =
+    let shared = told (inputs_of (list_map rule_of c.variables) (counts_of r.members) r.given) in
+    let made = then_ok shared (λ _. Ok (record { members = r.members; given = r.given; neutral = marks })) s h in
+    let same : record { members = r.members; given = r.given; neutral = marks } ≡ s = cc in
     record {
       reading = r;
       read = is;
-      members = ap (λ (x : Setting). x.situation.members) (sym same) ∙ members_kept c r made.0 (told_ok (situation_by c r) made.0 made.1);
-      given = ap (λ (x : Setting). x.given) (sym same);
+      members = ap (λ (x : BaseSituation). x.members) (sym same);
+      given = ap (λ (x : BaseSituation). x.given) (sym same);
     }
 
-setting_from : (c : Tables) (n : Node) (s : Setting) → setting_in c n ≡ Ok s → IsSetting c n s
-unfolding setting_in
-setting_from c n s h =
-    let marked = then_ok (marks_in c n) (λ marks. and_then (reading_in c n) (setting_of c marks)) s h in
-    let read = then_ok (reading_in c n) (setting_of c marked.0) s marked.2 in
-    setting_of_read c n marked.0 read.0 s (told_ok (input_read c n) read.0 read.1) read.2
+base_situation_from : (c : Tables) (n : Node) (s : BaseSituation) → base_situation_in c n ≡ Ok s → IsBaseSituation c n s
+unfolding base_situation_in
+base_situation_from c n s h =
+    let marked = then_ok (marks_in c n) (λ marks. and_then (reading_in c n) (base_situation_of c marks)) s h in
+    let read = then_ok (reading_in c n) (base_situation_of c marked.0) s marked.2 in
+    base_situation_of_read c n marked.0 read.0 s (told_ok (input_read c n) read.0 read.1) read.2
 
 -- The axes
 
@@ -101,13 +100,13 @@ none_shared : (key : ℕ) (r : Result Entries SituationFault) (ks : List Key) �
 none_shared key (Ok es) ks h = refl
 none_shared key (Err f) ks h = cc
 
-moved_from : (c : Tables) (n : Node) (s : Setting) (a : SaidAxes) (groups : List (List AxisSpec)) (moved : List Given)
+moved_from : (c : Tables) (n : Node) (s : BaseSituation) (a : SaidAxes) (groups : List (List AxisSpec)) (moved : List Given)
     → axes_said (axes_line n) (unwrap_or (get (codes "axes") n) null) ≡ Ok a → grid_of (axes_line n) a ≡ Ok groups
-    → moved_in c (axes_line n) (default_in n) s a.axes ≡ Ok moved → IsMovement c n s.situation.members s.given groups moved
+    → moved_in c (axes_line n) (default_in n) s a.axes ≡ Ok moved → IsMovement c n s.members s.given groups moved
 unfolding moved_in
 moved_from c n s a groups moved said grid h =
     let key = axes_line n in
-    let ms = s.situation.members in
+    let ms = s.members in
     let all = then_ok (with_moved c ms (default_in n) [] a.axes)
     (λ gs. and_then (apart_from s.given [] gs) (λ _. and_then (sharing_checked c key ms s.given gs) (λ _. Ok gs))) moved h in
     let apart = then_ok (apart_from s.given [] all.0) (λ _. and_then (sharing_checked c key ms s.given all.0) (λ _. Ok all.0)) moved all.2 in
@@ -123,9 +122,9 @@ moved_from c n s a groups moved said grid h =
           ∙ none_shared key (inputs_of (list_map rule_of c.variables) (counts_of ms) (put_all_in s.given all.0)) shared.0 shared.1;
     }
 
-movement_from_said : (c : Tables) (n : Node) (s : Setting) (a : SaidAxes) (m : Movement)
+movement_from_said : (c : Tables) (n : Node) (s : BaseSituation) (a : SaidAxes) (m : Movement)
     → axes_said (axes_line n) (unwrap_or (get (codes "axes") n) null) ≡ Ok a
-    → movement_of c (axes_line n) (default_in n) s a ≡ Ok m → IsMovement c n s.situation.members s.given m.groups m.moved
+    → movement_of c (axes_line n) (default_in n) s a ≡ Ok m → IsMovement c n s.members s.given m.groups m.moved
 unfolding movement_of
 movement_from_said c n s a m said h =
     let key = axes_line n in
@@ -133,9 +132,9 @@ movement_from_said c n s a m said h =
     then_ok (grid_of key a) (λ groups. and_then (moved_in c key (default_in n) s a.axes) (λ moved. Ok (record { groups = groups; moved = moved }))) m h in
     let moving = then_ok (moved_in c key (default_in n) s a.axes) (λ moved. Ok (record { groups = grid.0; moved = moved })) m grid.2 in
     let same : record { groups = grid.0; moved = moving.0 } ≡ m = cc in
-    subst (λ (x : Movement). IsMovement c n s.situation.members s.given x.groups x.moved) same (moved_from c n s a grid.0 moving.0 said grid.1 moving.1)
+    subst (λ (x : Movement). IsMovement c n s.members s.given x.groups x.moved) same (moved_from c n s a grid.0 moving.0 said grid.1 moving.1)
 
-movement_from : (c : Tables) (n : Node) (s : Setting) (m : Movement) → movement_in c n s ≡ Ok m → IsMovement c n s.situation.members s.given m.groups m.moved
+movement_from : (c : Tables) (n : Node) (s : BaseSituation) (m : Movement) → movement_in c n s ≡ Ok m → IsMovement c n s.members s.given m.groups m.moved
 unfolding movement_at
 movement_from c n s m h =
     let said = then_ok (axes_said (axes_line n) (unwrap_or (get (codes "axes") n) null)) (movement_of c (axes_line n) (default_in n) s) m h in
@@ -147,22 +146,22 @@ movement_from c n s m h =
 pub record IsRead (c : Tables) (n : Node) (f : RunFile) : Type 0 where
   pub reading : Reading
   pub read : input_read c n ≡ Ok reading
-  pub members : f.situation.members ≡ reading.members
+  pub members : f.members ≡ reading.members
   pub given : f.given ≡ reading.given
-  pub movement : IsMovement c n f.situation.members f.given f.groups f.moved
+  pub movement : IsMovement c n f.members f.given f.groups f.moved
 
--- a file has the parts of its setting and of its movement
-record IsAskedOf (s : Setting) (m : Movement) (f : RunFile) : Type 0 where
-  situation : f.situation ≡ s.situation
+-- a file has the parts of its base_situation and of its movement
+record IsAskedOf (s : BaseSituation) (m : Movement) (f : RunFile) : Type 0 where
+  members : f.members ≡ s.members
   given : f.given ≡ s.given
   groups : f.groups ≡ m.groups
   moved : f.moved ≡ m.moved
 
-asked_from : (c : Tables) (n : Node) (s : Setting) (m : Movement) (f : RunFile) → asked_of c n s m ≡ Ok f → IsAskedOf s m f
+asked_from : (c : Tables) (n : Node) (s : BaseSituation) (m : Movement) (f : RunFile) → asked_of c n s m ≡ Ok f → IsAskedOf s m f
 unfolding asked_of
 asked_from c n s m f h =
-    let columns = then_ok (columns_in c s.situation.members n) (λ columns. and_then (conditions_in c s.situation.members n) (λ conditions. Ok (record {
-      situation = s.situation;
+    let columns = then_ok (columns_in c s.members n) (λ columns. and_then (conditions_in c s.members n) (λ conditions. Ok (record {
+      members = s.members;
       given = s.given;
       neutral = s.neutral;
       groups = m.groups;
@@ -170,8 +169,8 @@ asked_from c n s m f h =
       columns = columns;
       conditions = conditions;
     }))) f h in
-    let conditions = then_ok (conditions_in c s.situation.members n) (λ conditions. Ok (record {
-      situation = s.situation;
+    let conditions = then_ok (conditions_in c s.members n) (λ conditions. Ok (record {
+      members = s.members;
       given = s.given;
       neutral = s.neutral;
       groups = m.groups;
@@ -180,7 +179,7 @@ asked_from c n s m f h =
       conditions = conditions;
     })) f columns.2 in
     let same : ◌≡◌ {A = RunFile} (record {
-      situation = s.situation;
+      members = s.members;
       given = s.given;
       neutral = s.neutral;
       groups = m.groups;
@@ -188,13 +187,13 @@ asked_from c n s m f h =
       columns = columns.0;
       conditions = conditions.0;
     }) f = cc in
-    subst (IsAskedOf s m) same (record { situation = refl; given = refl; groups = refl; moved = refl })
+    subst (IsAskedOf s m) same (record { members = refl; given = refl; groups = refl; moved = refl })
 
-moved_by_file : (c : Tables) (n : Node) (s : Setting) (m : Movement) (f : RunFile) → IsAskedOf s m f
-    → IsMovement c n s.situation.members s.given m.groups m.moved
-    → IsMovement c n f.situation.members f.given f.groups f.moved
+moved_by_file : (c : Tables) (n : Node) (s : BaseSituation) (m : Movement) (f : RunFile) → IsAskedOf s m f
+    → IsMovement c n s.members s.given m.groups m.moved
+    → IsMovement c n f.members f.given f.groups f.moved
 moved_by_file c n s m f parts is =
-    let members : f.situation.members ≡ s.situation.members = ap (λ (x : Situation). x.members) parts.situation in
+    let members = parts.members in
     record {
       said = is.said;
       says = is.says;
@@ -203,33 +202,21 @@ moved_by_file c n s m f parts is =
       apart = ap₂ (λ gs hs. apart_from gs [] hs) parts.given parts.moved ∙ is.apart;
       shares =
           ap (λ ms. sharing_checked c (axes_line n) ms f.given f.moved) members ∙
-          (ap₂ (sharing_checked c (axes_line n) s.situation.members) parts.given parts.moved ∙ is.shares);
+          (ap₂ (sharing_checked c (axes_line n) s.members) parts.given parts.moved ∙ is.shares);
     }
 
 pub read_from : (c : Tables) (n : Node) (f : RunFile) → run_file_of c n ≡ Ok f → IsRead c n f
 unfolding run_file_of run_file_by
 read_from c n f h =
-    let checked = then_ok (file_checked n) (λ _. and_then (setting_in c n) (run_file_by c n)) f h in
-    let set = then_ok (setting_in c n) (run_file_by c n) f checked.2 in
+    let checked = then_ok (file_checked n) (λ _. and_then (base_situation_in c n) (run_file_by c n)) f h in
+    let set = then_ok (base_situation_in c n) (run_file_by c n) f checked.2 in
     let moving = then_ok (movement_in c n set.0) (asked_of c n set.0) f set.2 in
     let parts = asked_from c n set.0 moving.0 f moving.2 in
-    let setting = setting_from c n set.0 set.1 in
+    let base_situation = base_situation_from c n set.0 set.1 in
     record {
-      reading = setting.reading;
-      read = setting.read;
-      members = ap (λ (x : Situation). x.members) parts.situation ∙ setting.members;
-      given = parts.given ∙ setting.given;
+      reading = base_situation.reading;
+      read = base_situation.read;
+      members = parts.members ∙ base_situation.members;
+      given = parts.given ∙ base_situation.given;
       movement = moved_by_file c n set.0 moving.0 f parts (movement_from c n set.0 moving.0 moving.1);
     }
-
--- the input of an accepted file is read with its members
-pub members_again : (c : Tables) (n : Node) (f : RunFile) (r : Reading) → run_file_of c n ≡ Ok f → input_read c n ≡ Ok r → f.situation.members ≡ r.members
-members_again c n f r h is =
-    let from = read_from c n f h in
-    let same : Ok from.reading ≡ Ok r = sym from.read ∙ is in
-    let reading : from.reading ≡ r = cc in
-    from.members ∙ ap (λ (x : Reading). x.members) reading
-
--- and never refused
-pub never_refused : (c : Tables) (n : Node) (f : RunFile) (e : SituationFault) → run_file_of c n ≡ Ok f → input_read c n ≡ Err e → ⊥
-never_refused c n f e h is = let from = read_from c n f h in let both : Ok from.reading ≡ Err e = sym from.read ∙ is in cc

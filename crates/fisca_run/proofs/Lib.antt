@@ -1,5 +1,4 @@
 pub mod Files
-pub mod Grouped
 pub mod Marked
 pub mod Normal
 pub mod OfFiles

@@ -6,7 +6,8 @@ use Rattle.std.specs.List.{range_with_len}
 use Rattle.std.specs.Option.{unwrap_or}
 use Rattle.std.proofs.lemmas.Bool.{and_from, and_parts, cases_lt, eqb-true, eq-eqb, lt-ltb, or_left, or_right, true≢false}
 use Rattle.std.proofs.lemmas.Nat.Bits.{bit_at_or, bit_at-lt, bit_at-pow_other, bit_at-pow_same, bit_at-zero}
-use Rattle.fisca_run.specs.Marks.{IsMoved, has_mark, mark_of, marks_of, wheels_of}
+use Rattle.fisca_run_file.specs.Marks.{IsMoved, has_mark}
+use Rattle.fisca_run_file.specs.Steps.Marks.{mark_of, marks_of, wheels_of}
 use Rattle.fisca_situations.specs.Slots.{Slot}
 
 abbrev has : ℕ → ℕ → Bool

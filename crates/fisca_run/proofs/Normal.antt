@@ -15,10 +15,11 @@ use Rattle.fisca_inputs.specs.declared.given.Given.{Given}
 use Rattle.fisca_model.specs.Periods.{is_eternity, key_period}
 use Rattle.fisca_groups.specs.Lookup.{count_at}
 use Rattle.fisca_groups.specs.declared.entity_members.EntityMembers.{EntityMembers}
-use Rattle.fisca_run_file.specs.Moved.{if_numbers, moved_at, moved_by, moved_of, moved_or_fault, period_moved, variable_moved, with_moved}
-use Rattle.fisca_situations.specs.Slots.{has_numbers}
+use Rattle.fisca_run_file.specs.Moved.{with_moved}
+use Rattle.fisca_run_file.specs.Steps.Moved.{if_numbers, moved_at, moved_by, moved_of, moved_or_fault, period_moved, variable_moved}
+use Rattle.fisca_situations.specs.Steps.Slots.{has_numbers}
 use Rattle.fisca_run_file.specs.SaidAxes.{SaidAxis}
-use Rattle.fisca_situations.specs.Reading.{variable_of}
+use Rattle.fisca_situations.specs.Steps.Reading.{variable_of}
 use Rattle.fisca_run.proofs.Reading.{IsKept}
 use Rattle.fisca_slots.proofs.Turned.{IsNormal}
 use Rattle.fisca_symbols.specs.declared.tables.Tables.{Tables}

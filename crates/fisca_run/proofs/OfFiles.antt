@@ -4,11 +4,12 @@ use Rattle.std.specs.Prelude.{⊤, Ok, nat_lt, option_map}
 use Rattle.std.specs.List.{list_any}
 use Rattle.std.specs.Option.{unwrap_or}
 use Rattle.std.proofs.lemmas.Bool.{lt-ltb}
-use Rattle.fisca_columns.specs.Calc.{default_in}
+use Rattle.fisca_columns.specs.Steps.Calc.{default_in}
 use Rattle.fisca_grid.specs.AxesRow.{values_of}
 use Rattle.fisca_grid.specs.Grid.{axes_at, axes_in}
 use Rattle.fisca_inputs.specs.Entries.{Entries, key, same_key}
-use Rattle.fisca_inputs.specs.Inputs.{inputs_of, is_marked, without_marked}
+use Rattle.fisca_inputs.specs.Inputs.{inputs_of, without_marked}
+use Rattle.fisca_inputs.specs.Steps.Inputs.{is_marked}
 use Rattle.fisca_inputs.specs.Rules.{Rule, rule_of}
 use Rattle.fisca_inputs.specs.declared.given.Given.{Given}
 use Rattle.fisca_model.specs.declared.key.Key.{Key}
@@ -17,17 +18,19 @@ use Rattle.fisca_groups.specs.Lookup.{counts_of as member_counts}
 use Rattle.fisca_num.specs.Number.{Number}
 use Rattle.fisca_params.specs.Results.{and_then}
 use Rattle.fisca_situations.specs.AllAxes.{put_all_in}
-use Rattle.fisca_run_file.specs.Positions.{cut_by, inputs_with, moved_at, with_values}
-use Rattle.fisca_situations.specs.Cuts.{cut_for}
+use Rattle.fisca_run_file.specs.Positions.{moved_at}
+use Rattle.fisca_run_file.specs.Steps.Positions.{cut_by, inputs_with, with_values}
+use Rattle.fisca_situations.specs.Steps.Cuts.{cut_for}
 use Rattle.fisca_run_file.specs.RunFiles.{RunFile, run_file_of}
 use Rattle.fisca_slots.proofs.Anew.{Anew, set, share_for}
 use Rattle.fisca_grid.specs.declared.axes.AxisSpec.{AxisSpec}
-use Rattle.fisca_run_file.specs.Grids.{specs_of}
+use Rattle.fisca_run_file.specs.Steps.Grids.{specs_of}
 use Rattle.fisca_run_file.specs.SaidAxes.{SaidAxis}
 use Rattle.fisca_run.proofs.Files.{IsRead, axes_line, read_from}
 use Rattle.fisca_run.proofs.Reading.{all_kept}
 use Rattle.fisca_run.proofs.Said.{IsWhole, default_read, said_whole}
-use Rattle.fisca_yaml.specs.Find.{get, line_at}
+use Rattle.fisca_yaml.specs.Find.{line_at}
+use Rattle.fisca_yaml.specs.Steps.Find.{get}
 use Rattle.fisca_yaml.specs.Node.{Node, null}
 use Rattle.fisca_slots.proofs.Both.{Moving, keys_of as input_keys, length_parts}
 use Rattle.fisca_run.proofs.Normal.{AreNormal, kept_normal, moved_normal, rule_at}
@@ -41,9 +44,9 @@ use Rattle.fisca_slots.proofs.Steps.{AllPart, axes_grouped, values_at}
 use Rattle.fisca_slots.proofs.Turned.{IsMoved, IsPlaced, KeysApart, axis, inputs_turned, keys_of_zs, stand, stand_out, to_of}
 use Rattle.fisca_slots.proofs.TurnedSlots.{set_twice, turned_is}
 use Rattle.fisca_situations.proofs.Sets.{set_none}
-use Rattle.fisca_run.specs.Slots.{slots_of, slots_with}
+use Rattle.fisca_run_file.specs.Steps.Slots.{slots_of, slots_with}
 use Rattle.fisca_slots.specs.Turning.{turned_below, wheels_from}
-use Rattle.fisca_situations.specs.Slots.{is_divided, periods_of, share_by, slot_by, slot_of, turned}
+use Rattle.fisca_situations.specs.Steps.Slots.{is_divided, periods_of, share_by, slot_by, slot_of, turned}
 use Rattle.fisca_symbols.specs.declared.tables.Tables.{Tables}
 use Rattle.fisca_symbols.specs.declared.variable.Variable.{Variable}
 use Rattle.fisca_time.specs.Period.{subs}
@@ -225,11 +228,11 @@ module _ (c : Tables) (n : Node) (f : RunFile) (read : run_file_of c n ≡ Ok f)
 
   pub periods : ArePeriods f.moved × (length f.moved ≡ 0 + length axes)
   unfolding axes from
-  periods = moved_periods c f.situation.members (default_in n) [] axes f.moved (default_read n) whole.axes tt from.movement.moves
+  periods = moved_periods c f.members (default_in n) [] axes f.moved (default_read n) whole.axes tt from.movement.moves
 
   moved_are : AreNormal c f.moved
   unfolding axes from
-  moved_are = moved_normal c f.situation.members (default_in n) [] axes f.moved tt from.movement.moves
+  moved_are = moved_normal c f.members (default_in n) [] axes f.moved tt from.movement.moves
 
   normal_are : AreNormal c f.given
   normal_are =
@@ -238,8 +241,8 @@ module _ (c : Tables) (n : Node) (f : RunFile) (read : run_file_of c n ≡ Ok f)
       from.reading tt from.read)
 
   -- as they were shared when the file was read
-  first : (es : Entries) × (inputs_of (map rule_of c.variables) (member_counts f.situation.members) (put_all_in f.given f.moved) ≡ Ok es)
-  first = shared_first (axes_line n) (inputs_of (map rule_of c.variables) (member_counts f.situation.members) (put_all_in f.given f.moved)) [] from.movement.shares
+  first : (es : Entries) × (inputs_of (map rule_of c.variables) (member_counts f.members) (put_all_in f.given f.moved) ≡ Ok es)
+  first = shared_first (axes_line n) (inputs_of (map rule_of c.variables) (member_counts f.members) (put_all_in f.given f.moved)) [] from.movement.shares
 
   pub start : Entries
   start = without_marked f.neutral first.0
@@ -288,15 +291,15 @@ module _ (c : Tables) (n : Node) (f : RunFile) (read : run_file_of c n ≡ Ok f)
     apart : NoneOverlaps f.given [] (map given_of zs)
     apart = subst (NoneOverlaps f.given []) (sym read_back) (none_overlaps f.given [] f.moved [] from.movement.apart)
 
-    shared : inputs_of (map rule_of c.variables) (member_counts f.situation.members) (put_all_in f.given (with_values c f.moved vs))
+    shared : inputs_of (map rule_of c.variables) (member_counts f.members) (put_all_in f.given (with_values c f.moved vs))
         ≡ Ok (set (to_of (map rule_of c.variables) zs) first.0)
     shared =
-        ap (λ gs. inputs_of (map rule_of c.variables) (member_counts f.situation.members) (put_all_in f.given gs)) (sym (here_moving c f.moved vs))
-        ∙ inputs_turned (map rule_of c.variables) (member_counts f.situation.members) f.given zs distinct placed (all_moved c f.moved vs) apart first.0
-        (ap (λ gs. inputs_of (map rule_of c.variables) (member_counts f.situation.members) (put_all_in f.given gs)) read_back ∙ first.1)
+        ap (λ gs. inputs_of (map rule_of c.variables) (member_counts f.members) (put_all_in f.given gs)) (sym (here_moving c f.moved vs))
+        ∙ inputs_turned (map rule_of c.variables) (member_counts f.members) f.given zs distinct placed (all_moved c f.moved vs) apart first.0
+        (ap (λ gs. inputs_of (map rule_of c.variables) (member_counts f.members) (put_all_in f.given gs)) read_back ∙ first.1)
 
     pub zs_keys : Pairwise (IsPlaced (map rule_of c.variables) zs) (KeysApart (map rule_of c.variables)) zs
-    zs_keys = keys_of_zs (map rule_of c.variables) (member_counts f.situation.members) f.given zs distinct placed (all_moved c f.moved vs) apart
+    zs_keys = keys_of_zs (map rule_of c.variables) (member_counts f.members) f.given zs distinct placed (all_moved c f.moved vs) apart
 
     -- from the inputs where the axes have no values
     pub from_start : inputs_with c f (with_values c f.moved vs) ≡ Ok (turned_below (length f.groups) (slots_of c f) vs start)

@@ -6,17 +6,18 @@ use Rattle.std.proofs.lemmas.Bool.{eqb-true}
 use Rattle.fisca_grid.specs.AxesRow.{values_of}
 use Rattle.fisca_grid.specs.Grid.{axes_at}
 use Rattle.fisca_inputs.specs.Entries.{Entries, key, same_key, value_at}
-use Rattle.fisca_inputs.specs.Inputs.{is_marked}
+use Rattle.fisca_inputs.specs.Steps.Inputs.{is_marked}
 use Rattle.fisca_inputs.specs.Rules.{Rule, rule_of}
-use Rattle.fisca_inputs.specs.Sharing.{part_ratio}
+use Rattle.fisca_inputs.specs.Steps.Sharing.{part_ratio}
 use Rattle.fisca_inputs.specs.declared.given.Given.{Given}
 use Rattle.fisca_model.specs.declared.key.Key.{Key}
 use Rattle.fisca_model.specs.Periods.{fits, key_period}
 use Rattle.fisca_num.specs.Number.{Number, zero_number}
 use Rattle.fisca_num.specs.Operations.{number_of}
 use Rattle.fisca_num.specs.declared.faults.NumFault.TheVariants.{ZeroDivisor}
-use Rattle.fisca_run_file.specs.Positions.{cut_by, inputs_with, moved_at}
-use Rattle.fisca_situations.specs.Cuts.{cut_for}
+use Rattle.fisca_run_file.specs.Positions.{moved_at}
+use Rattle.fisca_run_file.specs.Steps.Positions.{cut_by, inputs_with}
+use Rattle.fisca_situations.specs.Steps.Cuts.{cut_for}
 use Rattle.fisca_run_file.specs.RunFiles.{RunFile, run_file_of}
 use Rattle.fisca_slots.proofs.Both.{Moving, keys_of as input_keys}
 use Rattle.fisca_run.proofs.Normal.{rule_at}
@@ -29,8 +30,9 @@ use Rattle.fisca_slots.proofs.Turned.{IsPlaced, KeysApart}
 use Rattle.fisca_slots.proofs.TurnedSlots.{AreApart, AreBelow, CanStand, IsLong, NoneAt, is_at, still_there, turned_again, wheels_in}
 use Rattle.fisca_slots.proofs.SameWheels.{Same, same_for, same_from, values_at_places}
 use Rattle.fisca_slots.specs.Turning.{AreSamePlaces, IsSamePlace, turned_below, wheels_from}
-use Rattle.fisca_run.specs.Slots.{places_of, slots_of, slots_with}
-use Rattle.fisca_situations.specs.Slots.{is_divided, periods_of, share_by, share_in, slot_by, slot_of}
+use Rattle.fisca_run_file.specs.Slots.{places_of}
+use Rattle.fisca_run_file.specs.Steps.Slots.{slots_of, slots_with}
+use Rattle.fisca_situations.specs.Steps.Slots.{is_divided, periods_of, share_by, share_in, slot_by, slot_of}
 use Rattle.fisca_symbols.specs.declared.tables.Tables.{Tables}
 use Rattle.fisca_symbols.specs.declared.variable.Variable.{Variable}
 use Rattle.fisca_time.specs.Period.{Span, is_period, subs}

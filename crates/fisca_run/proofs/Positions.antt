@@ -4,7 +4,7 @@ use Rattle.std.specs.Prelude.{⊤, Result, Ok, Err, nat_lt, option_map}
 use Rattle.std.specs.List.{list_any}
 use Rattle.std.specs.Option.{unwrap_or}
 use Rattle.std.proofs.lemmas.Bool.{or_parts}
-use Rattle.fisca_columns.specs.Calc.{default_in}
+use Rattle.fisca_columns.specs.Steps.Calc.{default_in}
 use Rattle.fisca_columns.specs.Faults.{fault_at}
 use Rattle.fisca_columns.specs.declared.fault.RunFileKind.TheVariants as kind
 use Rattle.fisca_grid.specs.AxesRow.{values_of}
@@ -36,11 +36,14 @@ use Rattle.fisca_run.proofs.Said.{AreSaid, HasPeriod, default_read, said_whole}
 use Rattle.fisca_slots.proofs.Shared.{Each, given_of}
 use Rattle.fisca_run.proofs.Situated.{AreGiven, inputs_there}
 use Rattle.fisca_slots.proofs.Steps.{AllPart, CanPart, values_at, whole_parts}
-use Rattle.fisca_run_file.specs.Grids.{grid_of, grid_unless, specs_of}
-use Rattle.fisca_run_file.specs.Moved.{apart_from, moved_at as moved_input, moved_by, moved_of, moved_or_fault, period_moved, shared_or_fault, sharing_checked, variable_moved, with_moved}
+use Rattle.fisca_run_file.specs.Steps.Grids.{grid_of, grid_unless, specs_of}
+use Rattle.fisca_run_file.specs.Moved.{apart_from, shared_or_fault, sharing_checked, with_moved}
+use Rattle.fisca_run_file.specs.Steps.Moved.{moved_at as moved_input, moved_by, moved_of, moved_or_fault, period_moved, variable_moved}
 use Rattle.fisca_situations.specs.AllAxes.{is_overlap, put_all_in}
-use Rattle.fisca_run_file.specs.Positions.{cut_by, moved_at, situation_with, with_values}
-use Rattle.fisca_situations.specs.Cuts.{cut_for, size_whole}
+use Rattle.fisca_run_file.specs.Positions.{moved_at, situation_with}
+use Rattle.fisca_run_file.specs.Steps.Positions.{cut_by, with_values}
+use Rattle.fisca_situations.specs.Cuts.{size_whole}
+use Rattle.fisca_situations.specs.Steps.Cuts.{cut_for}
 use Rattle.fisca_run_file.specs.RunFiles.{RunFile, run_file_of}
 use Rattle.fisca_run_file.specs.SaidAxes.{SaidAxes, SaidAxis}
 use Rattle.fisca_situations.specs.Situations.{Situation}
@@ -52,7 +55,8 @@ use Rattle.fisca_time.specs.Period.{Span, eternity, is_period}
 use Rattle.fisca_time.specs.declared.unit.Unit.{Unit}
 use Rattle.fisca_time.specs.declared.unit.Unit.TheVariants as unit
 use Rattle.fisca_model.specs.Tables.{otherwise}
-use Rattle.fisca_yaml.specs.Find.{get, line_at}
+use Rattle.fisca_yaml.specs.Find.{line_at}
+use Rattle.fisca_yaml.specs.Steps.Find.{get}
 use Rattle.fisca_yaml.specs.Node.{Node, null}
 
 -- What is given
@@ -220,21 +224,21 @@ pub record IsSituated (c : Tables) (f : RunFile) (position : ℕ) : Type 0 where
   pub is : situation_with c f moved ≡ Ok situation
 
 situated : (c : Tables) (f : RunFile) (position : ℕ) (vs : List Number) (es : Entries) → values_of (axes_at f.groups position) ≡ Some vs
-    → inputs_of (map rule_of c.variables) (counts_of f.situation.members) (put_all_in f.given (with_values c f.moved vs)) ≡ Ok es → IsSituated c f position
+    → inputs_of (map rule_of c.variables) (counts_of f.members) (put_all_in f.given (with_values c f.moved vs)) ≡ Ok es → IsSituated c f position
 situated c f position vs es values shared = record {
   moved = with_values c f.moved vs;
-  situation = record { members = f.situation.members; inputs = without_marked f.neutral es };
+  situation = record { members = f.members; inputs = without_marked f.neutral es };
   moves = ap (option_map (with_values c f.moved)) values;
-  is = ap (λ r. and_then (and_then r (λ fs. Ok (without_marked f.neutral fs))) (λ fs. Ok (record { members = f.situation.members; inputs = fs }))) shared;
+  is = ap (λ r. and_then (and_then r (λ fs. Ok (without_marked f.neutral fs))) (λ fs. Ok (record { members = f.members; inputs = fs }))) shared;
 }
 
 -- what was shared when the file was read is shared with these values
 with_axes_values : (c : Tables) (f : RunFile) (position key : ℕ) (vs : List Number) → values_of (axes_at f.groups position) ≡ Some vs → AllPart vs
     → length vs ≡ length f.moved → ArePeriods f.moved → AreGiven f.given → apart_from f.given [] f.moved ≡ Ok []
-    → sharing_checked c key f.situation.members f.given f.moved ≡ Ok [] → IsSituated c f position
+    → sharing_checked c key f.members f.given f.moved ≡ Ok [] → IsSituated c f position
 with_axes_values c f position key vs values parts many periods are apart shares =
     let rules = map rule_of c.variables in
-    let counts = counts_of f.situation.members in
+    let counts = counts_of f.members in
     let same : map given_of (moving c f.moved vs) ≡ f.moved = read_moving c f.moved vs many in
     let first = shared_first key (inputs_of rules counts (put_all_in f.given f.moved)) [] shares in
     let there = inputs_there rules counts f.given (moving c f.moved vs) first.0 are
@@ -250,12 +254,12 @@ module _ (c : Tables) (n : Node) (f : RunFile) (read : run_file_of c n ≡ Ok f)
       (all_kept c (default_in n) (default_read n) AreGiven (kept_given c) (line_at (codes "input") 1 n) (unwrap_or (get (codes "input") n) null) from.reading tt
       from.read)
 
-  by_movement : IsMovement c n f.situation.members f.given f.groups f.moved → IsSituated c f position
+  by_movement : IsMovement c n f.members f.given f.groups f.moved → IsSituated c f position
   by_movement is =
       let axes = is.said.axes in
       let whole = said_whole (axes_line n) (unwrap_or (get (codes "axes") n) null) is.said is.says in
       let grid = grid_parts (axes_line n) is.said f.groups is.grid in
-      let periods = moved_periods c f.situation.members (default_in n) [] axes f.moved (default_read n) whole.axes tt is.moves in
+      let periods = moved_periods c f.members (default_in n) [] axes f.moved (default_read n) whole.axes tt is.moves in
       let values = values_at (specs_of axes) is.said.lengths position grid.0 (whole.lengths ∙ sym (length_specs axes)) in
       let many : length values.0 ≡ length f.moved = omega (arith, values.3, length_specs axes, periods.1) in
       with_axes_values c f position (axes_line n) values.0 (ap (λ groups. values_of (axes_at groups position)) (sym grid.1) ∙ values.1) values.2 many periods.0 given_are

@@ -4,11 +4,12 @@ use Rattle.std.specs.Prelude.{⊤, Result, Ok, Err, sum, option_and_then}
 use Rattle.std.specs.Option.{unwrap_or}
 use Rattle.std.specs.Result.{result_ok}
 use Rattle.std.proofs.lemmas.Bool.{and_from, and_parts}
-use Rattle.fisca_columns.specs.Calc.{default_in, period_in}
+use Rattle.fisca_columns.specs.Steps.Calc.{default_in, period_in}
 use Rattle.fisca_grid.proofs.Groups.{sum_first}
 use Rattle.fisca_inputs.proofs.Typed.{then_ok}
 use Rattle.fisca_params.specs.Results.{and_then}
-use Rattle.fisca_run_file.specs.SaidAxes.{SaidAxes, SaidAxis, axes_said, axis_in, axis_keys_checked, axis_of, axis_said, count_items, name_in, needed, no_axes, period_at, spec_said, whole_at, with_axes, with_axis, with_group, with_groups, with_list}
+use Rattle.fisca_run_file.specs.SaidAxes.{SaidAxes, SaidAxis, no_axes}
+use Rattle.fisca_run_file.specs.Steps.SaidAxes.{axes_said, axis_in, axis_keys_checked, axis_of, axis_said, count_items, name_in, needed, period_at, spec_said, whole_at, with_axes, with_axis, with_group, with_groups, with_list}
 use Rattle.fisca_time.specs.Calendar.{day_number, month_number}
 use Rattle.fisca_time.specs.Instant.{CivilDate, is_between, is_on_calendar}
 use Rattle.fisca_time.specs.Period.{Span, eternity, months, days, if_in_calendar, is_in_calendar, is_period}
@@ -18,7 +19,7 @@ use Rattle.fisca_time.specs.declared.fault.TimeFault.{TimeFault}
 use Rattle.fisca_time.specs.declared.fault.TimeFault.TheVariants.{OutOfRange}
 use Rattle.fisca_time.specs.declared.unit.Unit.{Unit}
 use Rattle.fisca_time.specs.declared.unit.Unit.TheVariants.{Day, Month, Year, Eternity}
-use Rattle.fisca_yaml.specs.Find.{as_text, get}
+use Rattle.fisca_yaml.specs.Steps.Find.{as_text, get}
 use Rattle.fisca_yaml.specs.Node.{Node, null, scalar, list, map, Items, no_items, item, Entries}
 
 -- Texts

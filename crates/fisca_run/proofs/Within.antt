@@ -4,7 +4,7 @@ use Rattle.std.specs.Prelude.{⊤, Ok, nat_lt, sum}
 use Rattle.std.specs.List.{list_any}
 use Rattle.std.specs.Option.{option_or, unwrap_or}
 use Rattle.std.proofs.lemmas.Bool.{ltb-true}
-use Rattle.fisca_columns.specs.Calc.{default_in}
+use Rattle.fisca_columns.specs.Steps.Calc.{default_in}
 use Rattle.fisca_columns.specs.Faults.{fault_at}
 use Rattle.fisca_columns.specs.declared.fault.RunFileKind.TheVariants as kind
 use Rattle.fisca_grid.proofs.Groups.{few_axes, few_groups}
@@ -14,30 +14,32 @@ use Rattle.fisca_grid.specs.declared.axes.AxesFault.{AxesFault}
 use Rattle.fisca_grid.specs.declared.axes.AxesFault.TheVariants.{BadIndex, NoAxes}
 use Rattle.fisca_grid.specs.declared.axes.AxisSpec.{AxisSpec}
 use Rattle.fisca_inputs.proofs.Typed.{then_ok}
-use Rattle.fisca_inputs.specs.Inputs.{is_marked}
+use Rattle.fisca_inputs.specs.Steps.Inputs.{is_marked}
 use Rattle.fisca_inputs.specs.declared.given.Given.{Given}
 use Rattle.fisca_groups.specs.Lookup.{count_at}
 use Rattle.fisca_groups.specs.declared.entity_members.EntityMembers.{EntityMembers}
 use Rattle.fisca_num.specs.Number.{zero_number}
-use Rattle.fisca_run_file.specs.Grids.{specs_of}
-use Rattle.fisca_run_file.specs.Moved.{moved_at, moved_by, moved_of, moved_or_fault, period_moved, variable_moved, with_moved}
+use Rattle.fisca_run_file.specs.Steps.Grids.{specs_of}
+use Rattle.fisca_run_file.specs.Moved.{with_moved}
+use Rattle.fisca_run_file.specs.Steps.Moved.{moved_at, moved_by, moved_of, moved_or_fault, period_moved, variable_moved}
 use Rattle.fisca_run_file.specs.RunFiles.{RunFile, run_file_of}
 use Rattle.fisca_run_file.specs.SaidAxes.{SaidAxis}
-use Rattle.fisca_situations.specs.Reading.{variable_of}
+use Rattle.fisca_situations.specs.Steps.Reading.{variable_of}
 use Rattle.fisca_run.proofs.Files.{IsMovement, axes_line, read_from}
 use Rattle.fisca_run.proofs.Normal.{named}
 use Rattle.fisca_run.proofs.OfFiles.{AllBelow, below_all, wheel_is}
 use Rattle.fisca_run.proofs.Positions.{grid_parts, length_specs}
 use Rattle.fisca_run.proofs.Said.{said_whole}
-use Rattle.fisca_run.specs.Marks.{AreWithin}
-use Rattle.fisca_run.specs.Slots.{slots_of, slots_with}
+use Rattle.fisca_run_file.specs.Marks.{AreWithin}
+use Rattle.fisca_run_file.specs.Steps.Slots.{slots_of, slots_with}
 use Rattle.fisca_slots.specs.Turning.{wheels_from}
-use Rattle.fisca_situations.specs.Slots.{Slot, slot_by, slot_of}
+use Rattle.fisca_situations.specs.Slots.{Slot}
+use Rattle.fisca_situations.specs.Steps.Slots.{slot_by, slot_of}
 use Rattle.fisca_symbols.specs.declared.tables.Tables.{Tables}
 use Rattle.fisca_symbols.specs.declared.variable.Variable.{Variable}
 use Rattle.fisca_time.specs.Period.{Span}
 use Rattle.fisca_model.specs.Tables.{otherwise}
-use Rattle.fisca_yaml.specs.Find.{get}
+use Rattle.fisca_yaml.specs.Steps.Find.{get}
 use Rattle.fisca_yaml.specs.Node.{Node, null}
 
 some_inside : {X : Type 0} (xs : List X) (i : ℕ) (x : X) → slice_get xs i ≡ Some x → i < length xs
@@ -133,10 +135,10 @@ module _ (c : Tables) (marks : List Bool) where
 -- Files
 
 module _ (c : Tables) (n : Node) (f : RunFile) where
-  inside_file : IsMovement c n f.situation.members f.given f.groups f.moved → AreInside c f.moved
-  inside_file is = moved_inside c f.situation.members (default_in n) [] is.said.axes f.moved tt is.moves
+  inside_file : IsMovement c n f.members f.given f.groups f.moved → AreInside c f.moved
+  inside_file is = moved_inside c f.members (default_in n) [] is.said.axes f.moved tt is.moves
 
-  few_file : IsMovement c n f.situation.members f.given f.groups f.moved → length f.groups ≤ 16
+  few_file : IsMovement c n f.members f.given f.groups f.moved → length f.groups ≤ 16
   few_file is =
       let whole = said_whole (axes_line n) (unwrap_or (get (codes "axes") n) null) is.said is.says in
       let grid = grid_parts (axes_line n) is.said f.groups is.grid in

@@ -3,7 +3,8 @@ use Rattle.std.proofs.Common.{◌≡◌, ℕ, suc, List, [], ◌∷◌, ◌++◌
 use Rattle.std.specs.Prelude.{Result, Ok}
 use Rattle.fisca_columns.specs.declared.fault.RunFileFault.{RunFileFault}
 use Rattle.fisca_params.specs.Results.{and_then}
-use Rattle.fisca_run_file.specs.SaidAxes.{SaidAxes, SaidAxis, count_items, with_axes, with_list}
+use Rattle.fisca_run_file.specs.SaidAxes.{SaidAxes, SaidAxis}
+use Rattle.fisca_run_file.specs.Steps.SaidAxes.{count_items, with_axes, with_list}
 use Rattle.fisca_yaml.specs.Views.{items_view}
 use Rattle.fisca_yaml.specs.declared.tree.Item.{Item}
 

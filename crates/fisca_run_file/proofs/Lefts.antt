@@ -4,7 +4,7 @@ use Rattle.std.specs.Option.{option_or}
 use Rattle.std.proofs.lemmas.List.{drop-map, take-map}
 use Rattle.fisca_grid.proofs.Groups.{left_grouped, sum_first}
 use Rattle.fisca_grid.specs.Grid.{groups_of}
-use Rattle.fisca_run_file.specs.Grids.{differing_line, first_differing}
+use Rattle.fisca_run_file.specs.Steps.Grids.{differing_line, first_differing}
 use Rattle.fisca_run_file.specs.Views.{said_axis, said_list}
 use Rattle.fisca_run_file.specs.declared.said_axis.SaidAxis.{SaidAxis}
 

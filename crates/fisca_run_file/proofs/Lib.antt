@@ -1,4 +1,5 @@
 pub mod Counted
+pub mod Grouped
 pub mod Lefts
 pub mod Spaces
 pub mod Valued

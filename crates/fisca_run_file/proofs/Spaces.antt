@@ -2,8 +2,8 @@
 use Rattle.std.proofs.Common.{◌≡◌, ◌≢◌, ℕ, eqb, List, [], ◌∷◌, ◌++◌, reverse, ⊎_elim, refl, ap, ◌∙◌, sym}
 use Rattle.std.proofs.lemmas.Bool.{cases_Bool, eqb-true}
 use Rattle.std.proofs.lemmas.List.{reverse-append, reverse-reverse}
-use Rattle.fisca_grid.specs.Condition.{past_spaces}
-use Rattle.fisca_run_file.specs.Conditions.{before_spaces}
+use Rattle.fisca_grid.specs.Steps.Condition.{past_spaces}
+use Rattle.fisca_run_file.specs.Steps.Conditions.{before_spaces}
 
 -- a space more at the end is one of the last
 pub space_passed : (front : List ℕ) → before_spaces (front ++ 32 ∷ []) ≡ before_spaces front

@@ -4,7 +4,7 @@ use Rattle.std.proofs.lemmas.List.{drop_all}
 use Rattle.fisca_inputs.specs.declared.given.Given.{Given}
 use Rattle.fisca_num.specs.Number.{Number}
 use Rattle.fisca_symbols.specs.declared.tables.Tables.{Tables}
-use Rattle.fisca_run_file.specs.Positions.{given_with, with_values}
+use Rattle.fisca_run_file.specs.Steps.Positions.{given_with, with_values}
 
 module _ (c : Tables) where
   pub values_here : (gs : List Given) (ns : List Number) (i : ℕ) (g : Given) (n : Number) → i < length gs → i < length ns

@@ -10,7 +10,8 @@ use Rattle.fisca_time.specs.Period.{Span, eternity, months}
 use Rattle.fisca_time.specs.declared.unit.Unit.TheVariants as unit
 use Rattle.fisca_run_file.specs.Moved.{apart_from}
 use Rattle.fisca_situations.specs.AllAxes.{put_all_in}
-use Rattle.fisca_inputs.specs.Overlaps.{overlaps, shares_day}
+use Rattle.fisca_inputs.specs.Overlaps.{shares_day}
+use Rattle.fisca_inputs.specs.Steps.Overlaps.{overlaps}
 
 abbrev january : Span
 january = months unit.Month (12 * 2017) 1

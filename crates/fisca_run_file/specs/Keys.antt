@@ -1,23 +1,15 @@
 -- The keys of a run file: `axes`, and perhaps `period`, `input`, `filter`, `columns` and `neutralize`.
-use Rattle.std.specs.Prelude.{ℕ, List, [], Bool, true, ◌&&◌, ◌||◌, is_some, if◌then◌else◌, Option, Some, None, Result, Ok, codes}
+use Rattle.std.specs.Prelude.{ℕ, List, [], if◌then◌else◌, Option, Some, None, Result, Ok, codes}
 use Rattle.std.specs.Str.{bytes_eq}
-use Rattle.fisca_columns.specs.Calc.{period_in, are_columns}
 use Rattle.fisca_columns.specs.Faults.{fault_at}
 use Rattle.fisca_columns.specs.declared.fault.RunFileFault.{RunFileFault}
 use Rattle.fisca_columns.specs.declared.fault.RunFileKind.TheVariants.{BadKey}
 use Rattle.fisca_model.specs.declared.key.Key.{Key}
 use Rattle.fisca_params.specs.Results.{and_then}
-use Rattle.fisca_yaml.specs.Find.{get}
+use Rattle.fisca_yaml.specs.Steps.Find.{get}
 use Rattle.fisca_yaml.specs.Node.{Node, null, scalar, list, map, Entries, no_entries, entry}
-use Rattle.fisca_run_file.specs.SaidAxes.{axes_said}
-
--- A period that can be read, any input, and one scalar or a list of scalars for columns, conditions and names to neutralise; beside `axes` there is no
--- other key.
-abbrev pub is_accepted : List ℕ → Node → Bool
-is_accepted key n =
-    if bytes_eq key (codes "period") then is_some (period_in n)
-    else (if bytes_eq key (codes "input") then true
-    else ((bytes_eq key (codes "columns") || (bytes_eq key (codes "filter") || bytes_eq key (codes "neutralize"))) && are_columns n))
+use Rattle.fisca_run_file.specs.Steps.SaidAxes.{axes_said}
+use Rattle.fisca_run_file.specs.Steps.Keys.{is_accepted}
 
 -- axes are read through, and tell of their own first fault; of another key that is not accepted the line of the key is told
 abbrev pub key_checked : List ℕ → ℕ → Node → Result (List Key) RunFileFault

@@ -4,8 +4,8 @@ ghost use Rattle.std.specs.Prelude.{◌≡◌, option_map};
 ghost use Rattle.fisca_grid.specs.Condition.{signs};
 ghost use Rattle.fisca_grid.specs.Words.{literal_of};
 ghost use Rattle.fisca_model.specs.Tables.{variable_type};
-ghost use Rattle.fisca_run_file.specs.Conditions as spec;
-ghost use Rattle.fisca_situations.specs.Views.{situation as situation_view};
+ghost use Rattle.fisca_run_file.specs.Steps.Conditions as spec;
+ghost use Rattle.fisca_situations.specs.Steps.Views.{situation as situation_view};
 ghost use Rattle.fisca_symbols.specs.Known.{tables as known};
 ghost use Rattle.fisca_symbols.specs.KnownVariables.{value_type as known_type};
 

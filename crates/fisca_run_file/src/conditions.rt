@@ -4,7 +4,8 @@ ghost use Rattle.std.specs.Prelude.{◌≡◌, [], ◌∷◌, ◌++◌, Ok, OnOk
 ghost use Rattle.fisca_columns.specs.Outcomes.{Answers, Tells};
 ghost use Rattle.fisca_params.specs.Results.{and_then};
 ghost use Rattle.fisca_run_file.specs.Conditions as spec;
-ghost use Rattle.fisca_situations.specs.Views.{situation as situation_view};
+ghost use Rattle.fisca_run_file.specs.Steps.Conditions as steps;
+ghost use Rattle.fisca_situations.specs.Steps.Views.{situation as situation_view};
 ghost use Rattle.fisca_symbols.specs.Known.{tables as known};
 ghost use Rattle.fisca_yaml.specs.Views.{node, items_view};
 
@@ -49,7 +50,7 @@ fn condition_at(
     line: usize,
     text: &str,
 ) -> Result<Condition, RunFileFault>
-    ensures { Answers (λ x. x) (spec.condition_or_fault line (spec.condition_of (known tables.now) (situation_view situation.now).members default text.now)) result }
+    ensures { Answers (λ x. x) (spec.condition_or_fault line (steps.condition_of (known tables.now) (situation_view situation.now).members default text.now)) result }
 {
     match read_condition(tables, situation, text, default) {
         Some(condition) => Ok(condition),
@@ -86,7 +87,7 @@ fn listed_conditions(
     default: &Option<Period>,
     items: &[Item<'_>],
 ) -> Result<Conditions, RunFileFault>
-    ensures { Tells (λ c. c) (spec.with_conditions tables.now (situation_view situation.now).members default.now [] (items_view items.now)) result }
+    ensures { Tells (λ c. c) (steps.with_conditions tables.now (situation_view situation.now).members default.now [] (items_view items.now)) result }
 {
     let mut found = Vec::new(alloc);
     for item in items {
@@ -116,7 +117,7 @@ fn one_condition(
     line: usize,
     text: &str,
 ) -> Result<Conditions, RunFileFault>
-    ensures { Tells (λ c. c) (and_then (spec.condition_or_fault line (spec.condition_of (known tables.now) (situation_view situation.now).members default text.now)) (λ x. Ok (x ∷ []))) result }
+    ensures { Tells (λ c. c) (and_then (spec.condition_or_fault line (steps.condition_of (known tables.now) (situation_view situation.now).members default text.now)) (λ x. Ok (x ∷ []))) result }
 {
     let Condition {
         key,
@@ -141,7 +142,7 @@ fn conditions_by(
     default: Option<Period>,
     tree: &Tree<'_>,
 ) -> Result<Conditions, RunFileFault>
-    ensures { Tells (λ c. c) (spec.conditions_by tables.now (situation_view situation.now).members default (node tree.now)) result }
+    ensures { Tells (λ c. c) (steps.conditions_by tables.now (situation_view situation.now).members default (node tree.now)) result }
 {
     match tree {
         Tree::Scalar { text, line, .. } => {
@@ -163,7 +164,7 @@ pub(crate) fn conditions_in(
     situation: &Situation,
     tree: &Tree<'_>,
 ) -> Result<Conditions, RunFileFault>
-    ensures { Tells (λ c. c) (spec.conditions_in tables.now (situation_view situation.now).members (node tree.now)) result }
+    ensures { Tells (λ c. c) (steps.conditions_in tables.now (situation_view situation.now).members (node tree.now)) result }
 {
     let default = default_in(tree);
     match tree.get("filter") {

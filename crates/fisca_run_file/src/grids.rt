@@ -2,9 +2,10 @@
 
 ghost use Rattle.std.specs.Prelude.{◌≡◌, IfOk, is_some, length, map, sum};
 ghost use Rattle.fisca_columns.specs.Outcomes.{Tells};
-ghost use Rattle.fisca_grid.specs.Axes.{axis_fault, is_bound};
+ghost use Rattle.fisca_grid.specs.Axes.{axis_fault};
+ghost use Rattle.fisca_grid.specs.Steps.Axes.{is_bound};
 ghost use Rattle.fisca_grid.specs.Grid.{groups_of};
-ghost use Rattle.fisca_run_file.specs.Grids as spec;
+ghost use Rattle.fisca_run_file.specs.Steps.Grids as spec;
 ghost use Rattle.fisca_run_file.specs.Views.{said_axes as said_axes_view, said_list};
 
 use crate::said::SaidAxes;

@@ -3,6 +3,7 @@
 ghost use Rattle.std.specs.Prelude.{◌≡◌, [], option_map};
 ghost use Rattle.fisca_columns.specs.Outcomes.{Answers, Tells};
 ghost use Rattle.fisca_run_file.specs.Keys as spec;
+ghost use Rattle.fisca_run_file.specs.Steps.Keys as steps;
 ghost use Rattle.fisca_yaml.specs.Views.{node, entries_view};
 
 use crate::said_axes::axes_said;
@@ -13,7 +14,7 @@ use std::alloc::Global;
 
 /// Whether a key beside `axes` has what it may have.
 fn is_accepted(key: &str, tree: &Tree<'_>) -> bool
-    ensures { result ≡ spec.is_accepted key.now (node tree.now) }
+    ensures { result ≡ steps.is_accepted key.now (node tree.now) }
 {
     match key {
         "period" => period_in(tree).is_some(),

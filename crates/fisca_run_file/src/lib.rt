@@ -1,11 +1,13 @@
 //! Files of `fisca run`: a situation, the axes that move some of its inputs, columns, and the conditions of a filter.
 #![tactic(auto)]
 
+mod base_situation;
 mod condition;
 mod conditions;
 mod file;
 mod grids;
 mod keys;
+mod marks;
 mod moved;
 mod movement;
 mod neutral;
@@ -14,11 +16,13 @@ mod run_file;
 mod said;
 mod said_axes;
 mod said_axis;
-mod setting;
 mod sharing;
+mod slots;
 
 pub use condition::{Condition, read_condition};
 pub use conditions::Conditions;
-pub use file::RunFile;
+pub use file::{RunFile, RunRequest, RunStart};
 pub use fisca_inputs::overlaps;
+pub use marks::wheels_of;
 pub use moved::MovedInputs;
+pub use slots::slots_of;

@@ -3,18 +3,19 @@
 ghost use Rattle.std.specs.Prelude.{◌≡◌, [], option_map};
 ghost use Rattle.fisca_columns.specs.Outcomes.{Answers, Tells};
 ghost use Rattle.fisca_run_file.specs.Moved as spec;
+ghost use Rattle.fisca_run_file.specs.Steps.Moved as steps;
 ghost use Rattle.fisca_situations.specs.AllAxes as all_axes;
 ghost use Rattle.fisca_run_file.specs.Views.{said_axis as said_axis_view, said_list};
-ghost use Rattle.fisca_situations.specs.Reading as naming;
-ghost use Rattle.fisca_situations.specs.Views.{situation as situation_view};
+ghost use Rattle.fisca_situations.specs.Steps.Reading as naming;
 
 use crate::said_axis::SaidAxis;
 use fisca_columns::{RunFileFault, RunFileKind};
 use fisca_grid::AxesFault;
 use fisca_inputs::{Given, key_period, meets, overlaps, takes};
+use fisca_members::Members;
 use fisca_model::Value;
 use fisca_num::Fraction;
-use fisca_situations::{Situation, has_numbers, push_input};
+use fisca_situations::{has_numbers, push_input};
 use fisca_symbols::{Tables, Variable};
 use fisca_time::{Period, Unit};
 use std::alloc::Global;
@@ -57,7 +58,7 @@ fn variable_of(tables: &Tables<'_>, name: &str) -> Option<usize>
 
 /// The variable of this name, with its place, where its values are numbers.
 fn variable_moved<'e, 'r>(tables: &'e Tables<'r>, name: &str) -> Option<(usize, &'e Variable<'r>)>
-    ensures { option_map (λ p. (p.0, p.1.now)) result ≡ spec.variable_moved tables.now name.now }
+    ensures { option_map (λ p. (p.0, p.1.now)) result ≡ steps.variable_moved tables.now name.now }
 {
     let place = variable_of(tables, name)?;
     let declared = tables.variables.as_slice().get(place)?;
@@ -70,7 +71,7 @@ fn variable_moved<'e, 'r>(tables: &'e Tables<'r>, name: &str) -> Option<(usize, 
 
 /// The period of the input that an axis moves at a period, if the variable is given values for it.
 fn period_moved(variable: &Variable<'_>, period: Option<Period>) -> Option<Period>
-    ensures { result ≡ spec.period_moved variable.now period }
+    ensures { result ≡ steps.period_moved variable.now period }
 {
     match period {
         Some(period) if takes(variable, period) => Some(key_period(variable, period)),
@@ -95,16 +96,16 @@ fn fault_of(axis: &SaidAxis, fault: AxesFault) -> RunFileFault
 /// The input that an axis moves.
 fn moved_by(
     tables: &Tables<'_>,
-    situation: &Situation,
+    members: &Members,
     default: Option<Period>,
     axis: &SaidAxis,
 ) -> Result<Given, RunFileFault>
-    ensures { Answers (λ g. g) (spec.moved_by tables.now (situation_view situation.now).members default (said_axis_view axis.now)) result }
+    ensures { Answers (λ g. g) (steps.moved_by tables.now members.now default (said_axis_view axis.now)) result }
 {
     let Some((variable, declared)) = variable_moved(tables, axis.name.as_str()) else {
         return Err(fault_of(axis, AxesFault::UnknownVariable));
     };
-    if axis.index >= u64::from(situation.members(declared.entity)) {
+    if axis.index >= u64::from(members.count(declared.entity)) {
         return Err(fault_of(axis, AxesFault::BadIndex));
     }
     let Some(period) = period_moved(declared, axis.period.or(default)) else {
@@ -123,11 +124,11 @@ fn moved_by(
 pub(crate) fn all_moved(
     alloc: Global,
     tables: &Tables<'_>,
-    situation: &Situation,
+    members: &Members,
     default: &Option<Period>,
     axes: &[SaidAxis],
 ) -> Result<MovedInputs, RunFileFault>
-    ensures { Tells (λ m. m) (spec.with_moved tables.now (situation_view situation.now).members default.now [] (said_list axes.now)) result }
+    ensures { Tells (λ m. m) (spec.with_moved tables.now members.now default.now [] (said_list axes.now)) result }
 {
     let mut items = Vec::new(alloc);
     for axis in axes {
@@ -137,7 +138,7 @@ pub(crate) fn all_moved(
             period,
             value,
             line,
-        } = moved_by(tables, situation, *default, axis)?;
+        } = moved_by(tables, members, *default, axis)?;
         let input = Given {
             variable,
             member,

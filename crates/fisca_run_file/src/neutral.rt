@@ -2,7 +2,7 @@
 
 ghost use Rattle.std.specs.Prelude.{◌≡◌, IfOk};
 ghost use Rattle.fisca_columns.specs.Outcomes.{Tells};
-ghost use Rattle.fisca_run_file.specs.Neutral as spec;
+ghost use Rattle.fisca_run_file.specs.Steps.Neutral as spec;
 ghost use Rattle.fisca_yaml.specs.Views.{node, items_view};
 
 use fisca_columns::{RunFileFault, RunFileKind};

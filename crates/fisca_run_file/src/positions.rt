@@ -5,10 +5,11 @@ ghost use Rattle.fisca_grid.specs.AxesRow.{values_of};
 ghost use Rattle.fisca_grid.specs.Grid.{axes_at, size_of};
 ghost use Rattle.fisca_inputs.specs.Outcomes.{Tells};
 ghost use Rattle.fisca_run_file.specs.Positions as spec;
-ghost use Rattle.fisca_run_file.specs.Views.{run_file as run_file_view};
-ghost use Rattle.fisca_situations.specs.Views.{situation as situation_view};
+ghost use Rattle.fisca_run_file.specs.Steps.Positions as spec_steps;
+ghost use Rattle.fisca_run_file.specs.Views.{file_with};
+ghost use Rattle.fisca_situations.specs.Steps.Views.{situation as situation_view};
 
-use crate::file::RunFile;
+use crate::file::RunRequest;
 use crate::sharing::put_all_in;
 use fisca_grid::Axes;
 use fisca_inputs::{Given, Inputs, SituationFault};
@@ -21,7 +22,7 @@ use std::alloc::{AllocError, Global};
 
 /// A value of an axis for the variable at a place.
 fn cut_by(tables: &Tables<'_>, variable: usize, value: Fraction) -> Fraction
-    ensures { result ≡ spec.cut_by (slice_get tables.now.variables variable) value }
+    ensures { result ≡ spec_steps.cut_by (slice_get tables.now.variables variable) value }
 {
     match tables.variables.as_slice().get(variable) {
         Some(declared) => cut_for(declared.value_type, value),
@@ -31,7 +32,7 @@ fn cut_by(tables: &Tables<'_>, variable: usize, value: Fraction) -> Fraction
 
 /// An input with the value of its axis.
 fn given_with(tables: &Tables<'_>, given: &Given, value: Fraction) -> Given
-    ensures { result ≡ spec.given_with tables.now given.now value }
+    ensures { result ≡ spec_steps.given_with tables.now given.now value }
 {
     Given {
         variable: given.variable,
@@ -69,7 +70,7 @@ fn put_values(
     values: &[Fraction],
     found: &mut Vec<Given>,
 ) -> Result<(), AllocError>
-    ensures { OnOk result (found.new.items ≡ spec.with_values tables.now moved.now values.now) }
+    ensures { OnOk result (found.new.items ≡ spec_steps.with_values tables.now moved.now values.now) }
 {
     found.clear();
     for i in 0..moved.len() {
@@ -81,7 +82,7 @@ fn put_values(
     Ok(())
 }
 
-impl RunFile {
+impl RunRequest {
     /// The inputs that the axes move, in the order of the axes, with the values that these have at a position: those of a variable of whole
     /// numbers are cut towards zero. `AllocError` only where memory was refused. This project's own rule.
     pub fn moved_at(
@@ -90,8 +91,8 @@ impl RunFile {
         tables: &Tables<'_>,
         position: u64,
     ) -> Result<Vec<Given>, AllocError>
-        requires { position < size_of (run_file_view self.now).groups }
-        ensures { IfOk result (λ v. spec.moved_at tables.now (run_file_view self.now) position ≡ Some v.items) }
+        requires { position < size_of self.now.axes }
+        ensures { IfOk result (λ v. spec_steps.moved_by tables.now self.now.axes self.now.moved position ≡ Some v.items) }
     {
         let mut steps = Vec::new(alloc);
         let mut found = Vec::new(alloc);
@@ -108,32 +109,33 @@ impl RunFile {
         steps: &mut Vec<Fraction>,
         found: &mut Vec<Given>,
     ) -> Result<(), AllocError>
-        requires { position < size_of (run_file_view self.now).groups }
-        ensures { OnOk result (spec.moved_at tables.now (run_file_view self.now) position ≡ Some found.new.items) }
+        requires { position < size_of self.now.axes }
+        ensures { OnOk result (spec_steps.moved_by tables.now self.now.axes self.now.moved position ≡ Some found.new.items) }
     {
         put_steps(&self.axes, position, steps)?;
         put_values(tables, self.moved.as_slice(), steps.as_slice(), found)
     }
 
-    /// The inputs by keys, where these are put in or replace those of just their variables, members and periods: shared anew, and without
-    /// those of neutralised variables. Else as `Inputs::share` tells.
+    /// The inputs of these members by keys, where these are put in or replace those of just their variables, members and periods: shared
+    /// anew, and without those of neutralised variables. Else as `Inputs::share` tells.
     pub fn inputs_with(
         &self,
         alloc: Global,
         tables: &Tables<'_>,
+        members: &Members,
         moved: &[Given],
     ) -> Result<Inputs, SituationFault>
-        ensures { Tells (λ i. i) (spec.inputs_with tables.now (run_file_view self.now) moved.now) result }
+        ensures { Tells (λ i. i) (spec_steps.inputs_with tables.now (file_with members.now self.now) moved.now) result }
     {
         let all = put_all_in(alloc, self.given.as_slice(), moved)?;
-        let counts = self.situation.members.counts(alloc)?;
+        let counts = members.counts(alloc)?;
         let variables = tables.variables.as_slice();
         let mut inputs = Inputs::share(alloc, variables, counts.as_slice(), all.as_slice())?;
         inputs.neutralize(self.neutral.as_slice());
         Ok(inputs)
     }
 
-    /// The situation with these members, which are those of the file, and these inputs put in, as `inputs_with` does.
+    /// The situation of these members, where these inputs are put in, as `inputs_with` does.
     pub fn situation_with(
         &self,
         alloc: Global,
@@ -141,10 +143,9 @@ impl RunFile {
         members: Members,
         moved: &[Given],
     ) -> Result<Situation, SituationFault>
-        requires { members ≡ (run_file_view self.now).situation.members }
-        ensures { Tells situation_view (spec.situation_with tables.now (run_file_view self.now) moved.now) result }
+        ensures { Tells situation_view (spec.situation_with tables.now (file_with members self.now) moved.now) result }
     {
-        let inputs = self.inputs_with(alloc, tables, moved)?;
+        let inputs = self.inputs_with(alloc, tables, &members, moved)?;
         Ok(Situation { members, inputs })
     }
 }

@@ -1,25 +1,32 @@
 //! Files of `fisca run`.
 
-ghost use Rattle.std.specs.Prelude.{◌≡◌, length, map};
+ghost use Rattle.std.specs.Prelude.{◌≡◌, Ok, IfOk, length, map};
 ghost use Rattle.fisca_columns.specs.Outcomes.{Tells};
-ghost use Rattle.fisca_inputs.specs.Overlaps.{overlaps as overlaps_spec};
+ghost use Rattle.fisca_inputs.specs.Steps.Overlaps.{overlaps as overlaps_spec};
+ghost use Rattle.fisca_run_file.specs.Steps.Marks.{wheels_of as wheels_spec};
+ghost use Rattle.fisca_run_file.specs.Positions.{IsBeginning};
 ghost use Rattle.fisca_run_file.specs.RunFiles as spec;
-ghost use Rattle.fisca_run_file.specs.Views.{movement as movement_view, run_file as run_file_view, setting as setting_view};
-ghost use Rattle.fisca_situations.specs.Views.{situation as situation_view};
+ghost use Rattle.fisca_run_file.specs.Steps.RunFiles as steps;
+ghost use Rattle.fisca_run_file.specs.Steps.Slots.{slots_of as slots_spec};
+ghost use Rattle.fisca_run_file.specs.Views.{movement as movement_view, run_file as run_file_view, base_situation as base_situation_view};
+ghost use Rattle.fisca_situations.specs.Views.{slot_list};
+ghost use Rattle.fisca_situations.specs.Steps.Views.{situation as situation_view};
 ghost use Rattle.fisca_yaml.specs.Views.{node};
 
+use crate::base_situation::{BaseSituation, base_situation_in};
 use crate::conditions::conditions_in;
-use crate::file::{Movement, RunFile};
+use crate::file::{Movement, RunFile, RunRequest, RunStart};
 use crate::keys::check_file;
+use crate::marks::wheels_of;
 use crate::movement::movement_in;
-use crate::setting::{Setting, setting_in};
+use crate::slots::slots_of;
 use fisca_columns::{RunFileFault, columns_in};
 use fisca_inputs::overlaps;
 use fisca_situations::Situation;
 use fisca_symbols::Tables;
 use fisca_time::Period;
 use fisca_yaml::Tree;
-use std::alloc::Global;
+use std::alloc::{AllocError, Global};
 
 /// The columns and the conditions of the file.
 #[tactic(auto, unfolding(crate::specs::RunFiles::asked_of))]
@@ -27,32 +34,38 @@ fn asked_of(
     alloc: Global,
     tables: &Tables<'_>,
     tree: &Tree<'_>,
-    setting: Setting,
+    base_situation: BaseSituation,
     movement: Movement,
 ) -> Result<RunFile, RunFileFault>
-    ensures { Tells run_file_view (spec.asked_of tables.now (node tree.now) (setting_view setting) (movement_view movement)) result }
+    requires inputs { steps.inputs_by tables.now (base_situation_view base_situation) movement.moved ≡ Ok movement.inputs }
+    ensures file { Tells run_file_view (spec.asked_of tables.now (node tree.now) (base_situation_view base_situation) (movement_view movement)) result }
+    ensures begins { IfOk result (λ f. IsBeginning tables.now (run_file_view f) (situation_view f.situation)) }
 {
-    let Setting {
+    let BaseSituation {
+        members,
         given,
         neutral,
-        situation,
-    } = setting;
+    } = base_situation;
     let Movement {
         axes,
         lengths,
         moved,
+        inputs,
     } = movement;
+    let situation = Situation { members, inputs };
     let columns = columns_in(alloc, tables, &situation, tree)?;
     let conditions = conditions_in(alloc, tables, &situation, tree)?;
     Ok(RunFile {
         situation,
-        given,
-        neutral,
-        axes,
-        lengths,
-        moved,
-        columns,
-        conditions,
+        request: RunRequest {
+            given,
+            neutral,
+            axes,
+            lengths,
+            moved,
+            columns,
+            conditions,
+        },
     })
 }
 
@@ -62,12 +75,13 @@ fn run_file_by(
     alloc: Global,
     tables: &Tables<'_>,
     tree: &Tree<'_>,
-    setting: Setting,
+    base_situation: BaseSituation,
 ) -> Result<RunFile, RunFileFault>
-    ensures { Tells run_file_view (spec.run_file_by tables.now (node tree.now) (setting_view setting)) result }
+    ensures file { Tells run_file_view (spec.run_file_by tables.now (node tree.now) (base_situation_view base_situation)) result }
+    ensures begins { IfOk result (λ f. IsBeginning tables.now (run_file_view f) (situation_view f.situation)) }
 {
-    let movement = movement_in(alloc, tables, &setting, tree)?;
-    asked_of(alloc, tables, tree, setting, movement)
+    let movement = movement_in(alloc, tables, &base_situation, tree)?;
+    asked_of(alloc, tables, tree, base_situation, movement)
 }
 
 impl RunFile {
@@ -98,30 +112,45 @@ impl RunFile {
         tables: &Tables<'_>,
         tree: &Tree<'_>,
     ) -> Result<RunFile, RunFileFault>
-        ensures { Tells run_file_view (spec.run_file_of tables.now (node tree.now)) result }
+        ensures file { Tells run_file_view (spec.run_file_of tables.now (node tree.now)) result }
+        ensures begins { IfOk result (λ f. IsBeginning tables.now (run_file_view f) (situation_view f.situation)) }
     {
         check_file(alloc, tree)?;
-        let setting = setting_in(alloc, tables, tree)?;
-        run_file_by(alloc, tables, tree, setting)
+        let base_situation = base_situation_in(alloc, tables, tree)?;
+        run_file_by(alloc, tables, tree, base_situation)
     }
 
+    /// What a run of the file begins with. `AllocError` only where memory was refused. This project's own rule.
+    pub fn start(self, alloc: Global, tables: &Tables<'_>) -> Result<RunStart, AllocError>
+        ensures situation { IfOk result (λ s. situation_view s.situation ≡ situation_view self.situation) }
+        ensures request { IfOk result (λ s. s.request ≡ self.request) }
+        ensures slots { IfOk result (λ s. slot_list s.slots.items ≡ slots_spec tables.now (run_file_view self)) }
+        ensures wheels { IfOk result (λ s. s.wheels.items ≡ wheels_spec (length tables.now.variables) (slots_spec tables.now (run_file_view self))) }
+    {
+        let slots = slots_of(alloc, tables, &self)?;
+        let count = tables.variables.as_slice().len();
+        let wheels = wheels_of(alloc, count, slots.as_slice())?;
+        let RunFile { situation, request } = self;
+        Ok(RunStart {
+            situation,
+            slots,
+            wheels,
+            request,
+        })
+    }
+}
+
+impl RunRequest {
     /// How many axes there are in each group of the grid, of which the first turns fastest.
     pub fn lengths(&self) -> &[u32]
-        ensures { result.now ≡ map length (run_file_view self.now).groups }
+        ensures { result.now ≡ map length self.now.axes }
     {
         self.lengths.as_slice()
     }
 
-    /// The situation without the axes.
-    pub fn situation(&self) -> &Situation
-        ensures { situation_view result.now ≡ (run_file_view self.now).situation }
-    {
-        &self.situation
-    }
-
     /// Whether a value is given for this variable and member, and for another period that shares a day with this one, as `overlaps` says.
     pub fn overlaps(&self, variable: usize, member: u32, period: Period) -> bool
-        ensures { result ≡ overlaps_spec (run_file_view self.now).given variable member period }
+        ensures { result ≡ overlaps_spec self.now.given variable member period }
     {
         overlaps(self.given.as_slice(), variable, member, period)
     }

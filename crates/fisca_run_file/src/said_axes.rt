@@ -2,7 +2,7 @@
 
 ghost use Rattle.std.specs.Prelude.{◌≡◌, ◌+◌, length, IfOk};
 ghost use Rattle.fisca_columns.specs.Outcomes.{Tells};
-ghost use Rattle.fisca_run_file.specs.SaidAxes as spec;
+ghost use Rattle.fisca_run_file.specs.Steps.SaidAxes as spec;
 ghost use Rattle.fisca_run_file.specs.Views.{said_axes as said_axes_view, said_list};
 ghost use Rattle.fisca_yaml.specs.Views.{node, items_view};
 
@@ -46,7 +46,7 @@ fn with_axes(
 }
 
 /// The groups so far and one more.
-#[tactic(auto, unfolding(crate::specs::SaidAxes::with_list))]
+#[tactic(auto, unfolding(crate::specs::Steps::SaidAxes::with_list))]
 fn with_list(
     alloc: Global,
     key: usize,

@@ -2,7 +2,7 @@
 
 ghost use Rattle.std.specs.Prelude.{◌≡◌, [], option_map};
 ghost use Rattle.fisca_columns.specs.Outcomes.{Answers, Tells};
-ghost use Rattle.fisca_run_file.specs.SaidAxes as spec;
+ghost use Rattle.fisca_run_file.specs.Steps.SaidAxes as spec;
 ghost use Rattle.fisca_run_file.specs.Views.{said_axis as said_axis_view};
 ghost use Rattle.fisca_yaml.specs.Views.{node, entries_view};
 
@@ -115,7 +115,7 @@ fn period_at(tree: &Tree<'_>) -> Option<Period>
 }
 
 /// The steps of the axis.
-#[tactic(auto, unfolding(crate::specs::SaidAxes::spec_said))]
+#[tactic(auto, unfolding(crate::specs::Steps::SaidAxes::spec_said))]
 fn spec_said(tree: &Tree<'_>) -> Result<AxisSpec, RunFileFault>
     ensures { Answers (λ s. s) (spec.spec_said (node tree.now)) result }
 {
@@ -132,7 +132,7 @@ fn spec_said(tree: &Tree<'_>) -> Result<AxisSpec, RunFileFault>
 }
 
 /// The axis of a map whose keys are right.
-#[tactic(auto, unfolding(crate::specs::SaidAxes::axis_of))]
+#[tactic(auto, unfolding(crate::specs::Steps::SaidAxes::axis_of))]
 fn axis_of(alloc: Global, line: usize, tree: &Tree<'_>) -> Result<SaidAxis, RunFileFault>
     ensures { Tells said_axis_view (spec.axis_of line (node tree.now)) result }
 {
@@ -150,7 +150,7 @@ fn axis_of(alloc: Global, line: usize, tree: &Tree<'_>) -> Result<SaidAxis, RunF
 }
 
 /// The axis of an item on this line. What is no map is told of the line of `axes`.
-#[tactic(auto, unfolding(crate::specs::SaidAxes::axis_said))]
+#[tactic(auto, unfolding(crate::specs::Steps::SaidAxes::axis_said))]
 pub(crate) fn axis_said(
     alloc: Global,
     key: usize,

@@ -15,7 +15,8 @@ use Rattle.fisca_symbols.specs.declared.variable.DeclaredType.TheVariants as typ
 use Rattle.fisca_model.specs.Tables.{Tables}
 use Rattle.fisca_model.specs.declared.value_type.ValueType.{ValueType}
 use Rattle.fisca_model.specs.declared.value_type.ValueType.TheVariants as vt
-use Rattle.fisca_ops.specs.Casts.{fits_int, if_int, is_zero, cast}
+use Rattle.fisca_ops.specs.Casts.{cast}
+use Rattle.fisca_ops.specs.Steps.Casts.{fits_int, if_int, is_zero}
 use Rattle.fisca_simulation.specs.Sound.{GivesOnly}
 
 -- a value of just a type is one of it

@@ -3,8 +3,10 @@ use Rattle.std.proofs.Common.{◌≡◌, ℕ, zero, suc, List, [], ◌∷◌, ma
 use Rattle.std.proofs.lemmas.Bool.{and_parts, eqb-true}
 use Rattle.std.proofs.lemmas.Map.Entries.{lookup-filter-keys}
 use Rattle.fisca_inputs.specs.Entries.{same_key, value_at}
-use Rattle.fisca_inputs.specs.Inputs.{is_marked, without_marked}
-use Rattle.fisca_inputs.specs.Rules.{Rule, default_of, rule_of}
+use Rattle.fisca_inputs.specs.Inputs.{without_marked}
+use Rattle.fisca_inputs.specs.Steps.Inputs.{is_marked}
+use Rattle.fisca_inputs.specs.Rules.{Rule, rule_of}
+use Rattle.fisca_inputs.specs.Steps.Rules.{default_of}
 use Rattle.fisca_model.specs.Seen.{value_seen}
 use Rattle.fisca_inputs.specs.Typed.{DefaultsTyped, IsValueOf, is_typed}
 use Rattle.fisca_model.specs.declared.value.Value.{Value}
@@ -13,7 +15,8 @@ use Rattle.fisca_rules.specs.Rules.{Rules, known_by}
 use Rattle.fisca_rules.specs.Safety.{DefaultsFit}
 use Rattle.fisca_rules.specs.Views.{rule_set}
 use Rattle.fisca_rules.specs.declared.rule_set.RuleSet.{RuleSet}
-use Rattle.fisca_situations.specs.Situations.{Situation, situation_of}
+use Rattle.fisca_situations.specs.Situations.{Situation}
+use Rattle.fisca_situations.specs.Steps.Situations.{situation_of}
 use Rattle.fisca_situations.proofs.Typed.{situation_typed}
 use Rattle.fisca_simulation.specs.Sound.{InputsFit, IsSafeRules}
 use Rattle.fisca_simulation.proofs.SourceLookups.{default_at, default_typed, type_at}
@@ -21,7 +24,7 @@ use Rattle.fisca_symbols.specs.declared.variable.Variable.{Variable}
 use Rattle.fisca_time.specs.Period.{Span}
 use Rattle.fisca_model.specs.Tables as typing
 use Rattle.fisca_yaml.specs.Node.{Node}
-use Rattle.fisca_simulation.proofs.Worlds.{tables_known}
+use Rattle.fisca_simulation.proofs.KnownTables.{tables_known}
 
 -- Defaults
 

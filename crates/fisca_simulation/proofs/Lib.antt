@@ -7,4 +7,4 @@ pub mod SourceLookups
 pub mod Steps
 pub mod Told
 pub mod ValueTypes
-pub mod Worlds
+pub mod KnownTables

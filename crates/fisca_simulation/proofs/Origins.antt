@@ -3,19 +3,20 @@ use Rattle.std.proofs.Common.{◌≡◌, ap, ◌∙◌, refl, Bool, true, false,
 use Rattle.fisca_key_semantics.specs.Answers.{refused, known, formula}
 use Rattle.fisca_key_semantics.specs.Inquiry.{Inquiry, of_key}
 use Rattle.fisca_inputs.specs.Entries.{value_at}
-use Rattle.fisca_inputs.specs.Rules.{default_of}
+use Rattle.fisca_inputs.specs.Steps.Rules.{default_of}
 use Rattle.fisca_model.specs.Seen.{key_of, value_seen}
 use Rattle.fisca_model.specs.declared.value.Value.{Value as Input}
 use Rattle.fisca_model.specs.Values.{Key}
 use Rattle.fisca_groups.specs.Grouped.{grouped}
 use Rattle.fisca_typing.specs.Formulas.{Formula}
 use Rattle.fisca_symbols.specs.declared.variable.Variable.{Variable}
-use Rattle.fisca_inputs.specs.Inputs.{is_marked}
+use Rattle.fisca_inputs.specs.Steps.Inputs.{is_marked}
 use Rattle.fisca_rules.specs.Rules.{Dated}
 use Rattle.fisca_time.specs.Instant.{CivilDate}
 use Rattle.fisca_time.specs.Period.{start_of}
-use Rattle.fisca_simulation.specs.InForce.{has_ended, in_force}
-use Rattle.fisca_simulation.specs.Simulations.{Simulation, all_dated, are_some, computed, formula_from, formula_of, given_or_computed, has_formulas, known_or_refused, source_of, sources, variable_of, worked_out}
+use Rattle.fisca_simulation.specs.Steps.InForce.{has_ended, in_force}
+use Rattle.fisca_simulation.specs.Simulations.{Simulation, computed, formula_from, formula_of, given_or_computed, known_or_refused, source_of, sources, variable_of, worked_out}
+use Rattle.fisca_simulation.specs.Steps.Simulations.{all_dated, are_some, has_formulas}
 
 none_on : (v : Variable) (day : CivilDate) (ended : Bool) → (if ended then None else option_map (λ d. d.formula) (in_force day [])) ≡ None
 none_on v day true = refl

@@ -3,8 +3,8 @@ use Rattle.std.proofs.Common.{◌≡◌, ap, sym, subst, ◌∙◌, ℕ, zero, s
 use Rattle.std.specs.Prelude.{option_map}
 use Rattle.std.specs.Ordering.{is_gt}
 use Rattle.fisca_inputs.specs.Entries.{value_at}
-use Rattle.fisca_inputs.specs.Inputs.{is_marked}
-use Rattle.fisca_inputs.specs.Rules.{default_of}
+use Rattle.fisca_inputs.specs.Steps.Inputs.{is_marked}
+use Rattle.fisca_inputs.specs.Steps.Rules.{default_of}
 use Rattle.fisca_model.specs.Seen.{key_of, value_seen}
 use Rattle.fisca_inputs.specs.Typed.{is_typed, IsValueOf}
 use Rattle.fisca_model.specs.declared.value.Value.{Value as Input}
@@ -31,8 +31,9 @@ use Rattle.fisca_model.specs.Tables.{Choices, Tables}
 use Rattle.fisca_model.specs.declared.value_type.ValueType.{ValueType}
 use Rattle.fisca_ops.specs.Casts.{cast}
 use Rattle.fisca_symbols.specs.declared.variable.Variable.{Variable}
-use Rattle.fisca_simulation.specs.InForce.{has_started, has_ended, later, latest_with, latest_of, in_force}
-use Rattle.fisca_simulation.specs.Simulations.{Simulation, all_dated, formula_from, formula_of, start_point, worked_out, known_or_refused, computed, given_or_computed, if_askable, variable_of, source_of, sources}
+use Rattle.fisca_simulation.specs.Steps.InForce.{has_started, has_ended, later, latest_with, latest_of, in_force}
+use Rattle.fisca_simulation.specs.Simulations.{Simulation, formula_from, formula_of, start_point, worked_out, known_or_refused, computed, given_or_computed, if_askable, variable_of, source_of, sources}
+use Rattle.fisca_simulation.specs.Steps.Simulations.{all_dated}
 use Rattle.fisca_simulation.specs.Sound.{GivesOnly, IsSound, AreSound, IsSafeRules, InputsFit}
 use Rattle.fisca_simulation.proofs.Casts.{gives_then, cast_gives}
 

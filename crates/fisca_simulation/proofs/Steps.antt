@@ -13,7 +13,7 @@ use Rattle.fisca_inputs.specs.Typed.{IsValueOf}
 use Rattle.fisca_model.specs.declared.value.Value.{Value as Given}
 use Rattle.fisca_model.specs.declared.key.Key.{Key}
 use Rattle.fisca_machine.specs.Running.{before}
-use Rattle.fisca_machine.specs.World.{tables, groups}
+use Rattle.fisca_machine.specs.Context.{tables, groups}
 use Rattle.fisca_key_semantics.specs.Dialogues as meaning
 use Rattle.fisca_model.specs.Values.{Value}
 use Rattle.fisca_key_semantics.specs.Dialogues.{Dialogue, gives, fails, stuck, asks}
@@ -29,9 +29,9 @@ use Rattle.fisca_model.specs.Tables.{Tables}
 use Rattle.fisca_ops.specs.Casts.{cast}
 use Rattle.fisca_ops.specs.Ended.{IsMoving}
 use Rattle.fisca_model.specs.EvalFaults.{IsAnswer, IsTold, told}
-use Rattle.fisca_simulation.specs.Scenes.{IsScene, IsWork, IsAtHand, known_in, seen, sources_in, wanted, wanted_of_work, work}
+use Rattle.fisca_simulation.specs.PlainEvaluations.{IsPlainEvaluation, IsWork, IsAtHand, known_in, seen, sources_in, wanted, wanted_of_work, work}
 use Rattle.fisca_model.specs.declared.eval_fault.EvalFault.{EvalFault}
-use Rattle.fisca_simulation.specs.declared.scene.Scene.{Scene}
+use Rattle.fisca_simulation.specs.declared.plain_evaluation.PlainEvaluation.{PlainEvaluation}
 
 -- Faults
 
@@ -69,9 +69,9 @@ moving c P (fails f) h = tt
 moving c P stuck h = absurd h
 moving c P (asks k go) h = tt
 
-module _ (s : Scene) (v : Variable) (f : TypedFormula) (key : Key) where
+module _ (s : PlainEvaluation) (v : Variable) (f : TypedFormula) (key : Key) where
   -- a formula, where it begins
-  pub begins : IsScene s → before (formula_means (tables s.world) (groups s.world) (formula_view f) (start_point v (key_seen key))) (cast v.value_type) ≡ work s v f key
+  pub begins : IsPlainEvaluation s → before (formula_means (tables s.context) (groups s.context) (formula_view f) (start_point v (key_seen key))) (cast v.value_type) ≡ work s v f key
   begins is = λ i. before (formula_means (is.tables i) (is.groups i) (formula_view f) (start_point v (key_seen key))) (cast v.value_type)
 
   module _ (keys : List Key) where
@@ -92,7 +92,7 @@ module _ (s : Scene) (v : Variable) (f : TypedFormula) (key : Key) where
 
     -- of the formula's dialogue r is left
     module _ (r : Dialogue) (ends_so : outcome W whole ≡ outcome W (of_key (key_seen key) r)) where
-      pub failed : (e : EvalFault) (x : meaning.Fault) → told e ≡ Some (named (key_seen key) x) → r ≡ fails x → IsAnswer (wanted_of_work s keys v f key) (Err e)
+      pub failed : (e : EvalFault) (x : meaning.OperationFault) → told e ≡ Some (named (key_seen key) x) → r ≡ fails x → IsAnswer (wanted_of_work s keys v f key) (Err e)
       failed e x t is = is_told (told e) _ _ t (left_fault (sources_in s) (map key_seen keys) (key_seen key) whole r ends_so x is)
 
       module _ (j : Key) (go : Value → Dialogue) (is : r ≡ asks (key_seen j) go) where
@@ -103,9 +103,9 @@ module _ (s : Scene) (v : Variable) (f : TypedFormula) (key : Key) where
           pub fewer : length (asked W (of_key (key_seen key) (go (value_seen x)))) < length (asked W (of_key (key_seen key) r))
           fewer = asked_less (sources_in s) (map key_seen keys) (key_seen key) whole r ends_so (key_seen j) go is (value_seen x) a
 
-          pub goes_soundly : IsScene s → GivesOnly (known_in s) (IsValueOf (known_in s) key.variable) r → GivesOnly (known_in s) (IsValueOf (known_in s) key.variable) (go (value_seen x))
-          goes_soundly scene h =
+          pub goes_soundly : IsPlainEvaluation s → GivesOnly (known_in s) (IsValueOf (known_in s) key.variable) r → GivesOnly (known_in s) (IsValueOf (known_in s) key.variable) (go (value_seen x))
+          goes_soundly evaluation h =
               let c = known_in s in
               let g : GivesOnly c (IsValueOf c key.variable) (asks (key_seen j) go) = subst (GivesOnly c (IsValueOf c key.variable)) is h in
-              let sound : AreSound c (sources_in s) = sources_sound (seen s) scene.safe scene.fit in
+              let sound : AreSound c (sources_in s) = sources_sound (seen s) evaluation.safe evaluation.fit in
               g.2 (value_seen x) (typed_is_of c (variable_type c j.variable) g.0 (value_seen x) g.1 (values_fit c (sources_in s) sound (left_below (map key_seen keys)) (key_seen j) (value_seen x) (below_ok (map key_seen keys) (key_seen j) (W (key_seen j)) (value_seen x) a)))

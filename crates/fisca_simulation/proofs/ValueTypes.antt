@@ -64,7 +64,7 @@ module _ (c : Tables) (src : Sources) (sound : AreSound c src) where
   abbrev Moves : Oracle → Type 0
   Moves W = (k : Key) (f : why.Fault) → W k ≡ Err (fault f) → f.cause ≡ why.stuck → ⊥
 
-  own_fault : (key : Key) (e : d.Fault) → (inquiry.named key e).cause ≡ why.stuck → ⊥
+  own_fault : (key : Key) (e : d.OperationFault) → (inquiry.named key e).cause ≡ why.stuck → ⊥
   own_fault key d.zero_divisor h = cc
   own_fault key d.too_wide h = cc
   own_fault key d.parameter_undefined h = cc

@@ -6,7 +6,7 @@ use Rattle.fisca_model.specs.Seen.{key_seen}
 use Rattle.fisca_model.specs.declared.key.Key.{Key}
 use Rattle.fisca_model.specs.Values.{Value}
 use Rattle.fisca_rules.specs.Views.{rule_set}
-use Rattle.fisca_situations.specs.Views.{situation}
+use Rattle.fisca_situations.specs.Steps.Views.{situation}
 use Rattle.fisca_simulation.specs.Simulations.{Simulation, normal_key, sources}
 use Rattle.fisca_simulation.specs.declared.evaluator.PlainEvaluator.{PlainEvaluator}
 

@@ -1,17 +1,17 @@
 -- What the values of keys come from, in a situation under a rule set.
-use Rattle.std.specs.Prelude.{ℕ, List, [], ◌∷◌, Bool, false, true, if◌then◌else◌, slice_get, Option, Some, None, option_map}
+use Rattle.std.specs.Prelude.{List, Bool, if◌then◌else◌, slice_get, Option, Some, None, option_map}
 use Rattle.fisca_key_semantics.specs.Answers.{Source, Sources, refused, known, formula}
 use Rattle.fisca_key_semantics.specs.Inquiry.{of_key}
 use Rattle.fisca_inputs.specs.Entries.{value_at}
-use Rattle.fisca_inputs.specs.Inputs.{is_marked}
-use Rattle.fisca_inputs.specs.Rules.{default_of}
+use Rattle.fisca_inputs.specs.Steps.Inputs.{is_marked}
+use Rattle.fisca_inputs.specs.Steps.Rules.{default_of}
 use Rattle.fisca_model.specs.Seen.{key_of, value_seen}
 use Rattle.fisca_model.specs.declared.value.Value.{Value as Input}
 use Rattle.fisca_model.specs.Values.{Key}
 use Rattle.fisca_key_semantics.specs.Dialogues.{Dialogue, ◌>>=◌}
 use Rattle.fisca_formula_semantics.specs.Meaning.{formula_means}
 use Rattle.fisca_model.specs.Groups.{Groups, Point}
-use Rattle.fisca_model.specs.Periods.{fits, key_period}
+use Rattle.fisca_model.specs.Periods.{fits}
 use Rattle.fisca_groups.specs.Grouped.{grouped}
 use Rattle.fisca_rules.specs.Rules.{Dated, Rules, known_by}
 use Rattle.fisca_situations.specs.Situations.{Situation}
@@ -20,7 +20,8 @@ use Rattle.fisca_time.specs.Period.{start_of}
 use Rattle.fisca_typing.specs.Formulas.{Formula}
 use Rattle.fisca_ops.specs.Casts.{cast}
 use Rattle.fisca_symbols.specs.declared.variable.Variable.{Variable}
-use Rattle.fisca_simulation.specs.InForce.{has_ended, in_force}
+use Rattle.fisca_simulation.specs.Steps.InForce.{has_ended, in_force}
+use Rattle.fisca_simulation.specs.Steps.Simulations.{all_dated, own_key}
 
 -- a rule set, a situation, and marks of the variables that are neutralised, by their places
 pub record Simulation : Type 0 where
@@ -29,18 +30,6 @@ pub record Simulation : Type 0 where
   pub neutral : List Bool
 
 -- Formulas
-
-abbrev pub all_dated : Option (List Dated) → List Dated
-all_dated None = []
-all_dated (Some ds) = ds
-
-abbrev pub are_some : List Dated → Bool
-are_some [] = false
-are_some (d ∷ ds) = true
-
--- whether the variable at a place has formulas, in force or not
-abbrev pub has_formulas : Rules → ℕ → Bool
-has_formulas r n = are_some (all_dated (slice_get r.formulas n))
 
 -- the formula that is in force on a day, which is none past the variable's end
 abbrev pub formula_on : Variable → List Dated → CivilDate → Option Formula
@@ -95,11 +84,6 @@ source_of m k (Some v) = given_or_computed m v k (value_at m.situation.inputs (k
 
 abbrev pub sources : Simulation → Sources
 sources m k = source_of m k (variable_of m.rules k)
-
--- a key of an eternal variable has the eternal period, whatever period it is asked for at
-abbrev pub own_key : Option Variable → Key → Key
-own_key None k = k
-own_key (Some v) k = record k { period = key_period v.definition_period k.period }
 
 abbrev pub normal_key : Rules → Key → Key
 normal_key r k = own_key (slice_get r.variables k.variable) k

@@ -7,8 +7,6 @@ use Rattle.fisca_model.specs.Seen.{key_of, key_seen}
 use Rattle.fisca_model.specs.declared.value.Value.{Value}
 use Rattle.fisca_model.specs.declared.value.Value.TheVariants as v
 use Rattle.fisca_model.specs.declared.key.Key.{Key}
-use Rattle.fisca_writer.specs.declared.fault.RowFault.{RowFault}
-use Rattle.fisca_writer.specs.declared.fault.RowFault.TheVariants as row
 use Rattle.fisca_model.specs.Values as meaning
 use Rattle.fisca_simulation.specs.Simulations.{Simulation, normal_key, sources}
 use Rattle.fisca_simulation.specs.Sound.{InputsFit, IsSafeRules}
@@ -45,16 +43,3 @@ told_in m key = as_told (answer (sources m) (normal_key m.rules (key_seen key)))
 pub record IsReady (m : Simulation) : Type 0 where
   pub safe : IsSafeRules m.rules
   pub fit : InputsFit m.rules m.situation
-
--- want of memory is that of the row, and every other fault its own
-abbrev pub row_fault : EvalFault → RowFault EvalFault
-row_fault (fault.ZeroDivisor k) = row.Eval (fault.ZeroDivisor k)
-row_fault (fault.TooWide k) = row.Eval (fault.TooWide k)
-row_fault (fault.ParameterUndefined k) = row.Eval (fault.ParameterUndefined k)
-row_fault (fault.BadScale k) = row.Eval (fault.BadScale k)
-row_fault (fault.NoMember k) = row.Eval (fault.NoMember k)
-row_fault (fault.PeriodMismatch k) = row.Eval (fault.PeriodMismatch k)
-row_fault (fault.PeriodOutOfRange k) = row.Eval (fault.PeriodOutOfRange k)
-row_fault (fault.Cycle k) = row.Eval (fault.Cycle k)
-row_fault (fault.TooDeep k) = row.Eval (fault.TooDeep k)
-row_fault fault.Memory = row.Memory

@@ -1,6 +1,6 @@
 -- How definitions see simulations.
 use Rattle.fisca_rules.specs.Views.{rule_set}
-use Rattle.fisca_situations.specs.Views.{situation}
+use Rattle.fisca_situations.specs.Steps.Views.{situation}
 use Rattle.fisca_simulation.specs.Simulations as simulations
 use Rattle.fisca_simulation.specs.declared.simulation.Simulation.{Simulation}
 

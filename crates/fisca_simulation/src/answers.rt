@@ -1,7 +1,7 @@
 //! An evaluator as what answers the values of columns.
 
 ghost use Rattle.std.specs.Prelude.{◌≡◌};
-ghost use Rattle.fisca_simulation.specs.Told as spec;
+ghost use Rattle.fisca_simulation.specs.Steps.Told as spec;
 
 use crate::evaluator::PlainEvaluator;
 use fisca_model::{EvalFault, Key, Value};

@@ -2,8 +2,8 @@
 
 ghost use Rattle.std.specs.Prelude.{◌≡◌, map, option_map, slice_get};
 ghost use Rattle.fisca_rules.specs.Views.{dated as dated_view, rule_set};
-ghost use Rattle.fisca_simulation.specs.InForce as spec;
-ghost use Rattle.fisca_simulation.specs.Simulations.{all_dated};
+ghost use Rattle.fisca_simulation.specs.Steps.InForce as spec;
+ghost use Rattle.fisca_simulation.specs.Steps.Simulations.{all_dated};
 
 use fisca_rules::{Dated, RuleSet};
 use fisca_time::Instant;

@@ -7,7 +7,7 @@ mod evaluator;
 mod fault;
 mod formulas;
 mod law;
-mod scene;
+mod plain_evaluation;
 mod simulation;
 mod source_laws;
 mod values;

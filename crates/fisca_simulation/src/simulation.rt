@@ -2,10 +2,11 @@
 
 ghost use Rattle.std.specs.Prelude.{◌≡◌, option_map};
 ghost use Rattle.fisca_check.specs.Formulas.{formula_view};
-ghost use Rattle.fisca_inputs.specs.Rules.{default_of as default_in};
+ghost use Rattle.fisca_inputs.specs.Steps.Rules.{default_of as default_in};
 ghost use Rattle.fisca_model.specs.Seen.{key_seen};
 ghost use Rattle.fisca_rules.specs.Views.{rule_set};
 ghost use Rattle.fisca_simulation.specs.Simulations as spec;
+ghost use Rattle.fisca_simulation.specs.Steps.Simulations as steps;
 ghost use Rattle.fisca_simulation.specs.Views.{simulation};
 
 use crate::formulas::{formulas_at, has_ended, in_force};
@@ -47,7 +48,7 @@ impl<'r, 't, 's> Simulation<'r, 't, 's> {
 
     /// Whether the variable at this place has formulas, in force or not. Where it has none, no value of it comes from a formula.
     pub fn has_formulas(&self, variable: usize) -> bool
-        ensures { result ≡ spec.has_formulas (simulation self.now).rules variable }
+        ensures { result ≡ steps.has_formulas (simulation self.now).rules variable }
     {
         match formulas_at(self.rules, variable) {
             [] => false,

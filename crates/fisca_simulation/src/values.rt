@@ -4,12 +4,12 @@ ghost use Rattle.std.specs.Prelude.{◌≡◌};
 ghost use Rattle.fisca_simulation.specs.Evaluators as spec;
 ghost use Rattle.fisca_model.specs.EvalFaults.{IsAnswer};
 ghost use Rattle.fisca_rules.specs.Views.{rule_set};
-ghost use Rattle.fisca_situations.specs.Views.{situation as situation_view};
+ghost use Rattle.fisca_situations.specs.Steps.Views.{situation as situation_view};
 ghost use Rattle.fisca_simulation.specs.Sound.{InputsFit, IsSafeRules};
 
 use crate::evaluator::PlainEvaluator;
 use crate::own_key;
-use crate::scene::scene_of;
+use crate::plain_evaluation::evaluation_of;
 use crate::work::value_below;
 use fisca_machine::Machine;
 use fisca_model::{EvalFault, Key, Value};
@@ -56,9 +56,9 @@ impl<'r, 't> PlainEvaluator<'r, 't> {
         self.machine.clear();
         self.keys.clear();
         let situation = &self.situation;
-        let scene = scene_of(self.rules, situation, self.neutral);
+        let evaluation = evaluation_of(self.rules, situation, self.neutral);
         let own = own_key(self.rules, key);
-        value_below(&scene, &mut self.machine, &mut self.keys, &own)
+        value_below(&evaluation, &mut self.machine, &mut self.keys, &own)
     }
 
     /// The situation.

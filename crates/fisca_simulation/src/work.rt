@@ -3,14 +3,14 @@
 ghost use Rattle.std.specs.Prelude.{◌≡◌, ◌≤◌, ◌<◌, length, OnOk, map};
 ghost use Rattle.fisca_key_semantics.specs.Answers.{known as from_known};
 ghost use Rattle.fisca_model.specs.EvalFaults.{IsAnswer};
-ghost use Rattle.fisca_simulation.specs.Scenes as spec;
+ghost use Rattle.fisca_simulation.specs.PlainEvaluations as spec;
 ghost use Rattle.fisca_model.specs.Seen.{key_seen, value_seen};
 ghost use Rattle.fisca_machine.specs.Running.{rest, waiting};
 
 use crate::chains::too_long;
 use crate::default_of;
 use crate::fault::told_of;
-use crate::scene::Scene;
+use crate::plain_evaluation::PlainEvaluation;
 use fisca_check::TypedFormula;
 use fisca_machine::{Frame, Machine, Step};
 use fisca_model::{EvalFault, Key, Value};
@@ -33,26 +33,26 @@ fn at_hand(keys: &[Key], key: &Key, value: Value) -> Result<Value, EvalFault>
 /// The value of a key that is asked for below others.
 #[cycle(value)]
 pub(crate) fn value_below<'r>(
-    scene: &Scene<'r, '_, '_>,
+    evaluation: &PlainEvaluation<'r, '_, '_>,
     machine: &mut Machine<'r>,
     keys: &mut Vec<Key>,
     key: &Key,
 ) -> Result<Value, EvalFault>
-    requires scene { spec.IsScene scene.now }
+    requires evaluation { spec.IsPlainEvaluation evaluation.now }
     requires depth { length keys.old.items ≤ 100 }
-    ensures answer { IsAnswer (spec.wanted scene.now keys.old.items key.now) result }
+    ensures answer { IsAnswer (spec.wanted evaluation.now keys.old.items key.now) result }
     ensures keys { keys.new.items ≡ keys.old.items }
-    ensures rest { OnOk result (rest scene.now.world machine.new ≡ rest scene.now.world machine.old) }
-    ensures waits { OnOk result (waiting scene.now.world machine.new ≡ waiting scene.now.world machine.old) }
+    ensures rest { OnOk result (rest evaluation.now.context machine.new ≡ rest evaluation.now.context machine.old) }
+    ensures waits { OnOk result (waiting evaluation.now.context machine.new ≡ waiting evaluation.now.context machine.old) }
 {
-    let Some(variable) = scene.simulation.variable(*key) else {
+    let Some(variable) = evaluation.simulation.variable(*key) else {
         return Err(EvalFault::PeriodMismatch(*key));
     };
-    if let Some(value) = scene.simulation.situation.input(key) {
+    if let Some(value) = evaluation.simulation.situation.input(key) {
         return at_hand(keys.as_slice(), key, value);
     }
-    match scene.simulation.formula(variable, *key) {
-        Some(formula) => by_formula(scene, machine, keys, variable, formula, key),
+    match evaluation.simulation.formula(variable, *key) {
+        Some(formula) => by_formula(evaluation, machine, keys, variable, formula, key),
         None => match default_of(variable) {
             Some(value) => at_hand(keys.as_slice(), key, value),
             None => Err(EvalFault::PeriodMismatch(*key)),
@@ -63,27 +63,27 @@ pub(crate) fn value_below<'r>(
 /// The value of a key by its formula, below others.
 #[cycle(value)]
 fn by_formula<'r>(
-    scene: &Scene<'r, '_, '_>,
+    evaluation: &PlainEvaluation<'r, '_, '_>,
     machine: &mut Machine<'r>,
     keys: &mut Vec<Key>,
     variable: &Variable<'_>,
     formula: &'r TypedFormula,
     key: &Key,
 ) -> Result<Value, EvalFault>
-    requires scene { spec.IsScene scene.now }
-    requires work { spec.IsWork scene.now variable.now formula.now key.now }
+    requires evaluation { spec.IsPlainEvaluation evaluation.now }
+    requires work { spec.IsWork evaluation.now variable.now formula.now key.now }
     requires depth { length keys.old.items ≤ 100 }
-    ensures answer { IsAnswer (spec.wanted scene.now keys.old.items key.now) result }
+    ensures answer { IsAnswer (spec.wanted evaluation.now keys.old.items key.now) result }
     ensures keys { keys.new.items ≡ keys.old.items }
-    ensures rest { OnOk result (rest scene.now.world machine.new ≡ rest scene.now.world machine.old) }
-    ensures waits { OnOk result (waiting scene.now.world machine.new ≡ waiting scene.now.world machine.old) }
+    ensures rest { OnOk result (rest evaluation.now.context machine.new ≡ rest evaluation.now.context machine.old) }
+    ensures waits { OnOk result (waiting evaluation.now.context machine.new ≡ waiting evaluation.now.context machine.old) }
 {
     if keys.len() >= MOST_KEYS {
         return Err(too_long(keys.as_slice(), key));
     }
     match keys.push(*key) {
         Ok(()) => {
-            let worked = work_out(scene, machine, keys, variable, formula, key);
+            let worked = work_out(evaluation, machine, keys, variable, formula, key);
             let _ = keys.pop();
             worked
         }
@@ -94,21 +94,21 @@ fn by_formula<'r>(
 /// Works out the formula of the last of the keys.
 #[cycle(value)]
 fn work_out<'r>(
-    scene: &Scene<'r, '_, '_>,
+    evaluation: &PlainEvaluation<'r, '_, '_>,
     machine: &mut Machine<'r>,
     keys: &mut Vec<Key>,
     variable: &Variable<'_>,
     formula: &'r TypedFormula,
     key: &Key,
 ) -> Result<Value, EvalFault>
-    requires scene { spec.IsScene scene.now }
-    requires work { spec.IsWork scene.now variable.now formula.now key.now }
+    requires evaluation { spec.IsPlainEvaluation evaluation.now }
+    requires work { spec.IsWork evaluation.now variable.now formula.now key.now }
     requires some { 0 < length keys.old.items }
     requires depth { length keys.old.items ≤ 100 }
-    ensures answer { IsAnswer (spec.wanted_of_work scene.now keys.old.items variable.now formula.now key.now) result }
+    ensures answer { IsAnswer (spec.wanted_of_work evaluation.now keys.old.items variable.now formula.now key.now) result }
     ensures keys { keys.new.items ≡ keys.old.items }
-    ensures rest { OnOk result (rest scene.now.world machine.new ≡ rest scene.now.world machine.old) }
-    ensures waits { OnOk result (waiting scene.now.world machine.new ≡ waiting scene.now.world machine.old) }
+    ensures rest { OnOk result (rest evaluation.now.context machine.new ≡ rest evaluation.now.context machine.old) }
+    ensures waits { OnOk result (waiting evaluation.now.context machine.new ≡ waiting evaluation.now.context machine.old) }
 {
     let frame = Frame {
         entity: variable.entity,
@@ -117,7 +117,7 @@ fn work_out<'r>(
     };
     let locals = formula.values.as_slice();
     let begun = machine.begin(
-        &scene.world,
+        &evaluation.context,
         locals,
         &formula.result,
         variable.value_type,
@@ -128,7 +128,7 @@ fn work_out<'r>(
         Err(_) => return Err(EvalFault::Memory),
     };
     loop {
-        match machine.run(&scene.world, control) {
+        match machine.run(&evaluation.context, control) {
             Step::Done(value) => return Ok(value),
             Step::Failed(fault) => return Err(told_of(fault, *key)),
             Step::Memory => return Err(EvalFault::Memory),
@@ -144,7 +144,7 @@ fn work_out<'r>(
                     member,
                     period,
                 };
-                let value = value_below(scene, machine, keys, &needed)?;
+                let value = value_below(evaluation, machine, keys, &needed)?;
                 control = machine.give(value);
             }
         }

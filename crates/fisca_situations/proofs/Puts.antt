@@ -4,7 +4,7 @@ use Rattle.std.proofs.Math.ListN.{set}
 use Rattle.fisca_inputs.specs.Entries.{same_key}
 use Rattle.fisca_inputs.specs.Inputs.{key_given}
 use Rattle.fisca_inputs.specs.declared.given.Given.{Given}
-use Rattle.fisca_situations.specs.Axes.{put_in}
+use Rattle.fisca_situations.specs.Steps.Axes.{put_in}
 
 abbrev is_like : Given → Given → Bool
 is_like h g = same_key (key_given h) (key_given g)

@@ -10,7 +10,8 @@ use Rattle.fisca_model.specs.declared.key.Key.{Key}
 use Rattle.fisca_num.specs.Number.{Number}
 use Rattle.fisca_num.specs.declared.faults.NumFault.{NumFault}
 use Rattle.fisca_situations.specs.Sets.{set_each}
-use Rattle.fisca_situations.specs.Slots.{Slot, keys_of, set_share, share_in, turned}
+use Rattle.fisca_situations.specs.Slots.{Slot}
+use Rattle.fisca_situations.specs.Steps.Slots.{keys_of, set_share, share_in, turned}
 use Rattle.fisca_time.specs.Period.{Span}
 
 pub set_none : (es : Entries) → map (λ e. (e.0, e.1)) es ≡ es

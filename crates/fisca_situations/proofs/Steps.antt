@@ -8,7 +8,7 @@ use Rattle.fisca_symbols.specs.declared.tables.Tables.{Tables}
 use Rattle.fisca_time.specs.Period.{Span}
 use Rattle.fisca_model.specs.Tables.{Role}
 use Rattle.fisca_yaml.specs.Node.{Node, Entries, entry}
-use Rattle.fisca_situations.specs.Reading.{member_below, members_given}
+use Rattle.fisca_situations.specs.Steps.Reading.{member_below, members_given}
 
 pub member_step : (c : Tables) (default : Option Span) (entity : ℕ) (rs : List Role) (member : ℕ) (all : Result (List Given) SituationFault) (gs hs : List Given)
     (es rest : Entries) (name : List ℕ) (line : ℕ) (n : Node)

@@ -20,11 +20,12 @@ use Rattle.fisca_model.specs.declared.key.Key.{Key}
 use Rattle.fisca_model.specs.Periods.{is_eternity, key_period}
 use Rattle.fisca_model.specs.Tables.{type_in, variable_type}
 use Rattle.fisca_members.specs.Faults.{entries_in}
-use Rattle.fisca_members.specs.Groups.{role_named}
+use Rattle.fisca_members.specs.Steps.Groups.{role_named}
 use Rattle.fisca_groups.specs.Lookup.{counts_of}
-use Rattle.fisca_members.specs.Members.{members_in}
+use Rattle.fisca_members.specs.Steps.Members.{members_in}
 use Rattle.fisca_members.specs.Persons.{most_members}
-use Rattle.fisca_members.specs.Sections.{Input, one_person, sections, Section, input_of, titles_of}
+use Rattle.fisca_members.specs.Sections.{Input, one_person, sections, Section}
+use Rattle.fisca_members.specs.Steps.Sections.{input_of, titles_of}
 use Rattle.fisca_num.specs.Number.{Number}
 use Rattle.fisca_params.specs.Results.{and_then}
 use Rattle.fisca_symbols.specs.Known.{tables as known}
@@ -38,11 +39,14 @@ use Rattle.fisca_time.specs.PeriodText.{period_of_text}
 use Rattle.fisca_time.specs.declared.fault.TimeFault.{TimeFault}
 use Rattle.fisca_model.specs.Tables.{Entity, Role, Tables as Known, member_named, members_at}
 use Rattle.fisca_model.specs.declared.value_type.ValueType.TheVariants as vt
-use Rattle.fisca_yaml.specs.Find.{as_number, as_text}
+use Rattle.fisca_yaml.specs.Steps.Find.{as_number, as_text}
 use Rattle.fisca_yaml.specs.Node.{Node, null, scalar, list, map as mapping, Entries, no_entries, entry}
-use Rattle.fisca_situations.specs.Reading.{Place, fault_at, given_of, value_given, read_given, dated_given, all_dated, at_default, variable_given, has_variable, variable_at, variable_of, named_given, entry_given, member_given, member_below, members_given, section_by, section_of, section_given, sections_given, inputs_given}
-use Rattle.fisca_situations.specs.Situations.{Situation, told, reading_in, reading_of, situation_by, situation_of}
-use Rattle.fisca_situations.specs.Values.{said, input_or, unused_if, int_in, bool_in, member_in, day_in}
+use Rattle.fisca_situations.specs.Reading.{Place}
+use Rattle.fisca_situations.specs.Steps.Reading.{fault_at, given_of, value_given, read_given, dated_given, all_dated, at_default, variable_given, has_variable, variable_at, variable_of, named_given, entry_given, member_given, member_below, members_given, section_by, section_of, section_given, sections_given, inputs_given}
+use Rattle.fisca_situations.specs.Situations.{Situation}
+use Rattle.fisca_situations.specs.Steps.Situations.{told, reading_in, reading_of, situation_by, situation_of}
+use Rattle.fisca_situations.specs.Values.{said, day_in}
+use Rattle.fisca_situations.specs.Steps.Values.{input_or, unused_if, int_in, bool_in, member_in}
 use Rattle.fisca_situations.specs.declared.reading.Reading.{Reading}
 use Rattle.fisca_situations.specs.declared.said.Said.{Said}
 use Rattle.fisca_situations.specs.declared.said.Said.TheVariants.{Input as input, Unused as unused, Unreadable as unreadable}

@@ -4,7 +4,7 @@ use Rattle.std.specs.Prelude.{Ok}
 use Rattle.fisca_num.specs.Number.{Number, trunc_of}
 use Rattle.fisca_num.specs.Operations.{number_over, only_number_of}
 use Rattle.fisca_num.specs.Rational.{over}
-use Rattle.fisca_situations.specs.Cuts.{whole_part}
+use Rattle.fisca_situations.specs.Steps.Cuts.{whole_part}
 
 pub part_is : (v : Number) → number_over (trunc_of v) (pos 1) ≡ Ok (whole_part v)
 unfolding number_over

@@ -9,8 +9,8 @@ use Rattle.fisca_inputs.specs.declared.fault.SituationFault.{SituationFault}
 use Rattle.fisca_inputs.specs.declared.fault.SituationKind.{SituationKind}
 use Rattle.fisca_inputs.specs.declared.fault.SituationKind.TheVariants as kind
 use Rattle.fisca_inputs.specs.declared.given.Given.{Given}
-use Rattle.fisca_members.specs.Members.{members_in}
-use Rattle.fisca_members.specs.Persons.{with_person}
+use Rattle.fisca_members.specs.Steps.Members.{members_in}
+use Rattle.fisca_members.specs.Steps.Persons.{with_person}
 use Rattle.fisca_time.specs.Period.{Span, eternity, months}
 use Rattle.fisca_time.specs.declared.unit.Unit.TheVariants as unit
 use Rattle.fisca_yaml.specs.Flow.{flow_value, series}
@@ -20,9 +20,9 @@ use Rattle.fisca_groups.specs.declared.entity_members.EntityMembers.{EntityMembe
 use Rattle.fisca_model.specs.Groups.{Point, persons_at}
 use Rattle.fisca_model.specs.Tables.{subrole_of, whole_role}
 use Rattle.fisca_groups.specs.Grouped.{grouped}
-use Rattle.fisca_situations.specs.Reading.{dated_given, entry_given, inputs_given, member_below, named_given, section_by, section_given, value_given, variable_given}
+use Rattle.fisca_situations.specs.Steps.Reading.{dated_given, entry_given, inputs_given, member_below, named_given, section_by, section_given, value_given, variable_given}
 use Rattle.fisca_situations.specs.declared.reading.Reading.{Reading}
-use Rattle.fisca_situations.specs.Situations.{reading_in, reading_of}
+use Rattle.fisca_situations.specs.Steps.Situations.{reading_in, reading_of}
 
 -- what is given: a variable, a member, a period, a value and a line
 record Row : Type 0 where

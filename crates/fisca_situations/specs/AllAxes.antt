@@ -1,8 +1,8 @@
 -- The inputs that several axes move, beside those that are given.
 use Rattle.std.specs.Prelude.{List, [], ◌∷◌, Bool, ◌||◌}
 use Rattle.fisca_inputs.specs.declared.given.Given.{Given}
-use Rattle.fisca_situations.specs.Axes.{put_in}
-use Rattle.fisca_inputs.specs.Overlaps.{meets, overlaps}
+use Rattle.fisca_situations.specs.Steps.Axes.{put_in}
+use Rattle.fisca_inputs.specs.Steps.Overlaps.{meets, overlaps}
 
 -- It moves what an earlier axis moves, or what an input says for another period. An input of just this period is replaced.
 abbrev pub is_overlap : List Given → List Given → Given → Bool

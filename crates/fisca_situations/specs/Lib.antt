@@ -8,5 +8,6 @@ pub mod Reading
 pub mod Sets
 pub mod Situations
 pub mod Slots
+pub mod Steps
 pub mod Values
 pub mod Views

@@ -1,17 +1,12 @@
 -- How definitions see what the code keeps of inputs while they are read, of situations and of slots.
 use Rattle.std.specs.Prelude.{List, map}
 use Rattle.fisca_situations.specs.declared.place.Place.{Place}
-use Rattle.fisca_situations.specs.declared.situation.Situation.{Situation}
 use Rattle.fisca_situations.specs.declared.slot.Slot.{Slot}
 use Rattle.fisca_situations.specs.Reading as reading
-use Rattle.fisca_situations.specs.Situations as situations
 use Rattle.fisca_situations.specs.Slots as slots
 
 abbrev pub place : Place → reading.Place
 place p = record { variable = p.variable; declared = p.declared.now; member = p.member }
-
-abbrev pub situation : Situation → situations.Situation
-situation s = record { members = s.members; inputs = s.inputs }
 
 abbrev pub slot : Slot → slots.Slot
 slot s = record {

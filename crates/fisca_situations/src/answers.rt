@@ -14,7 +14,7 @@ pub trait Answers {
     ghost use Rattle.fisca_model.specs.declared.value.Value.{Value};
     ghost use Rattle.fisca_model.specs.declared.key.Key.{Key};
     ghost use Rattle.fisca_groups.specs.declared.entity_members.EntityMembers.{EntityMembers};
-    ghost use Rattle.fisca_situations.specs.Views.{situation as situation_view};
+    ghost use Rattle.fisca_situations.specs.Steps.Views.{situation as situation_view};
 
     /// The type of the faults of keys.
     type Fault;

@@ -3,7 +3,9 @@
 ghost use Rattle.std.specs.Prelude.{◌≡◌, IfOk, OnErr};
 ghost use Rattle.fisca_inputs.specs.Outcomes.{Answers, Tells};
 ghost use Rattle.fisca_situations.specs.Axes as spec;
-ghost use Rattle.fisca_situations.specs.Views.{situation as situation_view, slot as slot_view};
+ghost use Rattle.fisca_situations.specs.Steps.Axes as steps;
+ghost use Rattle.fisca_situations.specs.Views.{slot as slot_view};
+ghost use Rattle.fisca_situations.specs.Steps.Views.{situation as situation_view};
 
 use crate::axis_slot::slot_of;
 use crate::putting::put_in;
@@ -25,7 +27,7 @@ fn refused(kind: SituationKind) -> SituationFault
 
 /// The input that an axis of this variable moves, with the value 0.
 fn moved(variable: &Variable<'_>, key: &Key) -> Given
-    ensures { result ≡ spec.moved variable.now key.now }
+    ensures { result ≡ steps.moved variable.now key.now }
 {
     Given {
         variable: key.variable,
@@ -43,7 +45,7 @@ fn moved_of(
     given: &[Given],
     key: &Key,
 ) -> Result<Given, SituationFault>
-    ensures { Answers (λ g. g) (spec.moved_of tables.now members.now given.now key.now) result }
+    ensures { Answers (λ g. g) (steps.moved_of tables.now members.now given.now key.now) result }
 {
     let Some(variable) = tables.variables.as_slice().get(key.variable) else {
         return Err(refused(SituationKind::UnknownVariable));
@@ -63,7 +65,7 @@ fn moved_of(
 
 /// These inputs, where one is put in.
 fn with_input(alloc: Global, given: &[Given], input: Given) -> Result<Vec<Given>, AllocError>
-    ensures { IfOk result (λ v. v.items ≡ spec.put_in given.now input) }
+    ensures { IfOk result (λ v. v.items ≡ steps.put_in given.now input) }
 {
     let mut all = Vec::with_capacity(alloc, given.len())?;
     all.extend_from_slice(given)?;
@@ -79,7 +81,7 @@ fn shared_anew(
     members: &Members,
     given: &[Given],
 ) -> Result<Inputs, SituationFault>
-    ensures { Tells (λ i. i) (spec.shared_anew tables.now neutral.now members.now given.now) result }
+    ensures { Tells (λ i. i) (steps.shared_anew tables.now neutral.now members.now given.now) result }
 {
     let counts = members.counts(alloc)?;
     let variables = tables.variables.as_slice();

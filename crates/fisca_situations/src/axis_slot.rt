@@ -3,6 +3,7 @@
 ghost use Rattle.std.specs.Prelude.{◌≡◌, ◌++◌, ◌∷◌, [], false, Some, IfOk, OnOk};
 ghost use Rattle.fisca_inputs.specs.Rules.{rule_of};
 ghost use Rattle.fisca_situations.specs.Slots as spec;
+ghost use Rattle.fisca_situations.specs.Steps.Slots as steps;
 ghost use Rattle.fisca_situations.specs.Views.{slot as slot_view};
 ghost use Rattle.fisca_time.specs.Period.{subs};
 
@@ -38,7 +39,7 @@ fn periods_of(
     variable: &Variable<'_>,
     given: &Given,
 ) -> Result<Vec<Period>, AllocError>
-    ensures { IfOk result (λ v. v.items ≡ spec.periods_of (rule_of variable.now) given.now) }
+    ensures { IfOk result (λ v. v.items ≡ steps.periods_of (rule_of variable.now) given.now) }
 {
     if !fits(variable.definition_period, given.period) {
         return parts_of(alloc, given.period, variable.definition_period);
@@ -50,7 +51,7 @@ fn periods_of(
 
 /// Whether parts of a period get equal shares of a value.
 fn divides(rule: Option<SetInput>) -> bool
-    ensures { result ≡ spec.divides rule }
+    ensures { result ≡ steps.divides rule }
 {
     match rule {
         Some(SetInput::DivideByPeriod) => true,
@@ -60,7 +61,7 @@ fn divides(rule: Option<SetInput>) -> bool
 
 /// Whether the parts of an axis's period get equal shares of its value, and not each the whole.
 fn is_divided(variable: &Variable<'_>, given: &Given) -> bool
-    ensures { result ≡ spec.is_divided (rule_of variable.now) given.now }
+    ensures { result ≡ steps.is_divided (rule_of variable.now) given.now }
 {
     !fits(variable.definition_period, given.period) && divides(variable.set_input)
 }
@@ -87,7 +88,7 @@ pub(crate) fn slot_by(
     wheel: u32,
     given: &Given,
 ) -> Result<Slot, AllocError>
-    ensures { IfOk result (λ s. slot_view s ≡ spec.slot_by is_neutral (Some variable.now) wheel given.now) }
+    ensures { IfOk result (λ s. slot_view s ≡ steps.slot_by is_neutral (Some variable.now) wheel given.now) }
 {
     if is_neutral {
         return Ok(slot_without(alloc, variable.value_type, wheel, given));
@@ -112,7 +113,7 @@ pub fn slot_of(
     wheel: u32,
     given: &Given,
 ) -> Result<Slot, AllocError>
-    ensures { IfOk result (λ s. slot_view s ≡ spec.slot_of tables.now neutral.now wheel given.now) }
+    ensures { IfOk result (λ s. slot_view s ≡ steps.slot_of tables.now neutral.now wheel given.now) }
 {
     match tables.variables.as_slice().get(given.variable) {
         Some(variable) => {

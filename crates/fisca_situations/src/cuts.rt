@@ -1,7 +1,7 @@
 //! Values of axes for a type of values.
 
 ghost use Rattle.std.specs.Prelude.{◌≡◌};
-ghost use Rattle.fisca_situations.specs.Cuts as spec;
+ghost use Rattle.fisca_situations.specs.Steps.Cuts as spec;
 
 use fisca_num::Fraction;
 use fisca_symbols::DeclaredType;

@@ -5,7 +5,7 @@ ghost use Rattle.std.specs.Option.{unwrap_or};
 ghost use Rattle.fisca_inputs.specs.Outcomes.{Tells};
 ghost use Rattle.fisca_yaml.specs.Find.{begins_on};
 ghost use Rattle.fisca_yaml.specs.Views.{node, entries_view};
-ghost use Rattle.fisca_situations.specs.Reading as spec;
+ghost use Rattle.fisca_situations.specs.Steps.Reading as spec;
 ghost use Rattle.fisca_situations.specs.Views.{place as place_view};
 
 use crate::given_inputs::GivenInputs;
@@ -63,7 +63,7 @@ fn given_of(
 
 /// The inputs so far and what stands at a period, whose key or whose variable's key stands on `line`. The period is judged before the
 /// value.
-#[tactic(auto, unfolding(crate::specs::Reading::value_given))]
+#[tactic(auto, unfolding(crate::specs::Steps::Reading::value_given))]
 fn value_given(
     tables: &Tables<'_>,
     place: Place<'_, '_>,
@@ -99,7 +99,7 @@ fn read_given(
 }
 
 /// The same; nothing is no input.
-#[tactic(auto, unfolding(crate::specs::Reading::dated_given))]
+#[tactic(auto, unfolding(crate::specs::Steps::Reading::dated_given))]
 fn dated_given(
     tables: &Tables<'_>,
     place: Place<'_, '_>,
@@ -156,7 +156,7 @@ fn at_default(
 }
 
 /// The inputs so far and what stands at a variable, whose key stands on `line`: nothing, a map from periods to values, or a value.
-#[tactic(auto, unfolding(crate::specs::Reading::variable_given))]
+#[tactic(auto, unfolding(crate::specs::Steps::Reading::variable_given))]
 pub(crate) fn variable_given(
     tables: &Tables<'_>,
     default: Option<Period>,

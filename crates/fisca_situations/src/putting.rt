@@ -3,7 +3,7 @@
 ghost use Rattle.std.specs.Prelude.{◌≡◌, ◌∷◌, ◌++◌, [], OnOk};
 ghost use Rattle.fisca_inputs.specs.Entries.{same_key};
 ghost use Rattle.fisca_inputs.specs.Inputs.{key_given};
-ghost use Rattle.fisca_situations.specs.Axes as spec;
+ghost use Rattle.fisca_situations.specs.Steps.Axes as spec;
 
 use fisca_inputs::Given;
 use std::alloc::AllocError;

@@ -2,12 +2,12 @@
 
 ghost use Rattle.std.specs.Prelude.{◌≡◌};
 ghost use Rattle.fisca_inputs.specs.Outcomes.{Tells};
-ghost use Rattle.fisca_members.specs.Members.{members_in as members_spec};
-ghost use Rattle.fisca_members.specs.Sections.{input_of as input_spec, titles_of as titles_spec};
+ghost use Rattle.fisca_members.specs.Steps.Members.{members_in as members_spec};
+ghost use Rattle.fisca_members.specs.Steps.Sections.{input_of as input_spec, titles_of as titles_spec};
 ghost use Rattle.fisca_members.specs.Views.{input_view};
 ghost use Rattle.fisca_symbols.specs.Known.{tables as known};
 ghost use Rattle.fisca_yaml.specs.Views.{node};
-ghost use Rattle.fisca_situations.specs.Situations as spec;
+ghost use Rattle.fisca_situations.specs.Steps.Situations as spec;
 
 use crate::given_inputs::GivenInputs;
 use crate::sections::inputs_given;
@@ -84,7 +84,7 @@ fn members_told(
 }
 
 /// What an input says, whose keys are read.
-#[tactic(auto, unfolding(crate::specs::Situations::reading_in))]
+#[tactic(auto, unfolding(crate::specs::Steps::Situations::reading_in))]
 fn reading_in(
     alloc: Global,
     tables: &Tables<'_>,
@@ -106,7 +106,7 @@ fn reading_in(
 /// key, or of the variable's where there is none, where the period can't be read, is neither one of the variable's definition periods nor
 /// a longer one with a rule that shares it, or is not there; `BadValue` where the value is not of the variable's type, at its line;
 /// `InconsistentInput` where a member has an input for the variable and an equal period already. `Memory` has line 0.
-#[tactic(auto, unfolding(crate::specs::Situations::reading_of))]
+#[tactic(auto, unfolding(crate::specs::Steps::Situations::reading_of))]
 pub fn reading_of(
     alloc: Global,
     tables: &Tables<'_>,

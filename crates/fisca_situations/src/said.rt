@@ -4,6 +4,7 @@ ghost use Rattle.std.specs.Prelude.{◌≡◌, option_map};
 ghost use Rattle.fisca_symbols.specs.Known.{tables as known};
 ghost use Rattle.fisca_yaml.specs.Views.{node};
 ghost use Rattle.fisca_situations.specs.Values as spec;
+ghost use Rattle.fisca_situations.specs.Steps.Values as steps;
 
 use fisca_model::Value;
 use fisca_num::Fraction;
@@ -24,21 +25,21 @@ pub enum Said {
 
 /// Whether a whole number has 32 bits.
 fn fits_int(number: i64) -> bool
-    ensures { result ≡ spec.fits_int number }
+    ensures { result ≡ steps.fits_int number }
 {
     number >= -2_147_483_648 && number <= 2_147_483_647
 }
 
 /// Whether a number is a whole one of 32 bits.
 fn is_int(number: Fraction) -> bool
-    ensures { result ≡ spec.is_int number }
+    ensures { result ≡ steps.is_int number }
 {
     number.denominator() == 1 && fits_int(number.numerator())
 }
 
 /// The bool that a number stands for: 0 or 1.
 fn bool_of(number: Fraction) -> Option<bool>
-    ensures { result ≡ spec.bool_of number }
+    ensures { result ≡ steps.bool_of number }
 {
     if number.denominator() != 1 {
         return None;
@@ -52,7 +53,7 @@ fn bool_of(number: Fraction) -> Option<bool>
 
 /// A bool, in words or as 0 or 1.
 fn bool_in(tree: &Tree<'_>) -> Option<bool>
-    ensures { result ≡ spec.bool_in (node tree.now) }
+    ensures { result ≡ steps.bool_in (node tree.now) }
 {
     if let Some(word) = tree.as_bool() {
         return Some(word);
@@ -63,7 +64,7 @@ fn bool_in(tree: &Tree<'_>) -> Option<bool>
 
 /// A whole number of 32 bits.
 fn int_in(tree: &Tree<'_>) -> Option<Fraction>
-    ensures { result ≡ spec.int_in (node tree.now) }
+    ensures { result ≡ steps.int_in (node tree.now) }
 {
     let number = tree.as_number()?;
     if is_int(number) { Some(number) } else { None }
@@ -71,7 +72,7 @@ fn int_in(tree: &Tree<'_>) -> Option<Fraction>
 
 /// The place of the member of an Enum that a text names.
 fn member_in(tables: &Tables<'_>, choices: usize, tree: &Tree<'_>) -> Option<usize>
-    ensures { result ≡ spec.member_in (known tables.now) choices (node tree.now) }
+    ensures { result ≡ steps.member_in (known tables.now) choices (node tree.now) }
 {
     let name = tree.as_text()?;
     tables.member_named(choices, name.as_bytes())
@@ -89,7 +90,7 @@ fn is_day(tree: &Tree<'_>) -> bool
 
 /// A value, where it can be read.
 fn input_or(value: Option<Value>) -> Said
-    ensures { result ≡ spec.input_or value }
+    ensures { result ≡ steps.input_or value }
 {
     match value {
         Some(value) => Said::Input(value),
@@ -99,7 +100,7 @@ fn input_or(value: Option<Value>) -> Said
 
 /// What is no input, where it can be read.
 fn unused_if(is_read: bool) -> Said
-    ensures { result ≡ spec.unused_if is_read }
+    ensures { result ≡ steps.unused_if is_read }
 {
     if is_read {
         Said::Unused

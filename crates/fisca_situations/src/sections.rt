@@ -7,7 +7,7 @@ ghost use Rattle.fisca_members.specs.Views.{section as section_view, input_view}
 ghost use Rattle.fisca_symbols.specs.KnownEntities.{entity as known_one, entities as known_all};
 ghost use Rattle.fisca_symbols.specs.KnownRoles.{roles as known_roles};
 ghost use Rattle.fisca_yaml.specs.Views.{node, entries_view};
-ghost use Rattle.fisca_situations.specs.Reading as spec;
+ghost use Rattle.fisca_situations.specs.Steps.Reading as spec;
 
 use crate::given::fault_at;
 use crate::given_inputs::GivenInputs;
@@ -23,7 +23,7 @@ use std::alloc::Global;
 const MOST_MEMBERS: usize = 1000;
 
 /// The inputs so far and what is said of the member at a place, whose name stands on `line`.
-#[tactic(auto, unfolding(crate::specs::Reading::member_below))]
+#[tactic(auto, unfolding(crate::specs::Steps::Reading::member_below))]
 fn member_below(
     tables: &Tables<'_>,
     default: Option<Period>,
@@ -84,7 +84,7 @@ fn members_given(
 }
 
 /// The inputs so far and what is said in a section of an entity with these roles.
-#[tactic(auto, unfolding(crate::specs::Reading::section_by))]
+#[tactic(auto, unfolding(crate::specs::Steps::Reading::section_by))]
 fn section_by(
     alloc: Global,
     tables: &Tables<'_>,
@@ -125,7 +125,7 @@ fn entity_at<'e, 'r>(entities: &'e [Entity<'r>], place: usize) -> Option<&'e Ent
 }
 
 /// The inputs so far and what is said in a section.
-#[tactic(auto, unfolding(crate::specs::Reading::section_given))]
+#[tactic(auto, unfolding(crate::specs::Steps::Reading::section_given))]
 fn section_given(
     alloc: Global,
     tables: &Tables<'_>,
@@ -185,7 +185,7 @@ fn alone_given(
 }
 
 /// All inputs, as they are given.
-#[tactic(auto, unfolding(crate::specs::Reading::inputs_given))]
+#[tactic(auto, unfolding(crate::specs::Steps::Reading::inputs_given))]
 pub(crate) fn inputs_given(
     alloc: Global,
     tables: &Tables<'_>,

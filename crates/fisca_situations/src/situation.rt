@@ -5,8 +5,8 @@ ghost use Rattle.fisca_inputs.specs.Entries.{value_at};
 ghost use Rattle.fisca_inputs.specs.Inputs.{without_marked};
 ghost use Rattle.fisca_inputs.specs.Outcomes.{Tells};
 ghost use Rattle.fisca_groups.specs.Lookup.{count_at, name_at};
-ghost use Rattle.fisca_situations.specs.Situations as spec;
-ghost use Rattle.fisca_situations.specs.Views.{situation};
+ghost use Rattle.fisca_situations.specs.Steps.Situations as spec;
+ghost use Rattle.fisca_situations.specs.Steps.Views.{situation};
 ghost use Rattle.fisca_yaml.specs.Views.{node};
 
 use crate::reading::{Reading, reading_of};
@@ -48,7 +48,7 @@ impl Situation {
     /// Else the first fault: of entities and then of inputs, as `reading_of` tells, then of sharing and of defaults, as `Inputs::share`
     /// tells. `Memory`, at line 0, comes only where a growth was refused. (OpenFisca's situations as its tests in YAML have them; sharing,
     /// roles that are given and the order of faults are this project's own.)
-    #[tactic(auto, unfolding(crate::specs::Situations::situation_of))]
+    #[tactic(auto, unfolding(crate::specs::Steps::Situations::situation_of))]
     pub fn read(
         alloc: Global,
         tables: &Tables<'_>,

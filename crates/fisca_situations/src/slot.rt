@@ -2,7 +2,7 @@
 
 ghost use Rattle.std.specs.Prelude.{◌≡◌, ◌<◌, ◌^◌};
 ghost use Rattle.fisca_situations.specs.Sets.{set_each};
-ghost use Rattle.fisca_situations.specs.Slots as spec;
+ghost use Rattle.fisca_situations.specs.Steps.Slots as spec;
 ghost use Rattle.fisca_situations.specs.Views.{slot as slot_view};
 
 use crate::cuts::cut_for;

@@ -3,7 +3,7 @@
 ghost use Rattle.std.specs.Prelude.{◌≡◌, option_map, slice_get};
 ghost use Rattle.fisca_inputs.specs.Outcomes.{Tells};
 ghost use Rattle.fisca_yaml.specs.Views.{node, entries_view};
-ghost use Rattle.fisca_situations.specs.Reading as spec;
+ghost use Rattle.fisca_situations.specs.Steps.Reading as spec;
 
 use crate::given::{fault_at, variable_given};
 use crate::given_inputs::GivenInputs;
@@ -35,7 +35,7 @@ fn variable_of(tables: &Tables<'_>, key: &[u8]) -> Option<usize>
 }
 
 /// The inputs so far and what stands at the variable at a place.
-#[tactic(auto, unfolding(crate::specs::Reading::named_given))]
+#[tactic(auto, unfolding(crate::specs::Steps::Reading::named_given))]
 fn named_given(
     tables: &Tables<'_>,
     default: Option<Period>,
@@ -66,7 +66,7 @@ fn named_given(
 }
 
 /// The inputs so far and what stands at a key: of roles nothing, which are read before.
-#[tactic(auto, unfolding(crate::specs::Reading::entry_given))]
+#[tactic(auto, unfolding(crate::specs::Steps::Reading::entry_given))]
 fn entry_given(
     tables: &Tables<'_>,
     default: Option<Period>,

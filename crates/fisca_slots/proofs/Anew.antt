@@ -4,10 +4,13 @@ use Rattle.std.specs.Prelude.{Result, Ok, Err, nat_lt, ◌==◌, option_map}
 use Rattle.std.specs.List.{list_any}
 use Rattle.std.specs.Ordering.{int_eq}
 use Rattle.fisca_inputs.proofs.Looked.{looked-put, looked-put_all}
-use Rattle.fisca_inputs.specs.Entries.{Entries, same_key, value_at, has, limit, put, put_free, put_all}
+use Rattle.fisca_inputs.specs.Entries.{Entries, same_key, value_at, limit}
+use Rattle.fisca_inputs.specs.Steps.Entries.{has, put, put_free, put_all}
 use Rattle.fisca_inputs.specs.Faults.{at_line}
-use Rattle.fisca_inputs.specs.Rules.{Rule, is_longer}
-use Rattle.fisca_inputs.specs.Sharing.{alone, computed, count_free, divided, divided_value, over_parts, own_key, part_ratio, parts_of, rest_of, share_of, shared, spread}
+use Rattle.fisca_inputs.specs.Rules.{Rule}
+use Rattle.fisca_inputs.specs.Steps.Rules.{is_longer}
+use Rattle.fisca_inputs.specs.Sharing.{alone, count_free, divided, divided_value, over_parts, own_key, rest_of, shared}
+use Rattle.fisca_inputs.specs.Steps.Sharing.{computed, part_ratio, parts_of, share_of, spread}
 use Rattle.fisca_model.specs.contracts.key.KeyEq.TheImpl.Laws.{laws-law}
 use Rattle.fisca_inputs.specs.declared.fault.SituationFault.{SituationFault}
 use Rattle.fisca_inputs.specs.declared.fault.SituationKind.TheVariants.{InconsistentInput, PeriodMismatch, TooMany}
@@ -22,7 +25,7 @@ use Rattle.fisca_num.specs.declared.faults.NumFault.{NumFault}
 use Rattle.fisca_num.specs.declared.faults.NumFault.TheVariants.{ZeroDivisor}
 use Rattle.fisca_params.specs.Results.{and_then}
 use Rattle.fisca_slots.proofs.Both.{At, HasParts, Moving, behind, count_alike, keys, keys_of, length_parts, rest_alike, same_has, shared_both, some_count, spread_all, value_here}
-use Rattle.fisca_situations.specs.Slots.{divides, is_divided, share_by}
+use Rattle.fisca_situations.specs.Steps.Slots.{divides, is_divided, share_by}
 use Rattle.fisca_symbols.specs.declared.variable.SetInput.{SetInput}
 use Rattle.fisca_symbols.specs.declared.variable.SetInput.TheVariants.{DivideByPeriod, DispatchByPeriod}
 use Rattle.fisca_time.specs.Period.{subs}

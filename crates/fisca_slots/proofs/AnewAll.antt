@@ -3,12 +3,15 @@ use Rattle.std.proofs.Common.{◌≡◌, ℕ, List, [], ◌∷◌, map, Bool, tr
 use Rattle.std.specs.Prelude.{⊤, Result, Ok, Err}
 use Rattle.std.specs.List.{list_any}
 use Rattle.std.proofs.lemmas.Bool.{or_right}
-use Rattle.fisca_inputs.specs.Defaults.{beside, beside_by, count_of, first_line, row_of, row_with, rows_of, with_defaults}
-use Rattle.fisca_inputs.specs.Entries.{Entries, has, same_key, value_at}
+use Rattle.fisca_inputs.specs.Defaults.{beside, beside_by, row_with, rows_of, with_defaults}
+use Rattle.fisca_inputs.specs.Steps.Defaults.{count_of, first_line, row_of}
+use Rattle.fisca_inputs.specs.Entries.{Entries, same_key, value_at}
+use Rattle.fisca_inputs.specs.Steps.Entries.{has}
 use Rattle.fisca_inputs.specs.Inputs.{inputs_of}
-use Rattle.fisca_inputs.specs.Order.{in_order}
+use Rattle.fisca_inputs.specs.Steps.Order.{in_order}
 use Rattle.fisca_inputs.specs.Rules.{Rule}
-use Rattle.fisca_inputs.specs.Sharing.{all_shared, parts_of, shared, shared_by}
+use Rattle.fisca_inputs.specs.Sharing.{all_shared, shared, shared_by}
+use Rattle.fisca_inputs.specs.Steps.Sharing.{parts_of}
 use Rattle.fisca_inputs.specs.declared.fault.SituationFault.{SituationFault}
 use Rattle.fisca_inputs.specs.declared.given.Given.{Given}
 use Rattle.fisca_model.specs.declared.value.Value.{Value}

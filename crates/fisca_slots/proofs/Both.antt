@@ -5,10 +5,13 @@ use Rattle.std.specs.List.{list_any}
 use Rattle.std.specs.Ordering.{int_eq}
 use Rattle.std.proofs.lemmas.Bool.{eqb-true, ltb-true, or_right}
 use Rattle.fisca_inputs.proofs.Looked.{looked-put, looked-put_all}
-use Rattle.fisca_inputs.specs.Entries.{Entries, key, same_key, value_at, has, limit, put, put_free, put_all}
+use Rattle.fisca_inputs.specs.Entries.{Entries, key, same_key, value_at, limit}
+use Rattle.fisca_inputs.specs.Steps.Entries.{has, put, put_free, put_all}
 use Rattle.fisca_inputs.specs.Faults.{at_line}
-use Rattle.fisca_inputs.specs.Rules.{Rule, is_longer}
-use Rattle.fisca_inputs.specs.Sharing.{computed, without, rest_of, count_free, part_ratio, share_of, spread, divided, divided_value, alone, parts_of, over_parts, own_key, shared}
+use Rattle.fisca_inputs.specs.Rules.{Rule}
+use Rattle.fisca_inputs.specs.Steps.Rules.{is_longer}
+use Rattle.fisca_inputs.specs.Sharing.{rest_of, count_free, divided, divided_value, alone, over_parts, own_key, shared}
+use Rattle.fisca_inputs.specs.Steps.Sharing.{computed, without, part_ratio, share_of, spread, parts_of}
 use Rattle.fisca_model.specs.contracts.key.KeyEq.TheImpl.Laws.{laws-law}
 use Rattle.fisca_inputs.specs.declared.fault.SituationFault.{SituationFault}
 use Rattle.fisca_inputs.specs.declared.fault.SituationKind.TheVariants.{InconsistentInput, PeriodMismatch, TooMany}

@@ -11,7 +11,8 @@ use Rattle.std.proofs.lemmas.List.FromFn.{length-map-range_with_len}
 use Rattle.fisca_inputs.proofs.Numbered.{key_parts}
 use Rattle.fisca_inputs.specs.Entries.{key, same_key}
 use Rattle.fisca_inputs.specs.Rules.{Rule}
-use Rattle.fisca_inputs.specs.Sharing.{own_key, parts_of}
+use Rattle.fisca_inputs.specs.Sharing.{own_key}
+use Rattle.fisca_inputs.specs.Steps.Sharing.{parts_of}
 use Rattle.fisca_inputs.specs.declared.given.Given.{Given}
 use Rattle.fisca_model.specs.declared.key.Key.{Key}
 use Rattle.fisca_model.specs.Periods.{fits, is_eternity, key_period}

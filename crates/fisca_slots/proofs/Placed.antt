@@ -14,8 +14,9 @@ use Rattle.fisca_model.specs.declared.key.Key.{Key}
 use Rattle.fisca_slots.proofs.Both.{Moving, here}
 use Rattle.fisca_slots.proofs.Shared.{Each, Pairwise, given_of}
 use Rattle.fisca_situations.specs.AllAxes.{is_overlap, put_all_in}
-use Rattle.fisca_situations.specs.Axes.{put_in}
-use Rattle.fisca_inputs.specs.Overlaps.{is_across, is_other, meets, overlaps, shares_day, starts_before}
+use Rattle.fisca_situations.specs.Steps.Axes.{put_in}
+use Rattle.fisca_inputs.specs.Overlaps.{shares_day, starts_before}
+use Rattle.fisca_inputs.specs.Steps.Overlaps.{is_across, is_other, meets, overlaps}
 use Rattle.fisca_time.specs.Period.{Span, span_cmp}
 
 abbrev pub key_of : Moving → Key

@@ -3,12 +3,14 @@ use Rattle.std.proofs.Common.{◌≡◌, ℕ, List, [], ◌∷◌, map, length, 
 use Rattle.std.specs.Prelude.{⊤, Result, Ok, Err}
 use Rattle.std.specs.List.{list_any}
 use Rattle.std.specs.Ordering.{is_lt}
-use Rattle.fisca_inputs.specs.Defaults.{first_line, row_of, row_with, count_of, beside, beside_by, row_key, and_row, rows_with, rows_of, with_defaults}
+use Rattle.fisca_inputs.specs.Defaults.{row_with, beside, beside_by, row_key, and_row, rows_with, rows_of, with_defaults}
+use Rattle.fisca_inputs.specs.Steps.Defaults.{first_line, row_of, count_of}
 use Rattle.fisca_inputs.specs.Entries.{Entries, same_key}
 use Rattle.fisca_inputs.specs.Inputs.{inputs_of}
-use Rattle.fisca_inputs.specs.Order.{given_cmp, put_in_order, in_order_with, in_order}
+use Rattle.fisca_inputs.specs.Steps.Order.{given_cmp, put_in_order, in_order_with, in_order}
 use Rattle.fisca_inputs.specs.Rules.{Rule}
-use Rattle.fisca_inputs.specs.Sharing.{parts_of, shared, shared_by, all_shared}
+use Rattle.fisca_inputs.specs.Sharing.{shared, shared_by, all_shared}
+use Rattle.fisca_inputs.specs.Steps.Sharing.{parts_of}
 use Rattle.fisca_inputs.specs.declared.fault.SituationFault.{SituationFault}
 use Rattle.fisca_inputs.specs.declared.given.Given.{Given}
 use Rattle.fisca_model.specs.declared.value.Value.{Value}

@@ -7,13 +7,15 @@ use Rattle.std.specs.Ordering.{eq_by_cmp, is_eq, is_lt, nat_cmp, ordering_then}
 use Rattle.std.proofs.lemmas.Bool.{and_parts, eqb-true, eq-eqb, leb-true, lt-ltb, or_parts}
 use Rattle.std.proofs.lemmas.List.Folds.{list_any-append}
 use Rattle.fisca_inputs.specs.Entries.{same_key}
-use Rattle.fisca_inputs.specs.Order.{given_cmp}
+use Rattle.fisca_inputs.specs.Steps.Order.{given_cmp}
 use Rattle.fisca_inputs.specs.Rules.{Rule}
-use Rattle.fisca_inputs.specs.Sharing.{own_key, parts_of}
+use Rattle.fisca_inputs.specs.Sharing.{own_key}
+use Rattle.fisca_inputs.specs.Steps.Sharing.{parts_of}
 use Rattle.fisca_inputs.specs.declared.given.Given.{Given}
 use Rattle.fisca_model.specs.declared.key.Key.{Key}
 use Rattle.fisca_model.specs.Periods.{fits}
-use Rattle.fisca_inputs.specs.Overlaps.{is_across, meets, overlaps, shares_day, starts_before}
+use Rattle.fisca_inputs.specs.Overlaps.{shares_day, starts_before}
+use Rattle.fisca_inputs.specs.Steps.Overlaps.{is_across, meets, overlaps}
 use Rattle.fisca_slots.proofs.Both.{Moving, keys_of}
 use Rattle.fisca_slots.proofs.Months.{month_before}
 use Rattle.fisca_inputs.proofs.Numbered.{key_parts}

@@ -9,13 +9,14 @@ use Rattle.std.proofs.lemmas.Nat.{mul-le}
 use Rattle.fisca_grid.proofs.Groups.{alike_first, fault_first, left_grouped, length-axes_at, sum_first}
 use Rattle.fisca_grid.proofs.Sizes.{abs-line}
 use Rattle.fisca_grid.proofs.Steps.{below_within, bound_size, bound_value, number_fits, on_line, same_number_of, step_on_line}
-use Rattle.fisca_grid.specs.Axes.{IsLine, axis_fault, first_axis_fault, is_bound, is_count, step_of, steps_of}
+use Rattle.fisca_grid.specs.Axes.{IsLine, axis_fault, first_axis_fault, is_count, step_of, steps_of}
+use Rattle.fisca_grid.specs.Steps.Axes.{is_bound}
 use Rattle.fisca_grid.specs.AxesRow.{before_values, values_of}
 use Rattle.fisca_grid.specs.Grid.{axes_at, axes_fault, axes_in, count_of, grid_fault, groups_of, has_two_counts}
 use Rattle.fisca_grid.specs.declared.axes.AxesFault.{AxesFault}
 use Rattle.fisca_grid.specs.declared.axes.AxesFault.TheVariants.{BadBound, BadCount, CountsDiffer, NoAxes}
 use Rattle.fisca_grid.specs.declared.axes.AxisSpec.{AxisSpec}
-use Rattle.fisca_inputs.specs.Sharing.{part_ratio}
+use Rattle.fisca_inputs.specs.Steps.Sharing.{part_ratio}
 use Rattle.fisca_num.specs.Integers.{times_pos}
 use Rattle.fisca_num.specs.Number.{Number, ratio_of, whole_number}
 use Rattle.fisca_num.specs.Operations.{is_number_of, number_of}

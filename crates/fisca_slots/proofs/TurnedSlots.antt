@@ -14,7 +14,8 @@ use Rattle.fisca_slots.proofs.Turned.{stand, stand_even, stand_out}
 use Rattle.fisca_slots.proofs.SameWheels.{Same}
 use Rattle.fisca_situations.proofs.Sets.{set_none}
 use Rattle.fisca_slots.specs.Turning.{AreSamePlaces, IsSamePlace, turned_below}
-use Rattle.fisca_situations.specs.Slots.{Slot, keys_of, set_share, share_in, turned}
+use Rattle.fisca_situations.specs.Slots.{Slot}
+use Rattle.fisca_situations.specs.Steps.Slots.{keys_of, set_share, share_in, turned}
 
 -- One after another
 

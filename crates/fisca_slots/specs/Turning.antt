@@ -2,7 +2,8 @@
 use Rattle.std.specs.Prelude.{◌≡◌, ⊤, ℕ, suc, nat_lt, List, [], ◌∷◌, ◌++◌, map, if◌then◌else◌, slice_get}
 use Rattle.fisca_inputs.specs.Entries.{Entries}
 use Rattle.fisca_num.specs.Number.{Number}
-use Rattle.fisca_situations.specs.Slots.{Slot, turned}
+use Rattle.fisca_situations.specs.Slots.{Slot}
+use Rattle.fisca_situations.specs.Steps.Slots.{turned}
 
 -- for each axis of these groups the place of its group, where the first group has this one
 abbrev pub wheels_from : {X : Type 0} → ℕ → List (List X) → List ℕ

@@ -4,4 +4,4 @@ pub mod KnownEnums
 pub mod KnownNames
 pub mod KnownRoles
 pub mod KnownVariables
-pub mod Spelling
+pub mod Steps

@@ -3,7 +3,7 @@
 ghost use Rattle.std.specs.Prelude.{◌≡◌, ℕ, List, Some, None, IfOk, OnOk, option_map, if◌then◌else◌};
 ghost use Rattle.std.specs.Str.{bytes_eq};
 ghost use Rattle.fisca_symbols.specs.KnownRoles.{role, roles};
-ghost use Rattle.fisca_symbols.specs.Spelling.{spelled};
+ghost use Rattle.fisca_symbols.specs.Steps.Spelling.{spelled};
 ghost use Rattle.fisca_model.specs.Tables.{most, otherwise, place_in, role_from, subrole_of, whole_role};
 ghost use Rattle.indexmap.specs.IndexMap.{get};
 

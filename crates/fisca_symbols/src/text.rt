@@ -1,7 +1,7 @@
 //! Texts of a rule set: names, and what stands in quotes.
 
 ghost use Rattle.std.specs.Prelude.{◌≡◌, IfOk};
-ghost use Rattle.fisca_symbols.specs.Spelling.{spelled};
+ghost use Rattle.fisca_symbols.specs.Steps.Spelling.{spelled};
 
 use std::alloc::{AllocError, Global};
 use std::borrow::CowSlice;

@@ -2,17 +2,19 @@
 use Rattle.std.proofs.Common.{◌≡◌, ℕ, ap, subst}
 use Rattle.std.specs.Option.{unwrap_or}
 use Rattle.std.specs.Prelude.{codes, Result, Ok, Err}
-use Rattle.fisca_columns.specs.Calc.{default_in}
+use Rattle.fisca_columns.specs.Steps.Calc.{default_in}
 use Rattle.fisca_inputs.proofs.Typed.{then_ok}
 use Rattle.fisca_inputs.specs.declared.fault.SituationFault.{SituationFault}
 use Rattle.fisca_params.specs.Results.{and_then}
 use Rattle.fisca_situations.specs.Situations.{Situation}
 use Rattle.fisca_symbols.specs.declared.tables.Tables.{Tables}
-use Rattle.fisca_yaml.specs.Find.{get, line_at}
+use Rattle.fisca_yaml.specs.Find.{line_at}
+use Rattle.fisca_yaml.specs.Steps.Find.{get}
 use Rattle.fisca_yaml.specs.Node.{Node, null}
 use Rattle.fisca_test_file.specs.Faults.{situation_told}
 use Rattle.fisca_test_file.specs.Read.{IsRead}
-use Rattle.fisca_test_file.specs.Tests.{Test, first_line, margins_in, name_in, outputs_in, shape_checked, situation_in, test_by, test_of}
+use Rattle.fisca_test_file.specs.Tests.{Test}
+use Rattle.fisca_test_file.specs.Steps.Tests.{first_line, margins_in, name_in, outputs_in, shape_checked, situation_in, test_by, test_of}
 
 told_ok : {X : Type 0} (r : Result X SituationFault) (x : X) → situation_told r ≡ Ok x → r ≡ Ok x
 told_ok (Ok y) x h = let same : y ≡ x = cc in ap Ok same

@@ -3,43 +3,43 @@ use Rattle.std.proofs.Common.{◌≡◌, ◌∙◌, ℕ, ◌+◌, ap, refl, sym,
 use Rattle.std.specs.Prelude.{Result, Ok}
 use Rattle.std.proofs.lemmas.List.{length-append}
 use Rattle.std.proofs.lemmas.List.Sums.{sum_by-append}
-use Rattle.fisca_test_file.specs.Report.{AreTold, Scene, counted, failed_of, passed_of, test_passes, test_text, tests_text}
+use Rattle.fisca_test_file.specs.Report.{AreTold, TestContext, counted, failed_of, passed_of, test_passes, test_text, tests_text}
 use Rattle.fisca_test_file.specs.Tests.{Test}
 use Rattle.fisca_test_file.specs.declared.all.Verdict.{Verdict}
 use Rattle.fisca_test_file.specs.declared.fault.TestFault.{TestFault}
 
 -- these tests are told
-pub record Told {F : Type 0} (scene : Test → Scene F) (told : List Test) (v : Verdict) (old new : List ℕ) : Type 0 where
+pub record Told {F : Type 0} (test_context : Test → TestContext F) (told : List Test) (v : Verdict) (old new : List ℕ) : Type 0 where
   pub number : length told ≡ v.passed + v.failed
-  pub passed : v.passed ≡ passed_of scene told
-  pub failed : v.failed ≡ failed_of scene told
-  pub written : new ≡ old ++ tests_text scene 1 told
+  pub passed : v.passed ≡ passed_of test_context told
+  pub failed : v.failed ≡ failed_of test_context told
+  pub written : new ≡ old ++ tests_text test_context 1 told
 
 -- texts and counts of tests in a row
 
-text_of_both : {F : Type 0} (scene : Test → Scene F) (number : ℕ) (ts us : List Test) → tests_text scene number (ts ++ us) ≡ tests_text scene number ts ++ tests_text scene (number + length ts) us
-text_of_both scene number [] us = ap (λ n. tests_text scene n us) (sym (add-zero number))
-text_of_both scene number (t ∷ ts) us =
+text_of_both : {F : Type 0} (test_context : Test → TestContext F) (number : ℕ) (ts us : List Test) → tests_text test_context number (ts ++ us) ≡ tests_text test_context number ts ++ tests_text test_context (number + length ts) us
+text_of_both test_context number [] us = ap (λ n. tests_text test_context n us) (sym (add-zero number))
+text_of_both test_context number (t ∷ ts) us =
     let e : (number + 1) + length ts ≡ number + length (t ∷ ts) = omega arith in
-    ap (λ x. test_text scene number t ++ x) (text_of_both scene (number + 1) ts us ∙ ap (λ n. tests_text scene (number + 1) ts ++ tests_text scene n us) e)
-    ∙ sym (append_assoc (test_text scene number t) (tests_text scene (number + 1) ts) (tests_text scene (number + length (t ∷ ts)) us))
+    ap (λ x. test_text test_context number t ++ x) (text_of_both test_context (number + 1) ts us ∙ ap (λ n. tests_text test_context (number + 1) ts ++ tests_text test_context n us) e)
+    ∙ sym (append_assoc (test_text test_context number t) (tests_text test_context (number + 1) ts) (tests_text test_context (number + length (t ∷ ts)) us))
 
 count_more : (p : Test → Bool) (ts : List Test) (t : Test) (count : ℕ) → count ≡ count_by p ts → count + cond (p t) 1 0 ≡ count_by p (ts ++ t ∷ [])
 count_more p ts t count h =
     let more : count_by p (ts ++ t ∷ []) ≡ count_by p ts + count_by p (t ∷ []) = sum_by-append (λ x. cond (p x) 1 0) ts (t ∷ []) in
     omega (arith, h, more)
 
-text_more : {F : Type 0} (scene : Test → Scene F) (ts : List Test) (t : Test) (count : ℕ) → length ts ≡ count
-    → tests_text scene 1 ts ++ test_text scene (count + 1) t ≡ tests_text scene 1 (ts ++ t ∷ [])
-text_more scene ts t count h =
+text_more : {F : Type 0} (test_context : Test → TestContext F) (ts : List Test) (t : Test) (count : ℕ) → length ts ≡ count
+    → tests_text test_context 1 ts ++ test_text test_context (count + 1) t ≡ tests_text test_context 1 (ts ++ t ∷ [])
+text_more test_context ts t count h =
     let e : count + 1 ≡ 1 + length ts = omega (arith, h) in
-    ap (λ n. tests_text scene 1 ts ++ test_text scene n t) e ∙ ap (λ x. tests_text scene 1 ts ++ x) (sym (append-nil (test_text scene (1 + length ts) t)))
-    ∙ sym (text_of_both scene 1 ts (t ∷ []))
+    ap (λ n. tests_text test_context 1 ts ++ test_text test_context n t) e ∙ ap (λ x. tests_text test_context 1 ts ++ x) (sym (append-nil (test_text test_context (1 + length ts) t)))
+    ∙ sym (text_of_both test_context 1 ts (t ∷ []))
 
 -- None so far
 
-pub begun : {F : Type 0} (scene : Test → Scene F) (old : List ℕ) → Told scene [] (record { passed = 0; failed = 0 }) old old
-begun scene old = record { number = refl; passed = refl; failed = refl; written = sym (append-nil old) }
+pub begun : {F : Type 0} (test_context : Test → TestContext F) (old : List ℕ) → Told test_context [] (record { passed = 0; failed = 0 }) old old
+begun test_context old = record { number = refl; passed = refl; failed = refl; written = sym (append-nil old) }
 
 -- One test more
 
@@ -55,23 +55,23 @@ counted_one : (b : Bool) (v : Verdict) → (v.passed + v.failed) + 1 ≡ (counte
 counted_one true v = omega arith
 counted_one false v = omega arith
 
-pub step : {F : Type 0} (scene : Test → Scene F) (told : List Test) (t : Test) (v : Verdict) (old mid new : List ℕ) (b : Bool)
-    → Told scene told v old mid → b ≡ test_passes scene t → new ≡ mid ++ test_text scene ((v.passed + v.failed) + 1) t
-    → Told scene (told ++ t ∷ []) (counted b v) old new
-step scene told t v old mid new b h is w =
+pub step : {F : Type 0} (test_context : Test → TestContext F) (told : List Test) (t : Test) (v : Verdict) (old mid new : List ℕ) (b : Bool)
+    → Told test_context told v old mid → b ≡ test_passes test_context t → new ≡ mid ++ test_text test_context ((v.passed + v.failed) + 1) t
+    → Told test_context (told ++ t ∷ []) (counted b v) old new
+step test_context told t v old mid new b h is w =
     let longer : length (told ++ t ∷ []) ≡ length told + 1 = length-append told (t ∷ []) in
     let number : length (told ++ t ∷ []) ≡ (v.passed + v.failed) + 1 = omega (arith, longer, h.number) in
     record {
       number = number ∙ counted_one b v;
-      passed = counted_passed b v ∙ ap (λ c. v.passed + cond c 1 0) is ∙ count_more (test_passes scene) told t v.passed h.passed;
-      failed = counted_failed b v ∙ ap (λ c. v.failed + cond (not c) 1 0) is ∙ count_more (λ x. not (test_passes scene x)) told t v.failed h.failed;
-      written = w ∙ ap (λ x. x ++ test_text scene ((v.passed + v.failed) + 1) t) h.written
-          ∙ append_assoc old (tests_text scene 1 told) (test_text scene ((v.passed + v.failed) + 1) t)
-          ∙ ap (λ x. old ++ x) (text_more scene told t (v.passed + v.failed) h.number);
+      passed = counted_passed b v ∙ ap (λ c. v.passed + cond c 1 0) is ∙ count_more (test_passes test_context) told t v.passed h.passed;
+      failed = counted_failed b v ∙ ap (λ c. v.failed + cond (not c) 1 0) is ∙ count_more (λ x. not (test_passes test_context x)) told t v.failed h.failed;
+      written = w ∙ ap (λ x. x ++ test_text test_context ((v.passed + v.failed) + 1) t) h.written
+          ∙ append_assoc old (tests_text test_context 1 told) (test_text test_context ((v.passed + v.failed) + 1) t)
+          ∙ ap (λ x. old ++ x) (text_more test_context told t (v.passed + v.failed) h.number);
     }
 
 -- All of them
 
-pub all_told : {F : Type 0} (scene : Test → Scene F) (outcome : Result (List Test) TestFault) (ts : List Test) (v : Verdict) (old new : List ℕ)
-    → outcome ≡ Ok ts → Told scene ts v old new → AreTold scene outcome old new v
-all_told scene outcome ts v old new is h = (ts, is, h.passed, h.failed, h.written)
+pub all_told : {F : Type 0} (test_context : Test → TestContext F) (outcome : Result (List Test) TestFault) (ts : List Test) (v : Verdict) (old new : List ℕ)
+    → outcome ≡ Ok ts → Told test_context ts v old new → AreTold test_context outcome old new v
+all_told test_context outcome ts v old new is h = (ts, is, h.passed, h.failed, h.written)

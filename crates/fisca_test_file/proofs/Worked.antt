@@ -4,19 +4,20 @@ use Rattle.std.specs.Prelude.{negsuc, Bool, true, false, is_some, Option, Some, 
 use Rattle.fisca_situations.proofs.Country.{country}
 use Rattle.fisca_situations.proofs.Literals.{five, thirty, one, nothing_more}
 use Rattle.fisca_inputs.specs.declared.fault.SituationKind.TheVariants as situation
-use Rattle.fisca_members.specs.Members.{members_in}
-use Rattle.fisca_members.specs.Persons.{with_person}
+use Rattle.fisca_members.specs.Steps.Members.{members_in}
+use Rattle.fisca_members.specs.Steps.Persons.{with_person}
 use Rattle.fisca_num.specs.Literal.{number_of_literal, number_of_parts, digits_ratio}
 use Rattle.fisca_num.specs.Number.{whole_number}
 use Rattle.fisca_num.specs.Operations.{only_number_of}
-use Rattle.fisca_situations.specs.Reading.{dated_given, entry_given, inputs_given, member_below, named_given, section_by, section_given, value_given, variable_given}
-use Rattle.fisca_situations.specs.Situations.{reading_in, reading_of}
+use Rattle.fisca_situations.specs.Steps.Reading.{dated_given, entry_given, inputs_given, member_below, named_given, section_by, section_given, value_given, variable_given}
+use Rattle.fisca_situations.specs.Steps.Situations.{reading_in, reading_of}
 use Rattle.fisca_yaml.specs.Flow.{flow_value, series}
 use Rattle.fisca_yaml.specs.Grouping.{document, block}
 use Rattle.fisca_yaml.specs.Node.{Node}
-use Rattle.fisca_expected.specs.Reading.{dated_read, entry_read, member_read, named_read, outputs_in, outputs_of, section_by as outputs_section_by, section_read, value_in, values_read, variable_read}
-use Rattle.fisca_test_file.specs.Faults.{at_line}
-use Rattle.fisca_test_file.specs.Tests.{Test, test_by, test_of, tests_of}
+use Rattle.fisca_expected.specs.Steps.Reading.{dated_read, entry_read, member_read, named_read, outputs_in, outputs_of, section_by as outputs_section_by, section_read, value_in, values_read, variable_read}
+use Rattle.fisca_test_file.specs.Steps.Faults.{at_line}
+use Rattle.fisca_test_file.specs.Tests.{Test}
+use Rattle.fisca_test_file.specs.Steps.Tests.{test_by, test_of, tests_of}
 use Rattle.fisca_test_file.specs.declared.fault.TestFault.{TestFault}
 use Rattle.fisca_test_file.specs.declared.fault.TestKind.{TestKind}
 use Rattle.fisca_test_file.specs.declared.fault.TestKind.TheVariants as kind

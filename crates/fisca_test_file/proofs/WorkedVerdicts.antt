@@ -25,9 +25,10 @@ use Rattle.fisca_time.specs.declared.unit.Unit.TheVariants as unit
 use Rattle.fisca_model.specs.Tables.{Tables, Variable}
 use Rattle.fisca_model.specs.declared.value_type.ValueType.{ValueType}
 use Rattle.fisca_model.specs.declared.value_type.ValueType.TheVariants as type
-use Rattle.fisca_test_file.specs.Report.{Scene, scene, counts_text, output_line, report_text, verdict_text}
+use Rattle.fisca_test_file.specs.Report.{TestContext, test_context, counts_text, output_line, report_text, verdict_text}
 use Rattle.fisca_test_file.specs.Tests.{Test}
-use Rattle.fisca_test_file.specs.Verdicts.{outcome_by, value_passes}
+use Rattle.fisca_test_file.specs.Verdicts.{outcome_by}
+use Rattle.fisca_test_file.specs.Steps.Verdicts.{value_passes}
 use Rattle.fisca_test_file.specs.declared.outcome.Outcome.{Outcome}
 use Rattle.fisca_test_file.specs.declared.outcome.Outcome.TheVariants as outcome
 use Rattle.fisca_test_file.specs.declared.margins.Margins.{Margins}
@@ -149,9 +150,9 @@ hundredth_of_two_hundred : product_of hundredth two_hundred ≡ Ok two
 unfolding product_of
 hundredth_of_two_hundred = sym (only_number_of (ratio_product (ratio_of hundredth) (ratio_of two_hundred)) (Ok two) (record { some = lit< tt; same = refl; lowest = two.lowest }))
 
-hundredth_of_its_opposite : product_of hundredth minus_two_hundred ≡ Ok minus_two
+hundredth_of_its_negation : product_of hundredth minus_two_hundred ≡ Ok minus_two
 unfolding product_of
-hundredth_of_its_opposite = sym (only_number_of (ratio_product (ratio_of hundredth) (ratio_of minus_two_hundred)) (Ok minus_two) (record { some = lit< tt; same = refl; lowest = minus_two.lowest }))
+hundredth_of_its_negation = sym (only_number_of (ratio_product (ratio_of hundredth) (ratio_of minus_two_hundred)) (Ok minus_two) (record { some = lit< tt; same = refl; lowest = minus_two.lowest }))
 
 abbrev the_wide : Outcome ℕ
 the_wide = outcome.TooWide
@@ -201,7 +202,7 @@ far_by_share = rw (more_than_two_above, hundredth_of_two_hundred) refl
 
 -- the size of the product counts
 share_of_a_number_below_zero : verdict (share hundredth) minus_two_hundred minus_two_hundred ≡ Ok true
-share_of_a_number_below_zero = rw (same_below_zero, hundredth_of_its_opposite) refl
+share_of_a_number_below_zero = rw (same_below_zero, hundredth_of_its_negation) refl
 
 -- both margins have to hold
 one_margin_of_two : verdict (both one hundredth) two_hundred two_hundred_two ≡ Ok false
@@ -296,11 +297,11 @@ at x = key x 0 january
 abbrev answer : Number → Key → Result Value ℕ
 answer n k = if k.variable == 0 then Ok (v.Number n) else if k.variable == 1 then Ok (v.Bool true) else if k.variable == 2 then Ok (v.Member 1) else Err k.variable
 
-abbrev where_it_is : Number → Scene ℕ
-where_it_is n = scene country persons (answer n) (λ f. codes "ZeroDivisor") (λ f. Some (at f))
+abbrev where_it_is : Number → TestContext ℕ
+where_it_is n = test_context country persons (answer n) (λ f. codes "ZeroDivisor") (λ f. Some (at f))
 
-abbrev nameless_fault : Number → Scene ℕ
-nameless_fault n = scene country persons (answer n) (λ f. codes "Lost") (λ f. None)
+abbrev nameless_fault : Number → TestContext ℕ
+nameless_fault n = test_context country persons (answer n) (λ f. codes "Lost") (λ f. None)
 
 -- a key, as it is told
 abbrev told : List ℕ → List ℕ
@@ -345,15 +346,15 @@ far_test = record { name = Some (codes "far"); situation = record { members = pe
 abbrev near_test : Test
 near_test = record { name = Some (codes "near"); situation = record { members = persons; inputs = [] }; margins = within one; outputs = (at 0, v.Number seventy) ∷ [] }
 
-abbrev scene_in : Test → Scene ℕ
-scene_in t = where_it_is (if length t.situation.inputs == 0 then seventy_one else over_seventy_one)
+abbrev test_context_in : Test → TestContext ℕ
+test_context_in t = where_it_is (if length t.situation.inputs == 0 then seventy_one else over_seventy_one)
 
-two_tests : report_text scene_in (near_test ∷ far_test ∷ [])
+two_tests : report_text test_context_in (near_test ∷ far_test ∷ [])
     ≡ (codes "ok near\n" ++ (codes "failed far\n" ++ (((codes "  " ++ (told (codes "contribution") ++ codes ": ")) ++ ((codes "expected " ++ (number_text seventy ++ (codes ", got " ++ number_text over_seventy_one))) ++ codes "\n")) ++ []) ++ []))
     ++ (codes "passed " ++ (decimal 1 ++ (codes ", failed " ++ (decimal 1 ++ codes "\n"))))
 two_tests = rw (one_above, more_above) refl
 
-no_tests : report_text scene_in [] ≡ codes "passed " ++ (decimal 0 ++ (codes ", failed " ++ (decimal 0 ++ codes "\n")))
+no_tests : report_text test_context_in [] ≡ codes "passed " ++ (decimal 0 ++ (codes ", failed " ++ (decimal 0 ++ codes "\n")))
 no_tests = refl
 
 counts : counts_text 1 12 ≡ codes "passed " ++ (decimal 1 ++ (codes ", failed " ++ (decimal 12 ++ codes "\n")))

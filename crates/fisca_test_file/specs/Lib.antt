@@ -3,6 +3,7 @@ pub mod KeyFaults
 pub mod Outcomes
 pub mod Read
 pub mod Report
+pub mod Steps
 pub mod Tests
 pub mod Verdicts
 pub mod Views

@@ -1,6 +1,7 @@
 -- Where the situations of tests come from.
 use Rattle.std.specs.Prelude.{◌≡◌, ℕ, Option, Ok}
-use Rattle.fisca_situations.specs.Situations.{Situation, situation_of}
+use Rattle.fisca_situations.specs.Situations.{Situation}
+use Rattle.fisca_situations.specs.Steps.Situations.{situation_of}
 use Rattle.fisca_symbols.specs.declared.tables.Tables.{Tables}
 use Rattle.fisca_time.specs.Period.{Span}
 use Rattle.fisca_yaml.specs.Node.{Node}

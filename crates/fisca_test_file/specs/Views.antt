@@ -1,6 +1,6 @@
 -- How definitions see what the code keeps of tests.
 use Rattle.std.specs.Prelude.{option_map}
-use Rattle.fisca_situations.specs.Views.{situation}
+use Rattle.fisca_situations.specs.Steps.Views.{situation}
 use Rattle.fisca_test_file.specs.Tests as tests
 use Rattle.fisca_test_file.specs.declared.test.Test.{Test}
 

@@ -7,7 +7,7 @@ ghost use Rattle.fisca_test_file.specs.Views.{test as test_view};
 
 use crate::key_fault::KeyFault;
 use crate::report::write_verdict;
-use crate::scenes::Scenes;
+use crate::simulation_builder::SimulationBuilder;
 use crate::test::Test;
 use fisca_situations::Answers;
 use fisca_symbols::Tables;
@@ -43,17 +43,17 @@ impl Verdict {
 }
 
 /// Works out a test, and appends what is told of it. Whether it passed.
-pub(crate) fn tell_test<F: KeyFault + Drop, A: Answers<Fault = F> + Drop, M: Scenes<A>>(
+pub(crate) fn tell_test<F: KeyFault + Drop, A: Answers<Fault = F> + Drop, M: SimulationBuilder<A>>(
     alloc: Global,
     tables: &Tables<'_>,
     number: u64,
     test: Test<'_>,
-    scenes: &M,
+    builder: &M,
     text: &mut String,
 ) -> Result<bool, AllocError>
-    requires { M.fits scenes.now (test_view test).situation }
-    ensures passed { IfOk result (λ b. b ≡ spec.test_passes (spec.scene_of (known tables.now) (M.answer_in scenes.now) F.fault_name F.fault_key) (test_view test.entry)) }
-    ensures text { OnOk result (string_bytes text.new ≡ string_bytes text.old ++ spec.test_text (spec.scene_of (known tables.now) (M.answer_in scenes.now) F.fault_name F.fault_key) number (test_view test.entry)) }
+    requires { M.fits builder.now (test_view test).situation }
+    ensures passed { IfOk result (λ b. b ≡ spec.test_passes (spec.test_context_of (known tables.now) (M.answer_in builder.now) F.fault_name F.fault_key) (test_view test.entry)) }
+    ensures text { OnOk result (string_bytes text.new ≡ string_bytes text.old ++ spec.test_text (spec.test_context_of (known tables.now) (M.answer_in builder.now) F.fault_name F.fault_key) number (test_view test.entry)) }
 {
     let Test {
         name,
@@ -61,7 +61,7 @@ pub(crate) fn tell_test<F: KeyFault + Drop, A: Answers<Fault = F> + Drop, M: Sce
         margins,
         outputs,
     } = test;
-    match scenes.answers(alloc, situation) {
+    match builder.answers(alloc, situation) {
         Ok(found) => {
             let mut answers = found;
             write_verdict(

@@ -2,6 +2,7 @@
 
 ghost use Rattle.std.specs.Prelude.{◌≡◌};
 ghost use Rattle.fisca_test_file.specs.Verdicts as spec;
+ghost use Rattle.fisca_test_file.specs.Steps.Verdicts as steps;
 
 use crate::margins::Margins;
 use crate::outcome::Outcome;
@@ -10,7 +11,7 @@ use fisca_num::{Fraction, NumFault};
 
 /// A number without its sign.
 fn size_of(number: Fraction) -> Fraction
-    ensures { result ≡ spec.size_of number }
+    ensures { result ≡ steps.size_of number }
 {
     if number.numerator() < 0 {
         number.neg()
@@ -21,7 +22,7 @@ fn size_of(number: Fraction) -> Fraction
 
 /// How far a value is from the expected one.
 fn distance(expected: Fraction, got: Fraction) -> Result<Fraction, NumFault>
-    ensures { result ≡ spec.distance expected got }
+    ensures { result ≡ steps.distance expected got }
 {
     let difference = got.sub(expected)?;
     Ok(size_of(difference))
@@ -29,7 +30,7 @@ fn distance(expected: Fraction, got: Fraction) -> Result<Fraction, NumFault>
 
 /// How far a relative margin lets a value be from the expected one.
 fn relative_bound(margin: Fraction, expected: Fraction) -> Result<Fraction, NumFault>
-    ensures { result ≡ spec.relative_bound margin expected }
+    ensures { result ≡ steps.relative_bound margin expected }
 {
     let bound = margin.mul(expected)?;
     Ok(size_of(bound))
@@ -37,14 +38,14 @@ fn relative_bound(margin: Fraction, expected: Fraction) -> Result<Fraction, NumF
 
 /// Whether a difference is at most this.
 fn is_at_most(difference: Fraction, bound: Fraction) -> bool
-    ensures { result ≡ spec.is_at_most difference bound }
+    ensures { result ≡ steps.is_at_most difference bound }
 {
     difference <= bound
 }
 
 /// The same, where there is such a margin.
 fn bound_in(margin: Option<Fraction>, expected: Fraction) -> Result<Option<Fraction>, NumFault>
-    ensures { result ≡ spec.bound_in margin expected }
+    ensures { result ≡ steps.bound_in margin expected }
 {
     match margin {
         Some(margin) => {
@@ -57,7 +58,7 @@ fn bound_in(margin: Option<Fraction>, expected: Fraction) -> Result<Option<Fract
 
 /// Whether a difference is within the absolute margin and the bound that the relative one sets.
 fn is_within(absolute: Option<Fraction>, relative: Option<Fraction>, difference: Fraction) -> bool
-    ensures { result ≡ spec.is_within (spec.bounds_of absolute relative) difference }
+    ensures { result ≡ steps.is_within (spec.bounds_of absolute relative) difference }
 {
     match (absolute, relative) {
         (None, None) => is_at_most(difference, Fraction::zero()),
@@ -71,7 +72,7 @@ fn is_within(absolute: Option<Fraction>, relative: Option<Fraction>, difference:
 
 /// Whether a number is near enough to the expected one.
 fn number_passes(margins: Margins, expected: Fraction, got: Fraction) -> Result<bool, NumFault>
-    ensures { result ≡ spec.number_passes margins expected got }
+    ensures { result ≡ steps.number_passes margins expected got }
 {
     let difference = distance(expected, got)?;
     let bound = bound_in(margins.relative, expected)?;
@@ -80,14 +81,14 @@ fn number_passes(margins: Margins, expected: Fraction, got: Fraction) -> Result<
 
 /// Whether two bools are the same.
 fn same_bool(expected: bool, got: bool) -> bool
-    ensures { result ≡ spec.same_bool expected got }
+    ensures { result ≡ steps.same_bool expected got }
 {
     if expected { got } else { !got }
 }
 
 /// Whether a value is a number that is near enough to the expected one.
 fn is_near(margins: Margins, expected: Fraction, got: Value) -> Result<bool, NumFault>
-    ensures { result ≡ spec.is_near margins expected got }
+    ensures { result ≡ steps.is_near margins expected got }
 {
     match got {
         Value::Number(got) => number_passes(margins, expected, got),
@@ -98,7 +99,7 @@ fn is_near(margins: Margins, expected: Fraction, got: Value) -> Result<bool, Num
 
 /// Whether a value is this bool.
 fn is_bool(expected: bool, got: Value) -> bool
-    ensures { result ≡ spec.is_bool expected got }
+    ensures { result ≡ steps.is_bool expected got }
 {
     match got {
         Value::Number(_) => false,
@@ -109,7 +110,7 @@ fn is_bool(expected: bool, got: Value) -> bool
 
 /// Whether a value is this member of an Enum.
 fn is_member(expected: usize, got: Value) -> bool
-    ensures { result ≡ spec.is_member expected got }
+    ensures { result ≡ steps.is_member expected got }
 {
     match got {
         Value::Number(_) => false,
@@ -123,7 +124,7 @@ fn is_member(expected: usize, got: Value) -> bool
 /// `TooWide` where the difference or that product has a part beyond the limits, whatever the other margin says. (The margins are those of
 /// OpenFisca's tests in YAML; both having to hold, and what is too wide, are this project's own.)
 pub fn passes(margins: Margins, expected: Value, got: Value) -> Result<bool, NumFault>
-    ensures { result ≡ spec.value_passes margins expected got }
+    ensures { result ≡ steps.value_passes margins expected got }
 {
     match expected {
         Value::Number(expected) => is_near(margins, expected, got),
@@ -134,7 +135,7 @@ pub fn passes(margins: Margins, expected: Value, got: Value) -> Result<bool, Num
 
 /// How an output comes out whose key has this value.
 pub(crate) fn outcome_of<F>(margins: Margins, expected: Value, got: &Value) -> Outcome<F>
-    ensures { result ≡ spec.outcome_by got.now (spec.value_passes margins expected got.now) }
+    ensures { result ≡ spec.outcome_by got.now (steps.value_passes margins expected got.now) }
 {
     match passes(margins, expected, *got) {
         Ok(true) => Outcome::Passed,

@@ -2,6 +2,7 @@
 
 ghost use Rattle.std.specs.Prelude.{◌≡◌};
 ghost use Rattle.fisca_test_file.specs.Faults as spec;
+ghost use Rattle.fisca_test_file.specs.Steps.Faults as steps;
 
 use fisca_expected::OutputFault;
 use fisca_inputs::{SituationFault, SituationKind};
@@ -60,7 +61,7 @@ pub struct TestFault {
 
 /// The kind of a fault of a situation.
 fn kind_of(kind: SituationKind) -> TestKind
-    ensures { result ≡ spec.kind_of kind }
+    ensures { result ≡ steps.kind_of kind }
 {
     match kind {
         SituationKind::UnknownEntity
@@ -78,7 +79,7 @@ fn kind_of(kind: SituationKind) -> TestKind
 
 /// A fault of a situation, as one of the file.
 pub(crate) fn situation_fault(fault: SituationFault) -> TestFault
-    ensures { result ≡ spec.situation_fault fault }
+    ensures { result ≡ steps.situation_fault fault }
 {
     TestFault {
         line: fault.line,
@@ -88,7 +89,7 @@ pub(crate) fn situation_fault(fault: SituationFault) -> TestFault
 
 /// A fault of outputs, as one of the file.
 pub(crate) fn output_fault(fault: OutputFault) -> TestFault
-    ensures { result ≡ spec.output_fault fault }
+    ensures { result ≡ steps.output_fault fault }
 {
     match fault {
         OutputFault::BadOutput { line } => TestFault {

@@ -2,7 +2,7 @@
 
 ghost use Rattle.std.specs.Prelude.{◌≡◌};
 ghost use Rattle.fisca_test_file.specs.Outcomes.{Answers};
-ghost use Rattle.fisca_test_file.specs.Tests as spec;
+ghost use Rattle.fisca_test_file.specs.Steps.Tests as spec;
 ghost use Rattle.fisca_yaml.specs.Views.{node, entries_view};
 
 use crate::fault::{TestFault, bad_test};

@@ -3,7 +3,8 @@
 ghost use Rattle.std.specs.Prelude.{◌≡◌, ℕ, Ok};
 ghost use Rattle.fisca_symbols.specs.declared.tables.Tables.{Tables};
 ghost use Rattle.fisca_test_file.specs.Read.{IsRead};
-ghost use Rattle.fisca_test_file.specs.Tests.{Test, test_of};
+ghost use Rattle.fisca_test_file.specs.Tests.{Test};
+ghost use Rattle.fisca_test_file.specs.Steps.Tests.{test_of};
 ghost use Rattle.fisca_yaml.specs.Node.{Node};
 
 /// Law: the situation of each test was read from an input.

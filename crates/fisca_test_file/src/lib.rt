@@ -11,7 +11,7 @@ mod lines;
 mod margins;
 mod outcome;
 mod report;
-mod scenes;
+mod simulation_builder;
 mod test;
 mod tests;
 
@@ -22,6 +22,6 @@ pub use key_fault::KeyFault;
 pub use law::situations_are_read;
 pub use margins::Margins;
 pub use outcome::Outcome;
-pub use scenes::Scenes;
+pub use simulation_builder::SimulationBuilder;
 pub use test::Test;
 pub use tests::report_on;

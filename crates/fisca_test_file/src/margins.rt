@@ -2,7 +2,7 @@
 
 ghost use Rattle.std.specs.Prelude.{◌≡◌, option_and_then};
 ghost use Rattle.fisca_yaml.specs.Views.{node};
-ghost use Rattle.fisca_test_file.specs.Tests as spec;
+ghost use Rattle.fisca_test_file.specs.Steps.Tests as spec;
 
 use fisca_num::Fraction;
 use fisca_yaml::Tree;

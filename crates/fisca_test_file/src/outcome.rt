@@ -1,7 +1,7 @@
 //! How outputs come out.
 
 ghost use Rattle.std.specs.Prelude.{◌≡◌};
-ghost use Rattle.fisca_test_file.specs.Verdicts.{is_passed};
+ghost use Rattle.fisca_test_file.specs.Steps.Verdicts.{is_passed};
 
 use fisca_model::Value;
 

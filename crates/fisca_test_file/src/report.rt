@@ -1,10 +1,10 @@
 //! What is told of tests.
 
 ghost use Rattle.std.specs.Prelude.{◌≡◌, ◌++◌, string_bytes, option_map, IfOk, OnOk};
-ghost use Rattle.fisca_situations.specs.Views.{situation as situation_view};
+ghost use Rattle.fisca_situations.specs.Steps.Views.{situation as situation_view};
 ghost use Rattle.fisca_symbols.specs.Known.{tables as known};
 ghost use Rattle.fisca_test_file.specs.Report as spec;
-ghost use Rattle.fisca_test_file.specs.Verdicts.{outcome_of as outcome_spec};
+ghost use Rattle.fisca_test_file.specs.Steps.Verdicts.{outcome_of as outcome_spec};
 
 use crate::comparing::outcome_of;
 use crate::key_fault::KeyFault;
@@ -47,8 +47,8 @@ fn write_output<F: KeyFault + Drop, A: Answers<Fault = F>>(
     line: &mut String,
 ) -> Result<bool, AllocError>
     requires { A.ready answers.old }
-    ensures text { OnOk result (string_bytes line.new ≡ string_bytes line.old ++ spec.output_line (spec.scene (known tables.now) (A.members answers.old) (A.answer answers.old) F.fault_name F.fault_key) margins.now output.now) }
-    ensures passed { IfOk result (λ b. b ≡ spec.output_passes (spec.scene (known tables.now) (A.members answers.old) (A.answer answers.old) F.fault_name F.fault_key) margins.now output.now) }
+    ensures text { OnOk result (string_bytes line.new ≡ string_bytes line.old ++ spec.output_line (spec.test_context (known tables.now) (A.members answers.old) (A.answer answers.old) F.fault_name F.fault_key) margins.now output.now) }
+    ensures passed { IfOk result (λ b. b ≡ spec.output_passes (spec.test_context (known tables.now) (A.members answers.old) (A.answer answers.old) F.fault_name F.fault_key) margins.now output.now) }
     ensures ready { A.ready answers.new }
     ensures same_answers { A.answer answers.new ≡ A.answer answers.old }
     ensures same_members { A.members answers.new ≡ A.members answers.old }
@@ -69,8 +69,8 @@ fn write_outputs<F: KeyFault + Drop, A: Answers<Fault = F>>(
     line: &mut String,
 ) -> Result<bool, AllocError>
     requires { A.ready answers.old }
-    ensures text { OnOk result (string_bytes line.new ≡ string_bytes line.old ++ spec.output_lines (spec.scene (known tables.now) (A.members answers.old) (A.answer answers.old) F.fault_name F.fault_key) margins.now outputs.now) }
-    ensures passed { IfOk result (λ b. b ≡ spec.passes (spec.scene (known tables.now) (A.members answers.old) (A.answer answers.old) F.fault_name F.fault_key) margins.now outputs.now) }
+    ensures text { OnOk result (string_bytes line.new ≡ string_bytes line.old ++ spec.output_lines (spec.test_context (known tables.now) (A.members answers.old) (A.answer answers.old) F.fault_name F.fault_key) margins.now outputs.now) }
+    ensures passed { IfOk result (λ b. b ≡ spec.passes (spec.test_context (known tables.now) (A.members answers.old) (A.answer answers.old) F.fault_name F.fault_key) margins.now outputs.now) }
     ensures ready { A.ready answers.new }
     ensures same_answers { A.answer answers.new ≡ A.answer answers.old }
     ensures same_members { A.members answers.new ≡ A.members answers.old }
@@ -124,8 +124,8 @@ pub(crate) fn write_verdict<F: KeyFault + Drop, A: Answers<Fault = F>>(
     text: &mut String,
 ) -> Result<bool, AllocError>
     requires { A.ready answers.old }
-    ensures passed { IfOk result (λ b. b ≡ spec.passes (spec.scene (known tables.now) (A.members answers.old) (A.answer answers.old) F.fault_name F.fault_key) margins.now outputs.now) }
-    ensures text { OnOk result (string_bytes text.new ≡ string_bytes text.old ++ spec.verdict_text (spec.scene (known tables.now) (A.members answers.old) (A.answer answers.old) F.fault_name F.fault_key) number (option_map (λ t. t.now) name.entry) margins.now outputs.now) }
+    ensures passed { IfOk result (λ b. b ≡ spec.passes (spec.test_context (known tables.now) (A.members answers.old) (A.answer answers.old) F.fault_name F.fault_key) margins.now outputs.now) }
+    ensures text { OnOk result (string_bytes text.new ≡ string_bytes text.old ++ spec.verdict_text (spec.test_context (known tables.now) (A.members answers.old) (A.answer answers.old) F.fault_name F.fault_key) number (option_map (λ t. t.now) name.entry) margins.now outputs.now) }
 {
     let mut lines = String::new(alloc);
     let passed = write_outputs(

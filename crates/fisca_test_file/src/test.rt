@@ -1,12 +1,12 @@
 //! Tests.
 
 ghost use Rattle.std.specs.Prelude.{◌≡◌, option_map};
-ghost use Rattle.fisca_expected.specs.Reading.{outputs_of};
-ghost use Rattle.fisca_situations.specs.Situations.{situation_of};
-ghost use Rattle.fisca_situations.specs.Views.{situation as situation_view};
+ghost use Rattle.fisca_expected.specs.Steps.Reading.{outputs_of};
+ghost use Rattle.fisca_situations.specs.Steps.Situations.{situation_of};
+ghost use Rattle.fisca_situations.specs.Steps.Views.{situation as situation_view};
 ghost use Rattle.fisca_test_file.specs.Faults.{outputs_told, situation_told};
 ghost use Rattle.fisca_test_file.specs.Outcomes.{Tells};
-ghost use Rattle.fisca_test_file.specs.Tests as spec;
+ghost use Rattle.fisca_test_file.specs.Steps.Tests as spec;
 ghost use Rattle.fisca_test_file.specs.Views.{test as test_view};
 ghost use Rattle.fisca_yaml.specs.Views.{node};
 
@@ -109,7 +109,7 @@ fn name_in<'t>(tree: &'t Tree<'_>) -> Option<&'t str>
 }
 
 /// The test with this situation.
-#[tactic(auto, unfolding(crate::specs::Tests::test_by))]
+#[tactic(auto, unfolding(crate::specs::Steps::Tests::test_by))]
 fn test_by<'t>(
     alloc: Global,
     tables: &Tables<'_>,
@@ -129,7 +129,7 @@ fn test_by<'t>(
 }
 
 /// The test of an item that stands on `line`: its keys come first, then its situation, then its outputs.
-#[tactic(auto, unfolding(crate::specs::Tests::test_of))]
+#[tactic(auto, unfolding(crate::specs::Steps::Tests::test_of))]
 pub(crate) fn test_of<'t>(
     alloc: Global,
     tables: &Tables<'_>,

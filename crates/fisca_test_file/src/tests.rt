@@ -3,8 +3,9 @@
 ghost use Rattle.std.specs.Prelude.{◌≡◌, ℕ, [], Ok, string_bytes, IfOk, IfErr};
 ghost use Rattle.fisca_symbols.specs.Known.{tables as known};
 ghost use Rattle.fisca_test_file.specs.Outcomes.{Fails};
-ghost use Rattle.fisca_test_file.specs.Report.{AreTold, IsReport, scene_of};
+ghost use Rattle.fisca_test_file.specs.Report.{AreTold, IsReport, test_context_of};
 ghost use Rattle.fisca_test_file.specs.Tests as spec;
+ghost use Rattle.fisca_test_file.specs.Steps.Tests as steps;
 ghost use Rattle.fisca_yaml.specs.Node.{Node};
 ghost use Rattle.fisca_yaml.specs.Views.{node, items_view};
 
@@ -12,7 +13,7 @@ use crate::all::{Report, Verdict, tell_test};
 use crate::fault::TestFault;
 use crate::key_fault::KeyFault;
 use crate::report::write_counts;
-use crate::scenes::Scenes;
+use crate::simulation_builder::SimulationBuilder;
 use crate::test::test_of;
 use fisca_situations::Answers;
 use fisca_symbols::Tables;
@@ -20,16 +21,16 @@ use fisca_yaml::{Item, Tree};
 use std::alloc::Global;
 
 /// Reads and works out the tests of the items of a list, one after another, and appends what is told of them. How many passed and failed.
-fn tell_items<F: KeyFault + Drop, A: Answers<Fault = F> + Drop, M: Scenes<A>>(
+fn tell_items<F: KeyFault + Drop, A: Answers<Fault = F> + Drop, M: SimulationBuilder<A>>(
     alloc: Global,
     tables: &Tables<'_>,
     items: &[Item<'_>],
-    scenes: &M,
+    builder: &M,
     text: &mut String,
 ) -> Result<Verdict, TestFault>
-    requires { (line : ℕ) (n : Node) (t : spec.Test) → spec.test_of tables.now line n ≡ Ok t → M.fits scenes.now t.situation }
-    ensures told { IfOk result (λ v. AreTold (scene_of (known tables.now) (M.answer_in scenes.now) F.fault_name F.fault_key) (spec.tests_from tables.now [] (items_view items.now)) (string_bytes text.old) (string_bytes text.new) v) }
-    ensures fault { IfErr result (Fails (spec.tests_from tables.now [] (items_view items.now))) }
+    requires { (line : ℕ) (n : Node) (t : spec.Test) → steps.test_of tables.now line n ≡ Ok t → M.fits builder.now t.situation }
+    ensures told { IfOk result (λ v. AreTold (test_context_of (known tables.now) (M.answer_in builder.now) F.fault_name F.fault_key) (steps.tests_from tables.now [] (items_view items.now)) (string_bytes text.old) (string_bytes text.new) v) }
+    ensures fault { IfErr result (Fails (steps.tests_from tables.now [] (items_view items.now))) }
 {
     // there are as many numbers as items
     let _count = items.len();
@@ -40,50 +41,50 @@ fn tell_items<F: KeyFault + Drop, A: Answers<Fault = F> + Drop, M: Scenes<A>>(
     for item in items {
         let test = test_of(alloc, tables, item.line, &item.value)?;
         let number = verdict.passed + verdict.failed + 1;
-        let passed = tell_test(alloc, tables, number, test, scenes, text)?;
+        let passed = tell_test(alloc, tables, number, test, builder, text)?;
         verdict = verdict.with(passed);
     }
     Ok(verdict)
 }
 
 /// The same of the only test of a file.
-fn tell_only<F: KeyFault + Drop, A: Answers<Fault = F> + Drop, M: Scenes<A>>(
+fn tell_only<F: KeyFault + Drop, A: Answers<Fault = F> + Drop, M: SimulationBuilder<A>>(
     alloc: Global,
     tables: &Tables<'_>,
     tree: &Tree<'_>,
-    scenes: &M,
+    builder: &M,
     text: &mut String,
 ) -> Result<Verdict, TestFault>
-    requires { (line : ℕ) (n : Node) (t : spec.Test) → spec.test_of tables.now line n ≡ Ok t → M.fits scenes.now t.situation }
-    ensures told { IfOk result (λ v. AreTold (scene_of (known tables.now) (M.answer_in scenes.now) F.fault_name F.fault_key) (spec.only_test tables.now (node tree.now)) (string_bytes text.old) (string_bytes text.new) v) }
-    ensures fault { IfErr result (Fails (spec.only_test tables.now (node tree.now))) }
+    requires { (line : ℕ) (n : Node) (t : spec.Test) → steps.test_of tables.now line n ≡ Ok t → M.fits builder.now t.situation }
+    ensures told { IfOk result (λ v. AreTold (test_context_of (known tables.now) (M.answer_in builder.now) F.fault_name F.fault_key) (steps.only_test tables.now (node tree.now)) (string_bytes text.old) (string_bytes text.new) v) }
+    ensures fault { IfErr result (Fails (steps.only_test tables.now (node tree.now))) }
 {
     let none = Verdict {
         passed: 0,
         failed: 0,
     };
     let test = test_of(alloc, tables, 1, tree)?;
-    let passed = tell_test(alloc, tables, 1, test, scenes, text)?;
+    let passed = tell_test(alloc, tables, 1, test, builder, text)?;
     Ok(none.with(passed))
 }
 
 /// The same of all tests of a file.
-#[tactic(auto, unfolding(crate::specs::Tests::tests_of))]
-fn tell_all<F: KeyFault + Drop, A: Answers<Fault = F> + Drop, M: Scenes<A>>(
+#[tactic(auto, unfolding(crate::specs::Steps::Tests::tests_of))]
+fn tell_all<F: KeyFault + Drop, A: Answers<Fault = F> + Drop, M: SimulationBuilder<A>>(
     alloc: Global,
     tables: &Tables<'_>,
     tree: &Tree<'_>,
-    scenes: &M,
+    builder: &M,
     text: &mut String,
 ) -> Result<Verdict, TestFault>
-    requires { (line : ℕ) (n : Node) (t : spec.Test) → spec.test_of tables.now line n ≡ Ok t → M.fits scenes.now t.situation }
-    ensures told { IfOk result (λ v. AreTold (scene_of (known tables.now) (M.answer_in scenes.now) F.fault_name F.fault_key) (spec.tests_of tables.now (node tree.now)) (string_bytes text.old) (string_bytes text.new) v) }
-    ensures fault { IfErr result (Fails (spec.tests_of tables.now (node tree.now))) }
+    requires { (line : ℕ) (n : Node) (t : spec.Test) → steps.test_of tables.now line n ≡ Ok t → M.fits builder.now t.situation }
+    ensures told { IfOk result (λ v. AreTold (test_context_of (known tables.now) (M.answer_in builder.now) F.fault_name F.fault_key) (steps.tests_of tables.now (node tree.now)) (string_bytes text.old) (string_bytes text.new) v) }
+    ensures fault { IfErr result (Fails (steps.tests_of tables.now (node tree.now))) }
 {
     match tree {
-        Tree::List(items) => tell_items(alloc, tables, items.as_slice(), scenes, text),
+        Tree::List(items) => tell_items(alloc, tables, items.as_slice(), builder, text),
         Tree::Null | Tree::Scalar { .. } | Tree::Map(_) => {
-            tell_only(alloc, tables, tree, scenes, text)
+            tell_only(alloc, tables, tree, builder, text)
         }
     }
 }
@@ -97,18 +98,18 @@ fn tell_all<F: KeyFault + Drop, A: Answers<Fault = F> + Drop, M: Scenes<A>>(
 /// `output`, at its first line; and of what is no map, at the line of its scalar or its item (1 for a whole file). Then that of the situation, as
 /// `Situation::read` tells; then `BadOutput`, as `read_outputs` tells. `Memory`, at line 0, comes only where a growth was refused. (OpenFisca's
 /// tests in YAML; the report and the order of faults are this project's own.)
-pub fn report_on<F: KeyFault + Drop, A: Answers<Fault = F> + Drop, M: Scenes<A>>(
+pub fn report_on<F: KeyFault + Drop, A: Answers<Fault = F> + Drop, M: SimulationBuilder<A>>(
     alloc: Global,
     tables: &Tables<'_>,
     tree: &Tree<'_>,
-    scenes: &M,
+    builder: &M,
 ) -> Result<Report, TestFault>
-    requires { (line : ℕ) (n : Node) (t : spec.Test) → spec.test_of tables.now line n ≡ Ok t → M.fits scenes.now t.situation }
-    ensures report { IfOk result (λ r. IsReport (scene_of (known tables.now) (M.answer_in scenes.now) F.fault_name F.fault_key) (spec.tests_of tables.now (node tree.now)) r.verdict (string_bytes r.text)) }
-    ensures fault { IfErr result (Fails (spec.tests_of tables.now (node tree.now))) }
+    requires { (line : ℕ) (n : Node) (t : spec.Test) → steps.test_of tables.now line n ≡ Ok t → M.fits builder.now t.situation }
+    ensures report { IfOk result (λ r. IsReport (test_context_of (known tables.now) (M.answer_in builder.now) F.fault_name F.fault_key) (steps.tests_of tables.now (node tree.now)) r.verdict (string_bytes r.text)) }
+    ensures fault { IfErr result (Fails (steps.tests_of tables.now (node tree.now))) }
 {
     let mut text = String::new(alloc);
-    let verdict = tell_all(alloc, tables, tree, scenes, &mut text)?;
+    let verdict = tell_all(alloc, tables, tree, builder, &mut text)?;
     write_counts(verdict.passed, verdict.failed, &mut text)?;
     Ok(Report { verdict, text })
 }

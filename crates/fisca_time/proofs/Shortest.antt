@@ -15,7 +15,8 @@ use Rattle.std.specs.Str.Parse.{digits_value}
 use Rattle.fisca_time.specs.Calendar.{date_of, first_of_month, month_number, day_number}
 use Rattle.fisca_time.specs.Instant.{is_between, is_on_calendar}
 use Rattle.fisca_time.specs.Period.{Span, eternity, months, days, is_period, is_in_calendar, unit_of, size_of}
-use Rattle.fisca_time.specs.PeriodText.{text_of, date_text, month_text, year_text, is_word, is_short_numeral, is_size_text, start_of_text, start_of_pieces, unit_named, form_in, form_of_start, form_of_pieces, with_size, date_in, period_from, period_of_form, period_if_written, start_in, has_two_digits, IsShortest}
+use Rattle.fisca_time.specs.PeriodText.{text_of, date_text, month_text, year_text, is_word, is_short_numeral, is_size_text, start_of_text, start_of_pieces, unit_named, form_in, form_of_start, form_of_pieces, with_size, date_in, period_from, period_of_form, period_if_written, has_two_digits, IsShortest}
+use Rattle.fisca_time.specs.Steps.PeriodText.{start_in}
 use Rattle.fisca_time.specs.Pieces.{pieces, is_numeral}
 use Rattle.fisca_time.specs.Unit.{is_day, is_month}
 use Rattle.fisca_time.specs.declared.fault.TimeFault.{TimeFault}

@@ -12,7 +12,8 @@ use Rattle.std.proofs.Math.Dec.{eqb, leb}
 use Rattle.std.proofs.lemmas.List.FromFn.{length-map-range_with_len}
 use Rattle.fisca_time.specs.Calendar.{first_day, end_day, date_of}
 use Rattle.fisca_time.specs.Instant.{is_between}
-use Rattle.fisca_time.specs.Period.{Span, eternity, months, days, is_period, is_eternal, is_of_months, unit_of, first_of, size_of, is_within, months_of, month_start, start_day, stop_day, days_of, month_of, month_at, year_at, day_at, subs, span_cmp, this_year_of, moved_by, unless_eternal, Overlaps}
+use Rattle.fisca_time.specs.Period.{Span, eternity, months, days, is_period, is_eternal, unit_of, first_of, size_of, is_within, months_of, month_start, start_day, stop_day, days_of, month_of, month_at, year_at, day_at, subs, span_cmp, this_year_of, moved_by, unless_eternal, Overlaps}
+use Rattle.fisca_time.specs.Steps.Period.{is_of_months}
 use Rattle.fisca_time.specs.Unit.{months_in, is_month, is_year, rank, unit_ranked}
 use Rattle.fisca_time.specs.declared.fault.TimeFault.TheVariants.{OutOfRange}
 use Rattle.fisca_time.specs.declared.unit.Unit.{Unit}

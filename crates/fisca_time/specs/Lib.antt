@@ -5,4 +5,5 @@ pub mod Kept
 pub mod Period
 pub mod PeriodText
 pub mod Pieces
+pub mod Steps
 pub mod Unit

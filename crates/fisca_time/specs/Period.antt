@@ -23,12 +23,6 @@ is_eternal eternity = true
 is_eternal (months _ _ _) = false
 is_eternal (days _ _) = false
 
--- counted in months or years
-abbrev pub is_of_months : Span → Bool
-is_of_months eternity = false
-is_of_months (months _ _ _) = true
-is_of_months (days _ _) = false
-
 abbrev pub unit_of : Span → Unit
 unit_of eternity = Eternity
 unit_of (months unit _ _) = unit

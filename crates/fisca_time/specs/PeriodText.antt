@@ -16,6 +16,7 @@ use Rattle.fisca_time.specs.declared.fault.TimeFault.TheVariants.{BadText, OutOf
 use Rattle.fisca_time.specs.declared.form.Form.{Form}
 use Rattle.fisca_time.specs.declared.unit.Unit.{Unit}
 use Rattle.fisca_time.specs.declared.unit.Unit.TheVariants.{Day, Month, Year, Eternity}
+use Rattle.fisca_time.specs.Steps.PeriodText.{start_in}
 
 abbrev pub is_word : List ℕ → List ℕ → Bool
 is_word word text = pointwise nat_eq text word
@@ -146,12 +147,6 @@ abbrev pub text_of : Span → List ℕ
 text_of eternity = codes "ETERNITY"
 text_of (months unit first size) = counted_text unit (names_itself unit first) (month_start_text unit first) size
 text_of (days first size) = counted_text Day true (date_text (date_of first)) size
-
--- the start in a text is its second piece under a unit, and else its only one
-abbrev pub start_in : List (List ℕ) → List ℕ
-start_in (_ ∷ start ∷ _) = start
-start_in (start ∷ []) = start
-start_in [] = []
 
 -- the month and the day of a start, if it has them, are in two digits
 abbrev pub has_two_digits : List (List ℕ) → Bool

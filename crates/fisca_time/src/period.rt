@@ -2,7 +2,8 @@
 ghost use Rattle.std.specs.Prelude.{◌≡◌, ◌≢◌, ◌<◌, ◌≤◌, ◌+◌, ◌*◌, ◌||◌, ◌↔◌, [], length, slice_get, IfSome, IfOk, IfErr, IsTrue, string_bytes, if◌then◌else◌, pos, ◌-ℤ◌};
 ghost use Rattle.fisca_time.specs.Calendar.{first_day, end_day};
 ghost use Rattle.fisca_time.specs.Unit.{is_month, is_year, months_in};
-ghost use Rattle.fisca_time.specs.Period.{eternity, days, is_period, is_eternal, is_of_months, unit_of, first_of, size_of, months_of, days_of, month_start, month_of, start_day, stop_day, start_of, months_from, days_from, days_from_month, months_moved, days_moved, moved_by, later_month, day_at, month_at, year_at, this_year_of, first_month_of, first_day_of, last_month_of, last_year_of, n_2_of, last_3_months_of, subs, Overlaps};
+ghost use Rattle.fisca_time.specs.Period.{eternity, days, is_period, is_eternal, unit_of, first_of, size_of, months_of, days_of, month_start, month_of, start_day, stop_day, start_of, months_from, days_from, days_from_month, months_moved, days_moved, moved_by, later_month, day_at, month_at, year_at, this_year_of, first_month_of, first_day_of, last_month_of, last_year_of, n_2_of, last_3_months_of, subs, Overlaps};
+ghost use Rattle.fisca_time.specs.Steps.Period.{is_of_months};
 ghost use Rattle.fisca_time.specs.Kept.{span_of, is_kept};
 ghost use Rattle.fisca_time.specs.PeriodText.{period_of_form, period_of_text, text_of, IsShortest};
 

@@ -11,8 +11,9 @@ use Rattle.fisca_ast.specs.declared.fault.FormulaKind.TheVariants as kind
 use Rattle.fisca_typing.specs.declared.kinds.Level.TheVariants as level
 use Rattle.fisca_typing.specs.declared.operations.Arithmetic.TheVariants as arith
 use Rattle.fisca_typing.specs.declared.operations.Logic.TheVariants as logic
-use Rattle.fisca_typing.specs.Names.{known_word, library_function}
-use Rattle.fisca_typing.specs.Nodes.{local, truth, literal, negative, opposite, arithmetic, logic as both, comparison, same, choose}
+use Rattle.fisca_typing.specs.declared.operations.Unary.TheVariants as one
+use Rattle.fisca_typing.specs.Names.{known_word, added_word, library_function, added_function}
+use Rattle.fisca_typing.specs.Nodes.{local, truth, literal, unary, arithmetic, logic as both, comparison, same, choose}
 use Rattle.fisca_typing.specs.Things.{Thing}
 use Rattle.fisca_typing.specs.Typing.{thing_of}
 use Rattle.fisca_typing.proofs.Examples.{of_household, k, q, d, n, b, e, s, m, t, o, nope, w, call, call_with, and_keyword, dot, list, group, number, bool, occupancy}
@@ -51,7 +52,7 @@ member_in_sum : is (binary op.Add e n) ≡ Err kind.BadType
 member_in_sum = refl
 
 -- prefix `+`, `-` of a number
-minus : is (prefixed pre.Minus n) ≡ number level.Own (negative (local 3))
+minus : is (prefixed pre.Minus n) ≡ number level.Own (unary one.Minus (local 3))
 minus = refl
 
 plus : is (prefixed pre.Plus n) ≡ number level.Own (local 3)
@@ -70,13 +71,13 @@ bar = refl
 bar_of_numbers : is (binary op.Or n b) ≡ Err kind.BadType
 bar_of_numbers = refl
 
-tilde : is (prefixed pre.Not b) ≡ bool level.Own (opposite (local 4))
+tilde : is (prefixed pre.Not b) ≡ bool level.Own (unary one.Not (local 4))
 tilde = refl
 
 tilde_of_number : is (prefixed pre.Not n) ≡ Err kind.BadType
 tilde_of_number = refl
 
-not_of : is (call (w (codes "not_")) (b ∷ [])) ≡ bool level.Own (opposite (local 4))
+not_of : is (call (w (codes "not_")) (b ∷ [])) ≡ bool level.Own (unary one.Not (local 4))
 unfolding known_word
 not_of = refl
 
@@ -90,7 +91,7 @@ bools_compared = refl
 equal_members : is (compare cmp.Equal e d) ≡ bool level.Own (same (local 5) (local 2))
 equal_members = refl
 
-other_members : is (compare cmp.NotEqual e d) ≡ bool level.Own (opposite (same (local 5) (local 2)))
+other_members : is (compare cmp.NotEqual e d) ≡ bool level.Own (unary one.Not (same (local 5) (local 2)))
 other_members = refl
 
 lower_members : is (compare cmp.Less e d) ≡ Err kind.BadType
@@ -117,7 +118,7 @@ left_first : is (binary op.Subtract (binary op.Subtract b q) nope) ≡ Err kind.
 left_first = refl
 
 right_whole : is (binary op.Add e nope) ≡ Err kind.UnknownName
-unfolding known_word
+unfolding known_word added_word
 right_whole = refl
 
 type_before_level : is (binary op.Subtract b t) ≡ Err kind.BadType
@@ -158,7 +159,7 @@ condition_by_keyword = refl
 
 -- all arguments come before their number
 arguments_first : is (call (w (codes "where")) (b ∷ nope ∷ [])) ≡ Err kind.UnknownName
-unfolding known_word
+unfolding known_word added_word
 arguments_first = refl
 
 -- `select([c..], [v..], default=d)`: the first true one's value, else d, else 0 (False if all are bools)
@@ -244,17 +245,30 @@ np_where : is (call (dot (w (codes "np")) (codes "where")) (b ∷ n ∷ q ∷ []
 unfolding known_word library_function
 np_where = refl
 
-np_not : is (call (dot (w (codes "np")) (codes "logical_not")) (b ∷ [])) ≡ bool level.Own (opposite (local 4))
+np_not : is (call (dot (w (codes "np")) (codes "logical_not")) (b ∷ [])) ≡ bool level.Own (unary one.Not (local 4))
 unfolding known_word library_function
 np_not = refl
 
 no_np : is (dot (w (codes "np")) (codes "foo")) ≡ Err kind.UnknownName
-unfolding known_word library_function
+unfolding known_word library_function added_function
 no_np = refl
 
 alone : is (w (codes "minimum")) ≡ Err kind.UnknownName
-unfolding known_word
+unfolding known_word added_word
 alone = refl
+
+-- of more than two from left to right
+lowest : is (call (w (codes "min_")) (n ∷ q ∷ k ∷ [])) ≡ number level.Own (arithmetic arith.Min (arithmetic arith.Min (local 3) (local 1)) (local 0))
+unfolding known_word
+lowest = refl
+
+bools_first : is (call (w (codes "min_")) (b ∷ q ∷ n ∷ [])) ≡ Err kind.BadType
+unfolding known_word
+bools_first = refl
+
+of_one : is (call (w (codes "min_")) (n ∷ [])) ≡ Err kind.BadType
+unfolding known_word
+of_one = refl
 
 -- parentheses group alone
 grouped : is (binary op.Add (group n) (group (group b))) ≡ number level.Own (arithmetic arith.Add (local 3) (local 4))

@@ -11,11 +11,11 @@ use Rattle.fisca_typing.specs.declared.kinds.Level.TheVariants as level
 use Rattle.fisca_typing.specs.declared.moves.Move.TheVariants as step
 use Rattle.fisca_typing.specs.declared.operations.Total.TheVariants as total
 use Rattle.fisca_typing.specs.Asks.{group_method, person_method}
-use Rattle.fisca_typing.specs.Names.{known_word}
+use Rattle.fisca_typing.specs.Names.{known_word, added_word}
 use Rattle.fisca_typing.specs.Nodes.{local, ask, has_role, count, total as of_all}
 use Rattle.fisca_typing.specs.Periods.{period_attribute}
 use Rattle.fisca_model.specs.Tables.{whole_role, subrole_of}
-use Rattle.fisca_ast.specs.Contents.{said_within}
+use Rattle.fisca_ast.specs.Steps.Contents.{said_within}
 use Rattle.fisca_typing.specs.Things.{Thing}
 use Rattle.fisca_typing.specs.Typing.{thing_of}
 use Rattle.fisca_typing.proofs.Examples.{of_household, of_person, k, n, b, m, t, o, nope, w, call, call_with, and_keyword, dot, group, list, period, number, bool, occupancy}
@@ -113,7 +113,7 @@ unfolding said_within
 other_entity = refl
 
 no_period : is (call household (rent ∷ nope ∷ [])) ≡ Err kind.UnknownName
-unfolding said_within known_word
+unfolding said_within known_word added_word
 no_period = refl
 
 number_as_period : is (call_with household (and_keyword (rent ∷ n ∷ []) (codes "options") nope)) ≡ Err kind.BadType
@@ -125,7 +125,7 @@ unfolding said_within period_attribute
 start_as_period = refl
 
 unknown_option : is (with_options household rent nope) ≡ Err kind.UnknownName
-unfolding said_within known_word
+unfolding said_within known_word added_word
 unknown_option = refl
 
 -- `person.G("v", p)` with G a group's key, in a formula of persons: the group's value, own
@@ -159,7 +159,7 @@ unfolding person_method known_word
 subrole = refl
 
 no_role : is_to_person (call (dot person (codes "has_role")) (dot (w (codes "Household")) (codes "NOPE") ∷ [])) ≡ Err kind.UnknownName
-unfolding person_method known_word
+unfolding person_method known_word added_word
 no_role = refl
 
 role_of_none : is_to_person (call (dot person (codes "has_role")) []) ≡ Err kind.BadType

@@ -1,8 +1,9 @@
 -- Formulas beside their sentences.
 use Rattle.std.proofs.Common.{◌≡◌, ℕ, zero, suc, List, [], ◌∷◌, ◌++◌, true, refl}
 use Rattle.std.specs.Prelude.{codes, Ok, Err, Result}
-use Rattle.fisca_ast.specs.Tree.{Tree, binary, text}
+use Rattle.fisca_ast.specs.Tree.{Tree, binary, compare, text}
 use Rattle.fisca_ast.specs.declared.tree.Operator.TheVariants as op
+use Rattle.fisca_ast.specs.declared.tree.Comparison.TheVariants as cmp
 use Rattle.fisca_ast.specs.declared.fault.FormulaKind.{FormulaKind}
 use Rattle.fisca_ast.specs.declared.fault.FormulaKind.TheVariants as kind
 use Rattle.fisca_typing.specs.declared.asking.Asking.TheVariants as asking
@@ -11,12 +12,12 @@ use Rattle.fisca_model.specs.declared.value_type.ValueType.TheVariants as vt
 use Rattle.fisca_typing.specs.declared.moves.DatePart.TheVariants as part
 use Rattle.fisca_typing.specs.declared.moves.Move.TheVariants as step
 use Rattle.fisca_typing.specs.declared.operations.Arithmetic.TheVariants as arith
-use Rattle.fisca_typing.specs.Formulas.{Assigned, Formula, Refusal, formula_of}
-use Rattle.fisca_typing.specs.Names.{Names, known_word}
-use Rattle.fisca_typing.specs.Nodes.{Node, local, truth, ask, arithmetic, date_part, member}
+use Rattle.fisca_typing.specs.Formulas.{Assigned, Formula, RefusedFormula, formula_of}
+use Rattle.fisca_typing.specs.Names.{Names, known_word, added_word}
+use Rattle.fisca_typing.specs.Nodes.{Node, local, truth, ask, arithmetic, date_part, member, same}
 use Rattle.fisca_typing.specs.Periods.{period_attribute, start_attribute}
 use Rattle.fisca_typing.specs.Sizes.{Size, Sized, size_of, capped_size_of}
-use Rattle.fisca_ast.specs.Contents.{said_within}
+use Rattle.fisca_ast.specs.Steps.Contents.{said_within}
 use Rattle.fisca_typing.proofs.Examples.{of_household, w, call, dot, group, list, period, nope}
 
 abbrev household : Names
@@ -25,13 +26,13 @@ household = record of_household { locals = [] }
 abbrev local_is : List ℕ → Tree → Assigned
 local_is name e = record { name = name; value = e }
 
-abbrev typed : List Assigned → Tree → Result Formula Refusal
+abbrev typed : List Assigned → Tree → Result Formula RefusedFormula
 typed = formula_of household vt.Number
 
-abbrev formula : List Node → Node → Result Formula Refusal
+abbrev formula : List Node → Node → Result Formula RefusedFormula
 formula values result = Ok (record { values = values; result = result })
 
-abbrev refused : ℕ → FormulaKind → Result Formula Refusal
+abbrev refused : ℕ → FormulaKind → Result Formula RefusedFormula
 refused place k = Err (record { place = place; kind = k })
 
 abbrev year : Tree
@@ -61,11 +62,11 @@ unfolding period_attribute start_attribute said_within
 used_later = refl
 
 used_before : typed (x_is y ∷ y_is year ∷ []) x ≡ refused 0 kind.UnknownName
-unfolding known_word
+unfolding known_word added_word
 used_before = refl
 
 used_in_itself : typed (x_is x ∷ []) year ≡ refused 0 kind.UnknownName
-unfolding known_word
+unfolding known_word added_word
 used_in_itself = refl
 
 -- the latest one of a name
@@ -75,7 +76,7 @@ latest = refl
 
 -- an unused local is typed too
 unused : typed (x_is year ∷ y_is nope ∷ []) x ≡ refused 1 kind.UnknownName
-unfolding period_attribute start_attribute known_word
+unfolding period_attribute start_attribute known_word added_word
 unused = refl
 
 -- a local may stand for a period, which has no place
@@ -83,7 +84,13 @@ of_period : typed (x_is (dot period (codes "last_year")) ∷ y_is (call (w (code
 unfolding period_attribute said_within
 of_period = refl
 
--- not for the first argument, a start, a text, a list, a function, an Enum, or what an Enum may be
+-- or for what an Enum may be, which this project adds
+of_choices : typed (x_is (dot (ask_for (codes "'occupancy'")) (codes "possible_values")) ∷ []) (compare cmp.Equal (ask_for (codes "'occupancy'")) (dot x (codes "owner")))
+    ≡ formula [] (same (ask 5 whom.Own asking.Plain []) (member 0 1))
+unfolding said_within
+of_choices = refl
+
+-- not for the first argument, a start, a text, a list, a function or an Enum
 of_entity : typed (x_is (w (codes "household")) ∷ []) year ≡ refused 0 kind.BadType
 of_entity = refl
 
@@ -104,10 +111,6 @@ of_function = refl
 of_enum : typed (x_is (w (codes "Occupancy")) ∷ []) year ≡ refused 0 kind.BadType
 unfolding known_word
 of_enum = refl
-
-of_choices : typed (x_is (dot (ask_for (codes "'occupancy'")) (codes "possible_values")) ∷ []) year ≡ refused 0 kind.BadType
-unfolding said_within
-of_choices = refl
 
 -- a return is of the variable's Enum for an Enum variable, else number or bool
 returns_bool : typed [] (w (codes "True")) ≡ formula [] (truth true)
@@ -154,7 +157,7 @@ repeated (suc n) ls = ls ++ repeated n ls
 abbrev doubled : ℕ → List Assigned
 doubled n = x_is (w (codes "True")) ∷ repeated n (x_is (binary op.Add x x) ∷ [])
 
-abbrev is_refused : Result Formula Refusal → Result ℕ Refusal
+abbrev is_refused : Result Formula RefusedFormula → Result ℕ RefusedFormula
 is_refused (Ok f) = Ok 0
 is_refused (Err r) = Err r
 

@@ -10,7 +10,7 @@ use Rattle.fisca_ast.specs.declared.fault.FormulaKind.{FormulaKind}
 use Rattle.fisca_ast.specs.declared.fault.FormulaKind.TheVariants as kind
 use Rattle.fisca_typing.specs.declared.kinds.Level.TheVariants as level
 use Rattle.fisca_typing.specs.declared.moves.Move.TheVariants as step
-use Rattle.fisca_typing.specs.Names.{Names, known_word}
+use Rattle.fisca_typing.specs.Names.{Names, known_word, added_word}
 use Rattle.fisca_typing.specs.Nodes.{local, no_index, index, parameter, scale_sum}
 use Rattle.fisca_typing.specs.Periods.{period_attribute}
 use Rattle.fisca_typing.specs.Things.{Thing, nodes, scale}
@@ -159,7 +159,7 @@ of_scale : is (at (benefit (codes "tax")) e) ≡ Err kind.BadType
 of_scale = refl
 
 by_unknown : is (at (named (codes "heating")) nope) ≡ Err kind.UnknownName
-unfolding known_word
+unfolding known_word added_word
 by_unknown = refl
 
 level_before_children : is (at (at (named (codes "area")) e) o) ≡ Err kind.BadLevel

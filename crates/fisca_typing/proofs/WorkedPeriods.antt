@@ -17,10 +17,10 @@ use Rattle.fisca_model.specs.declared.value_type.ValueType.TheVariants as vt
 use Rattle.fisca_typing.specs.declared.moves.DatePart.TheVariants as part
 use Rattle.fisca_typing.specs.declared.moves.Move.{Move}
 use Rattle.fisca_typing.specs.declared.moves.Move.TheVariants as step
-use Rattle.fisca_typing.specs.Names.{known_word}
+use Rattle.fisca_typing.specs.Names.{known_word, added_word}
 use Rattle.fisca_typing.specs.Nodes.{local, truth, date_part, member}
 use Rattle.fisca_typing.specs.Periods.{period_attribute, start_attribute, unit_named}
-use Rattle.fisca_ast.specs.Contents.{content, said_within}
+use Rattle.fisca_ast.specs.Steps.Contents.{content, said_within}
 use Rattle.fisca_typing.specs.Things.{Thing, period as the_period, asker, reader, enumeration, entity, option}
 use Rattle.fisca_typing.specs.Typing.{thing_of}
 use Rattle.fisca_typing.proofs.Examples.{of_household, of_person, a_local, k, n, b, e, nope, w, call, dot, group, period, number, bool, occupancy}
@@ -150,7 +150,7 @@ third_argument : is (w (codes "parameters")) ≡ Ok reader
 third_argument = refl
 
 no_third_argument : thing_of of_person (w (codes "parameters")) ≡ Err kind.UnknownName
-unfolding known_word
+unfolding known_word added_word
 no_third_argument = refl
 
 argument_over_function : thing_of (record of_household { period_name = codes "where" }) (w (codes "where")) ≡ by []
@@ -177,7 +177,7 @@ unfolding known_word
 an_entity = refl
 
 no_name : is nope ≡ Err kind.UnknownName
-unfolding known_word
+unfolding known_word added_word
 no_name = refl
 
 -- `E.name`, `x.possible_values.name`: a member, constant; x is typed and not worked out
@@ -186,7 +186,7 @@ unfolding known_word
 member_of_enum = refl
 
 no_member : is (dot (w (codes "Occupancy")) (codes "castle")) ≡ Err kind.UnknownName
-unfolding known_word
+unfolding known_word added_word
 no_member = refl
 
 possible_value : is (dot (dot e (codes "possible_values")) (codes "tenant")) ≡ occupancy level.Constant (member 0 0)
@@ -202,7 +202,7 @@ choices_of_number : is (dot n (codes "possible_values")) ≡ Err kind.BadType
 choices_of_number = refl
 
 choices_of_unknown : is (dot (dot nope (codes "possible_values")) (codes "tenant")) ≡ Err kind.UnknownName
-unfolding known_word
+unfolding known_word added_word
 choices_of_unknown = refl
 
 -- an attribute of a number or bool is none

@@ -16,7 +16,7 @@ use Rattle.fisca_typing.specs.declared.operations.Method.{Method}
 use Rattle.fisca_typing.specs.declared.operations.Method.TheVariants as method
 use Rattle.fisca_typing.specs.declared.operations.Total.{Total}
 use Rattle.fisca_typing.specs.declared.operations.Total.TheVariants as total
-use Rattle.fisca_typing.specs.Calls.{Given, Positions, by_position, and_keyword, more_keywords, alone, positions, settled}
+use Rattle.fisca_typing.specs.Calls.{CallArgument, Positions, by_position, and_keyword, more_keywords, alone, positions, settled}
 use Rattle.fisca_typing.specs.Names.{Names, unknown_name}
 use Rattle.fisca_typing.specs.Nodes.{ask, has_role, count, total as total_node}
 use Rattle.fisca_model.specs.Tables.{Tables, Variable, is_person, is_group_of, is_person_at, place_in, role_of_key, roles_at, if_single, variable_named}
@@ -54,7 +54,7 @@ asked_type asking.Add t = numeric_only t
 asked_type asking.Divide t = numeric_only t
 
 -- a variable and a period, perhaps with options: the variable is judged first, then the period, then the options
-abbrev pub asked : Tables → Relation → Level → Given → Given → Option (Result Thing FormulaKind) → Result Thing FormulaKind
+abbrev pub asked : Tables → Relation → Level → CallArgument → CallArgument → Option (Result Thing FormulaKind) → Result Thing FormulaKind
 asked c r l v p o =
     and_then v.thing (λ x. and_then (variable_of c r.entity x) (λ found.
     and_then p.thing (λ y. and_then (period_of y) (λ ms.
@@ -70,7 +70,7 @@ is_positional None = true
 is_positional (Some k) = false
 
 -- the number and the keywords of the arguments are judged before all else
-abbrev pub asked_with : Tables → Relation → Level → List Given → Result Thing FormulaKind
+abbrev pub asked_with : Tables → Relation → Level → List CallArgument → Result Thing FormulaKind
 asked_with c r l (v ∷ p ∷ []) =
     if is_positional v.keyword then (if is_positional p.keyword then asked c r l v p None else bad_type) else bad_type
 asked_with c r l (v ∷ p ∷ o ∷ []) =
@@ -181,10 +181,10 @@ total_by entity t more_keywords = bad_type
 
 -- Calls
 
-abbrev pub settled_positions : List Given → (Positions → Result Thing FormulaKind) → Result Thing FormulaKind
+abbrev pub settled_positions : List CallArgument → (Positions → Result Thing FormulaKind) → Result Thing FormulaKind
 settled_positions gs f = and_then (settled gs) (λ ss. f (positions ss))
 
-abbrev pub method_by : Names → Method → List Given → Result Thing FormulaKind
+abbrev pub method_by : Names → Method → List CallArgument → Result Thing FormulaKind
 method_by c method.HasRole gs = settled_positions gs has_role_by
 method_by c method.Members gs = asked_with c.tables (to_person c.tables) level.Members gs
 method_by c (method.Total t) gs = settled_positions gs (total_by c.entity t)
@@ -196,12 +196,12 @@ is_ok_text x = is_some_text (and_then x text_of) where
   is_some_text (Ok t) = true
   is_some_text (Err k) = false
 
-abbrev pub begins_with_text : List Given → Bool
+abbrev pub begins_with_text : List CallArgument → Bool
 begins_with_text [] = false
 begins_with_text (g ∷ gs) = is_ok_text g.thing
 
 -- where a name is a role's or a group's and a function's too, the arguments decide: a text comes first where a variable is asked for
-abbrev pub method_called : Names → Option Method → Option Relation → List Given → Result Thing FormulaKind
+abbrev pub method_called : Names → Option Method → Option Relation → List CallArgument → Result Thing FormulaKind
 method_called c None None gs = unknown_name
 method_called c None (Some r) gs = asked_with c.tables r level.Own gs
 method_called c (Some m) None gs = method_by c m gs

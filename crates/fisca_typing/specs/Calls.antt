@@ -1,27 +1,33 @@
 -- Calls of functions, and what stands in their parentheses.
-use Rattle.std.specs.Prelude.{ℕ, suc, List, [], ◌∷◌, length, Bool, true, false, ◌==◌, ◌&&◌, if◌then◌else◌, Option, Some, None, Result, Ok, codes}
+use Rattle.std.specs.Prelude.{ℕ, suc, ℤ, pos, List, [], ◌∷◌, length, Bool, true, false, ◌==◌, ◌&&◌, if◌then◌else◌, Option, Some, None, ok_or, Result, Ok, codes}
 use Rattle.fisca_num.specs.Number.{zero_number}
 use Rattle.fisca_ast.specs.Words.{is}
 use Rattle.fisca_ast.specs.Tree.{Tree}
+use Rattle.fisca_ast.specs.declared.tree.Operator.{Operator}
+use Rattle.fisca_ast.specs.declared.tree.Operator.TheVariants as operator
 use Rattle.fisca_params.specs.Results.{and_then}
 use Rattle.fisca_ast.specs.declared.fault.FormulaKind.{FormulaKind}
+use Rattle.fisca_ast.specs.declared.fault.FormulaKind.TheVariants as kind
 use Rattle.fisca_typing.specs.declared.kinds.Level.TheVariants as level
 use Rattle.fisca_model.specs.declared.value_type.ValueType.{ValueType}
 use Rattle.fisca_model.specs.declared.value_type.ValueType.TheVariants as vt
 use Rattle.fisca_typing.specs.declared.moves.Move.{Move}
+use Rattle.fisca_typing.specs.declared.operations.Arithmetic.{Arithmetic}
 use Rattle.fisca_typing.specs.declared.operations.Arithmetic.TheVariants as arith
 use Rattle.fisca_typing.specs.declared.operations.Function.{Function}
 use Rattle.fisca_typing.specs.declared.operations.Function.TheVariants as function
+use Rattle.fisca_typing.specs.declared.operations.Unary.{Unary}
+use Rattle.fisca_typing.specs.declared.operations.Unary.TheVariants as unary
 use Rattle.fisca_typing.specs.Nodes.{Node, literal, truth, choose, scale_sum}
-use Rattle.fisca_typing.specs.Operations.{operated, extreme, negated, numeric_of, common_all, highest, typed_all, where_of}
+use Rattle.fisca_typing.specs.Operations.{operated, operation, extreme, is_places, unary_of, numeric_of, common_all, highest, typed_all, where_of}
 use Rattle.fisca_typing.specs.Parameters.{root_at}
-use Rattle.fisca_typing.specs.Periods.{offset_by, offset_by_unit}
+use Rattle.fisca_typing.specs.Periods.{offset_by, offset_by_unit, whole}
 use Rattle.fisca_model.specs.Tables.{Tables}
 use Rattle.fisca_typing.specs.Things.{Thing, Typed, typed, value_of, things_of, instant_of, text_of}
 use Rattle.fisca_typing.specs.Types.{is_bool, bad_type, common}
 
 -- an argument: its keyword if it has one, how it is written, and what it stands for
-pub record Given : Type 0 where
+pub record CallArgument : Type 0 where
   pub keyword : Option (List ℕ)
   pub tree : Tree
   pub thing : Result Thing FormulaKind
@@ -32,7 +38,7 @@ pub record Settled : Type 0 where
   pub tree : Tree
   pub thing : Thing
 
-abbrev pub settled : List Given → Result (List Settled) FormulaKind
+abbrev pub settled : List CallArgument → Result (List Settled) FormulaKind
 settled [] = Ok []
 settled (g ∷ gs) =
     and_then g.thing (λ x. and_then (settled gs) (λ ss. Ok (record { keyword = g.keyword; tree = g.tree; thing = x } ∷ ss)))
@@ -131,12 +137,60 @@ two (by_position _) f = bad_type
 two (and_keyword ss k x) f = bad_type
 two more_keywords f = bad_type
 
+abbrev pub unary_by : Unary → Positions → Result Thing FormulaKind
+unary_by o ps = and_then (alone ps) (λ s. unary_of o s.thing)
+
+abbrev pub operator_by : Operator → Positions → Result Thing FormulaKind
+operator_by o ps = two ps (λ a b. operated (operation o) a.thing b.thing)
+
+-- `min_` and `max_`: from left to right, each with what those before it give
+abbrev pub extreme_all : Arithmetic → Thing → List Settled → Result Thing FormulaKind
+extreme_all o x [] = Ok x
+extreme_all o x (s ∷ ss) = and_then (operated (extreme o) x s.thing) (λ y. extreme_all o y ss)
+
+abbrev pub extreme_by : Arithmetic → Positions → Result Thing FormulaKind
+extreme_by o (by_position (a ∷ b ∷ ss)) = extreme_all o a.thing (b ∷ ss)
+extreme_by o (by_position _) = bad_type
+extreme_by o (and_keyword ss k x) = bad_type
+extreme_by o more_keywords = bad_type
+
+-- as many decimal places as are written
+abbrev pub places_of : Tree → Result ℤ FormulaKind
+places_of k = and_then (ok_or (whole k) kind.BadType) (λ n. if is_places n then Ok n else bad_type)
+
+abbrev pub rounded : Thing → ℤ → Result Thing FormulaKind
+rounded x n = unary_of (unary.Round n) x
+
+abbrev pub round_by : Positions → Result Thing FormulaKind
+round_by (by_position (x ∷ [])) = rounded x.thing (pos 0)
+round_by (by_position (x ∷ n ∷ [])) = and_then (places_of n.tree) (rounded x.thing)
+round_by (by_position _) = bad_type
+round_by (and_keyword ss k x) = bad_type
+round_by more_keywords = bad_type
+
+-- the number, but no lower than the one bound, and of that no higher than the other
+abbrev pub clipped : Thing → Thing → Thing → Result Thing FormulaKind
+clipped x low high = and_then (operated (extreme arith.Max) x low) (λ y. operated (extreme arith.Min) y high)
+
+abbrev pub clip_by : Positions → Result Thing FormulaKind
+clip_by (by_position (x ∷ low ∷ high ∷ [])) = clipped x.thing low.thing high.thing
+clip_by (by_position _) = bad_type
+clip_by (and_keyword ss k x) = bad_type
+clip_by more_keywords = bad_type
+
 abbrev pub function_by : Function → Positions → Result Thing FormulaKind
 function_by function.Where ps = where_by ps
 function_by function.Select ps = select_by ps
-function_by function.Min ps = two ps (λ a b. operated (extreme arith.Min) a.thing b.thing)
-function_by function.Max ps = two ps (λ a b. operated (extreme arith.Max) a.thing b.thing)
-function_by function.Not ps = and_then (alone ps) (λ s. and_then (value_of s.thing) negated)
+function_by function.Min ps = extreme_by arith.Min ps
+function_by function.Max ps = extreme_by arith.Max ps
+function_by function.Clip ps = clip_by ps
+function_by function.Not ps = unary_by unary.Not ps
+function_by function.And ps = operator_by operator.And ps
+function_by function.Or ps = operator_by operator.Or ps
+function_by function.Floor ps = unary_by unary.Floor ps
+function_by function.Ceil ps = unary_by unary.Ceil ps
+function_by function.Round ps = round_by ps
+function_by function.Absolute ps = unary_by unary.Absolute ps
 
 -- `p.offset(k)`, `p.offset(k, "month")`
 abbrev pub offset_of : List Move → Positions → Result Thing FormulaKind

@@ -36,27 +36,14 @@ kept_as x ns = Ok (record { thing = x; values = ns })
 abbrev pub kept_value : Typed → List Node → Result Kept FormulaKind
 kept_value v ns = kept_as (value (record v { node = local (length ns) })) (ns ++ v.node ∷ [])
 
--- a local stands for a number, a bool, a member of an Enum, a period, parameters or a scale
+-- a local stands for a number, a bool, a member of an Enum, a period, parameters, a scale or, which this project adds, the members of an Enum
 abbrev pub kept : Thing → List Node → Result Kept FormulaKind
 kept (value v) ns = kept_value v ns
 kept (period ms) ns = kept_as (period ms) ns
-kept (start ms) ns = bad_type
-kept (offset ms) ns = bad_type
-kept reader ns = bad_type
 kept (nodes c) ns = kept_as (nodes c) ns
 kept (scale n ms) ns = kept_as (scale n ms) ns
-kept (calculation n ms) ns = bad_type
-kept (enumeration e) ns = bad_type
-kept (choices e) ns = bad_type
-kept (entity g) ns = bad_type
-kept (role g r) ns = bad_type
-kept asker ns = bad_type
-kept (method m r) ns = bad_type
-kept library ns = bad_type
-kept (function f) ns = bad_type
-kept (option a) ns = bad_type
-kept (text t) ns = bad_type
-kept (listed xs) ns = bad_type
+kept (choices e) ns = kept_as (choices e) ns
+kept _ _ = bad_type
 
 -- the limits are judged last
 abbrev pub if_small : {X : Type 0} → Size → X → Result X FormulaKind
@@ -106,18 +93,18 @@ pub record Formula : Type 0 where
   pub result : Node
 
 -- how many locals come before the fault
-pub record Refusal : Type 0 where
+pub record RefusedFormula : Type 0 where
   pub place : ℕ
   pub kind : FormulaKind
 
-abbrev pub at : {X : Type 0} → ℕ → Result X FormulaKind → Result X Refusal
+abbrev pub at : {X : Type 0} → ℕ → Result X FormulaKind → Result X RefusedFormula
 at place (Ok x) = Ok x
 at place (Err k) = Err (record { place = place; kind = k })
 
-abbrev pub formula_from : ℕ → Scope → ValueType → List Assigned → Tree → Result Formula Refusal
+abbrev pub formula_from : ℕ → Scope → ValueType → List Assigned → Tree → Result Formula RefusedFormula
 formula_from i s t [] e = and_then (at i (returned s t e)) (λ n. Ok (record { values = s.values; result = n }))
 formula_from i s t (l ∷ ls) e = and_then (at i (behind_local s l.name l.value)) (λ u. formula_from (suc i) u t ls e)
 
 -- the formula of a variable of this type, or its first fault
-abbrev pub formula_of : Names → ValueType → List Assigned → Tree → Result Formula Refusal
+abbrev pub formula_of : Names → ValueType → List Assigned → Tree → Result Formula RefusedFormula
 formula_of c = formula_from 0 (start_of c)

@@ -60,6 +60,27 @@ known_word t =
     else (if is t (codes "ADD") then Some (option asking.Add)
     else (if is t (codes "DIVIDE") then Some (option asking.Divide) else None))))))))))
 
+-- functions that this project adds
+unfoldable pub added_word : List ℕ → Option Thing
+added_word t =
+    if is t (codes "round_") then Some (called_function function.Round)
+    else (if is t (codes "floor") then Some (called_function function.Floor)
+    else (if is t (codes "ceil") then Some (called_function function.Ceil)
+    else (if is t (codes "abs_") then Some (called_function function.Absolute)
+    else (if is t (codes "clip") then Some (called_function function.Clip) else None))))
+
+-- those that it adds behind `np` or `numpy`
+unfoldable pub added_function : List ℕ → Result Thing FormulaKind
+added_function t =
+    if is t (codes "round") then Ok (called_function function.Round)
+    else (if is t (codes "floor") then Ok (called_function function.Floor)
+    else (if is t (codes "ceil") then Ok (called_function function.Ceil)
+    else (if is t (codes "abs") then Ok (called_function function.Absolute)
+    else (if is t (codes "absolute") then Ok (called_function function.Absolute)
+    else (if is t (codes "clip") then Ok (called_function function.Clip)
+    else (if is t (codes "logical_and") then Ok (called_function function.And)
+    else (if is t (codes "logical_or") then Ok (called_function function.Or) else unknown_name)))))))
+
 -- names of the functions behind `np` or `numpy`
 unfoldable pub library_function : List ℕ → Result Thing FormulaKind
 library_function t =
@@ -67,14 +88,15 @@ library_function t =
     else (if is t (codes "select") then Ok (called_function function.Select)
     else (if is t (codes "minimum") then Ok (called_function function.Min)
     else (if is t (codes "maximum") then Ok (called_function function.Max)
-    else (if is t (codes "logical_not") then Ok (called_function function.Not) else unknown_name))))
+    else (if is t (codes "logical_not") then Ok (called_function function.Not)
+    else added_function t))))
 
 abbrev pub declared : Tables → List ℕ → Option Thing
 declared c t =
     otherwise (option_map enumeration (place_in (λ e. bytes_eq e.name t) c.enums))
     (option_map entity (place_in (λ e. bytes_eq e.constant t) c.entities))
 
--- the latest local, else an argument, else a word of the language, else an Enum or an entity
+-- the latest local, else an argument, else a word of the language, else an Enum or an entity, else a function that is added: so it hides no name
 abbrev pub named : Names → List ℕ → Result Thing FormulaKind
 named c t =
-    ok_or (otherwise (local_named c.locals t) (otherwise (argument_named c t) (otherwise (known_word t) (declared c.tables t)))) kind.UnknownName
+    ok_or (otherwise (local_named c.locals t) (otherwise (argument_named c t) (otherwise (known_word t) (otherwise (declared c.tables t) (added_word t))))) kind.UnknownName

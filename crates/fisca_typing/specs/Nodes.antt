@@ -10,6 +10,7 @@ use Rattle.fisca_typing.specs.declared.moves.Move.{Move}
 use Rattle.fisca_typing.specs.declared.operations.Arithmetic.{Arithmetic}
 use Rattle.fisca_typing.specs.declared.operations.Logic.{Logic}
 use Rattle.fisca_typing.specs.declared.operations.Total.{Total}
+use Rattle.fisca_typing.specs.declared.operations.Unary.{Unary}
 
 mutual
   -- Enums, their members, variables, entities and parameters are given by their places, and a local by how many with a value come before it.
@@ -24,8 +25,7 @@ mutual
     has_role : ℕ → RolePlace → Node
     count : Option RolePlace → Node
     total : Total → Option RolePlace → Node → Node
-    negative : Node → Node
-    opposite : Node → Node
+    unary : Unary → Node → Node
     arithmetic : Arithmetic → Node → Node → Node
     logic : Logic → Node → Node → Node
     comparison : Comparison → Node → Node → Node

@@ -1,5 +1,5 @@
 -- Types and levels of operations.
-use Rattle.std.specs.Prelude.{List, [], ◌∷◌, Bool, ◌&&◌, if◌then◌else◌, Result, Ok}
+use Rattle.std.specs.Prelude.{ℤ, unsigned_abs, List, [], ◌∷◌, nat_le, Bool, false, ◌&&◌, if◌then◌else◌, Result, Ok}
 use Rattle.fisca_params.specs.Results.{and_then}
 use Rattle.fisca_ast.specs.declared.tree.Operator.{Operator}
 use Rattle.fisca_ast.specs.declared.tree.Operator.TheVariants as operator
@@ -15,9 +15,11 @@ use Rattle.fisca_typing.specs.declared.operations.Arithmetic.{Arithmetic}
 use Rattle.fisca_typing.specs.declared.operations.Arithmetic.TheVariants as arith
 use Rattle.fisca_typing.specs.declared.operations.Logic.{Logic}
 use Rattle.fisca_typing.specs.declared.operations.Logic.TheVariants as logic
-use Rattle.fisca_typing.specs.Nodes.{Node, negative, opposite, arithmetic, logic as logic_node, comparison, same, choose}
-use Rattle.fisca_typing.specs.Things.{Thing, Things, Typed, none, more, typed, value_of}
-use Rattle.fisca_typing.specs.Types.{is_numeric, is_bool, bad_type, common, higher}
+use Rattle.fisca_typing.specs.declared.operations.Unary.{Unary}
+use Rattle.fisca_typing.specs.declared.operations.Unary.TheVariants as unary
+use Rattle.fisca_typing.specs.Nodes.{Node, unary as unary_node, arithmetic, logic as logic_node, comparison, same, choose}
+use Rattle.fisca_typing.specs.Things.{Thing, Things, Typed, value, none, more, typed, value_of}
+use Rattle.fisca_typing.specs.Types.{is_numeric, is_number, is_bool, bad_type, common, higher}
 
 -- an operation on two operands: the type of what it gives, and what works it out
 pub record Operation : Type 0 where
@@ -57,12 +59,9 @@ compares node = Ok (record { gives = vt.Bool; node = node })
 
 -- members of one Enum are equal or not
 abbrev pub comparison_of_members : Comparison → Result Operation FormulaKind
-comparison_of_members cmp.Less = bad_type
-comparison_of_members cmp.LessEqual = bad_type
-comparison_of_members cmp.Greater = bad_type
-comparison_of_members cmp.GreaterEqual = bad_type
 comparison_of_members cmp.Equal = compares same
-comparison_of_members cmp.NotEqual = compares (λ a b. opposite (same a b))
+comparison_of_members cmp.NotEqual = compares (λ a b. unary_node unary.Not (same a b))
+comparison_of_members _ = bad_type
 
 abbrev pub comparison_by : Comparison → ValueType → Result Operation FormulaKind
 comparison_by o vt.Number = compares (comparison o)
@@ -81,22 +80,39 @@ abbrev pub operated : (ValueType → ValueType → Result Operation FormulaKind)
 operated by x y =
     and_then (value_of x) (λ a. and_then (value_of y) (λ b. and_then (by a.value_type b.value_type) (with_levels a b)))
 
+-- Operations on one value
+
+-- a number is rounded to the multiple of 10 ^ -9 that is nearest, or to that of a higher power, up to 10 ^ 9
+abbrev pub is_places : ℤ → Bool
+is_places n = nat_le (unsigned_abs n) 9
+
+-- the type of the value, and of what the operation gives
+abbrev pub unary_type : Unary → ValueType
+unary_type unary.Not = vt.Bool
+unary_type unary.Minus = vt.Number
+unary_type unary.Floor = vt.Number
+unary_type unary.Ceil = vt.Number
+unary_type (unary.Round places) = vt.Number
+unary_type unary.Absolute = vt.Number
+
+-- whether a type is just this one: here a bool is no number
+abbrev pub is_just : ValueType → ValueType → Bool
+is_just vt.Number t = is_number t
+is_just vt.Bool t = is_bool t
+is_just (vt.Enum e) t = false
+
+abbrev pub unary_on : Unary → Typed → Result Thing FormulaKind
+unary_on o a = if is_just (unary_type o) a.value_type then typed a.value_type a.level (unary_node o a.node) else bad_type
+
+abbrev pub unary_of : Unary → Thing → Result Thing FormulaKind
+unary_of o x = and_then (value_of x) (unary_on o)
+
 -- a prefix
 
-abbrev pub signed : (Node → Node) → Typed → Result Thing FormulaKind
-signed node a = by a.value_type where
-  by : ValueType → Result Thing FormulaKind
-  by vt.Number = typed vt.Number a.level (node a.node)
-  by vt.Bool = bad_type
-  by (vt.Enum e) = bad_type
-
-abbrev pub negated : Typed → Result Thing FormulaKind
-negated a = if is_bool a.value_type then typed vt.Bool a.level (opposite a.node) else bad_type
-
 abbrev pub prefixed_by : Prefix → Typed → Result Thing FormulaKind
-prefixed_by prefix.Plus a = signed (λ n. n) a
-prefixed_by prefix.Minus a = signed negative a
-prefixed_by prefix.Not a = negated a
+prefixed_by prefix.Plus a = if is_number a.value_type then Ok (value a) else bad_type
+prefixed_by prefix.Minus a = unary_on unary.Minus a
+prefixed_by prefix.Not a = unary_on unary.Not a
 
 abbrev pub prefixed_value : Prefix → Thing → Result Thing FormulaKind
 prefixed_value p x = and_then (value_of x) (prefixed_by p)

@@ -20,25 +20,16 @@ use Rattle.fisca_typing.specs.Types.{bad_type, higher}
 
 -- all nodes are numbers, bools, or nodes with children
 abbrev pub is_number : NodeKind → Bool
-is_number node.Node = false
 is_number node.Number = true
-is_number node.Bool = false
-is_number node.Unusable = false
-is_number node.Scale = false
+is_number _ = false
 
 abbrev pub is_bool : NodeKind → Bool
-is_bool node.Node = false
-is_bool node.Number = false
 is_bool node.Bool = true
-is_bool node.Unusable = false
-is_bool node.Scale = false
+is_bool _ = false
 
 abbrev pub is_node : NodeKind → Bool
 is_node node.Node = true
-is_node node.Number = false
-is_node node.Bool = false
-is_node node.Unusable = false
-is_node node.Scale = false
+is_node _ = false
 
 abbrev pub kinds_at : List TreeNode → List ℕ → List NodeKind
 kinds_at ns = map (λ place. kind_of (content_at ns place))

@@ -13,6 +13,11 @@ is_numeric vt.Number = true
 is_numeric vt.Bool = true
 is_numeric (vt.Enum e) = false
 
+abbrev pub is_number : ValueType → Bool
+is_number vt.Number = true
+is_number vt.Bool = false
+is_number (vt.Enum e) = false
+
 abbrev pub is_bool : ValueType → Bool
 is_bool vt.Number = false
 is_bool vt.Bool = true
@@ -28,13 +33,10 @@ bad_level = Err kind.BadLevel
 abbrev pub common : ValueType → ValueType → Result ValueType FormulaKind
 common vt.Number vt.Number = Ok vt.Number
 common vt.Number vt.Bool = Ok vt.Number
-common vt.Number (vt.Enum f) = bad_type
 common vt.Bool vt.Number = Ok vt.Number
 common vt.Bool vt.Bool = Ok vt.Bool
-common vt.Bool (vt.Enum f) = bad_type
-common (vt.Enum e) vt.Number = bad_type
-common (vt.Enum e) vt.Bool = bad_type
 common (vt.Enum e) (vt.Enum f) = if e == f then Ok (vt.Enum e) else bad_type
+common _ _ = bad_type
 
 -- the higher of two levels; a value of the group and values of its persons have none
 abbrev pub higher : Level → Level → Result Level FormulaKind

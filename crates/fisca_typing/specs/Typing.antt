@@ -17,14 +17,14 @@ use Rattle.fisca_typing.specs.declared.kinds.Level.TheVariants as level
 use Rattle.fisca_model.specs.declared.value_type.ValueType.{ValueType}
 use Rattle.fisca_model.specs.declared.value_type.ValueType.TheVariants as vt
 use Rattle.fisca_typing.specs.Asks.{asked_with, to_self, asker_attribute, method_called, settled_positions}
-use Rattle.fisca_typing.specs.Calls.{Given, function_by, offset_of, reader_by, calculation_by}
+use Rattle.fisca_typing.specs.Calls.{CallArgument, function_by, offset_of, reader_by, calculation_by}
 use Rattle.fisca_typing.specs.Names.{Names, named, library_function, unknown_name}
 use Rattle.fisca_typing.specs.Nodes.{literal, member}
 use Rattle.fisca_typing.specs.Operations.{operated, operation, comparison_of, prefixed_value}
 use Rattle.fisca_typing.specs.Parameters.{node_attribute, scale_attribute, subscripted}
 use Rattle.fisca_typing.specs.Periods.{period_attribute, start_attribute}
 use Rattle.fisca_model.specs.Tables.{Tables, member_named, role_of_constant, roles_at}
-use Rattle.fisca_ast.specs.Contents.{content}
+use Rattle.fisca_ast.specs.Steps.Contents.{content}
 use Rattle.fisca_typing.specs.Things.{Thing, Things, typed, value, period, start, offset, reader, nodes, scale, calculation, enumeration, choices, entity, role, asker, method, library, function, option, text, listed, none, more, value_of, nodes_of}
 use Rattle.fisca_typing.specs.Types.{bad_type}
 
@@ -58,48 +58,28 @@ abbrev pub attribute_of : Names → List ℕ → Thing → Result Thing FormulaK
 attribute_of c t (value v) = value_attribute t v.value_type
 attribute_of c t (period ms) = period_attribute t ms
 attribute_of c t (start ms) = start_attribute t ms
-attribute_of c t (offset ms) = bad_type
-attribute_of c t reader = bad_type
 attribute_of c t (nodes n) = node_attribute c.tables.nodes t n
 attribute_of c t (scale n ms) = scale_attribute t n ms
-attribute_of c t (calculation n ms) = bad_type
 attribute_of c t (enumeration e) = member_thing c.tables e t
 attribute_of c t (choices e) = member_thing c.tables e t
 attribute_of c t (entity g) = role_thing c.tables g t
-attribute_of c t (role g r) = bad_type
 attribute_of c t asker = asker_attribute c t
-attribute_of c t (method m r) = bad_type
 attribute_of c t library = library_function t
-attribute_of c t (function f) = bad_type
-attribute_of c t (option a) = bad_type
-attribute_of c t (text s) = bad_type
-attribute_of c t (listed xs) = bad_type
+attribute_of _ _ _ = bad_type
 
 -- Calls: the arguments of all but questions are taken first, from left to right
 
-abbrev pub not_called : List Given → Result Thing FormulaKind
+abbrev pub not_called : List CallArgument → Result Thing FormulaKind
 not_called gs = settled_positions gs (λ ps. bad_type)
 
-abbrev pub called : Names → Thing → List Given → Result Thing FormulaKind
-called c (value v) gs = not_called gs
-called c (period ms) gs = not_called gs
-called c (start ms) gs = not_called gs
+abbrev pub called : Names → Thing → List CallArgument → Result Thing FormulaKind
 called c (offset ms) gs = settled_positions gs (offset_of ms)
 called c reader gs = settled_positions gs (reader_by c.tables)
-called c (nodes n) gs = not_called gs
-called c (scale n ms) gs = not_called gs
 called c (calculation n ms) gs = settled_positions gs (calculation_by n ms)
-called c (enumeration e) gs = not_called gs
-called c (choices e) gs = not_called gs
-called c (entity g) gs = not_called gs
-called c (role g r) gs = not_called gs
 called c asker gs = asked_with c.tables (to_self c.entity) level.Own gs
 called c (method m r) gs = method_called c m r gs
-called c library gs = not_called gs
 called c (function f) gs = settled_positions gs (function_by f)
-called c (option a) gs = not_called gs
-called c (text s) gs = not_called gs
-called c (listed xs) gs = not_called gs
+called _ _ gs = not_called gs
 
 -- Brackets
 
@@ -108,32 +88,32 @@ is_positional None = true
 is_positional (Some k) = false
 
 -- the elements of a list
-abbrev pub elements : List Given → Result Things FormulaKind
+abbrev pub elements : List CallArgument → Result Things FormulaKind
 elements [] = Ok none
 elements (g ∷ gs) =
     and_then g.thing (λ x. if is_positional g.keyword then and_then (elements gs) (λ xs. Ok (more x xs)) else bad_type)
 
 -- what stands alone in brackets
-abbrev pub only : List Given → Result Thing FormulaKind
+abbrev pub only : List CallArgument → Result Thing FormulaKind
 only [] = bad_type
 only (g ∷ []) = if is_positional g.keyword then g.thing else bad_type
 only (g ∷ h ∷ gs) = bad_type
 
 -- parentheses group alone; no formula has tuples or maps
-abbrev pub in_brackets : Bracket → List Given → Result Thing FormulaKind
+abbrev pub in_brackets : Bracket → List CallArgument → Result Thing FormulaKind
 in_brackets bracket.Round gs = only gs
 in_brackets bracket.Square gs = and_then (elements gs) (λ xs. Ok (listed xs))
 in_brackets bracket.Curly gs = bad_type
 
 -- `NODE[e]`
-abbrev pub subscript_of : Names → Thing → List Given → Result Thing FormulaKind
+abbrev pub subscript_of : Names → Thing → List CallArgument → Result Thing FormulaKind
 subscript_of c x gs = and_then (only gs) (λ i. and_then (nodes_of x) (λ n. and_then (value_of i) (subscripted c.tables n)))
 
-abbrev pub with_suffix : Names → Suffix → Thing → List Given → Result Thing FormulaKind
+abbrev pub with_suffix : Names → Suffix → Thing → List CallArgument → Result Thing FormulaKind
 with_suffix c suffix.Call x gs = called c x gs
 with_suffix c suffix.Subscript x gs = subscript_of c x gs
 
-abbrev pub given : Option (List ℕ) → Tree → Result Thing FormulaKind → Given
+abbrev pub given : Option (List ℕ) → Tree → Result Thing FormulaKind → CallArgument
 given k e x = record { keyword = k; tree = e; thing = x }
 
 abbrev mutual
@@ -148,12 +128,12 @@ abbrev mutual
   thing_of c (tree.binary o a b) = and_then (thing_of c a) (λ x. and_then (thing_of c b) (operated (operation o) x))
   thing_of c (tree.compare o a b) = and_then (thing_of c a) (λ x. and_then (thing_of c b) (operated (comparison_of o) x))
 
-  pub all_given : Names → Series → List Given
+  pub all_given : Names → Series → List CallArgument
   all_given c tree.nothing = []
   all_given c (tree.last a) = given_of c a ∷ []
   all_given c (tree.next a xs) = given_of c a ∷ all_given c xs
 
-  pub given_of : Names → Argument → Given
+  pub given_of : Names → Argument → CallArgument
   given_of c (tree.positional e) = given None e (thing_of c e)
   given_of c (tree.keyword k e) = given (Some k) e (thing_of c e)
   given_of c (tree.entry k e) = given None e bad_type

@@ -11,4 +11,4 @@ pub use asking::{Asking, Whom};
 pub use kinds::Level;
 pub use law::{counting_to_the_limits_decides_them, sizes_are_of_locals_put_in};
 pub use moves::{DatePart, Move};
-pub use operations::{Arithmetic, Function, Logic, Method, Total};
+pub use operations::{Arithmetic, Function, Logic, Method, Total, Unary, is_places};

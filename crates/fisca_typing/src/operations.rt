@@ -1,4 +1,31 @@
 //! Operations of formulas.
+ghost use Rattle.std.specs.Prelude.{◌≡◌};
+ghost use Rattle.fisca_typing.specs.Operations as spec;
+
+/// What makes a value of one.
+#[derive(Clone, Copy, Debug, PartialEq, Eq)]
+pub enum Unary {
+    /// The bool that it is not.
+    Not,
+    /// The number with the other sign.
+    Minus,
+    /// The greatest whole number that is not above it.
+    Floor,
+    /// The least whole number that is not below it.
+    Ceil,
+    /// The nearest number with so many decimal places, from -9 to 9; of two that are equally near the one that is even in
+    /// its last place. Below 0 it is the nearest multiple of 10, of 100 and so on.
+    Round(i8),
+    /// The number without its sign.
+    Absolute,
+}
+
+/// Whether formulas round to so many decimal places: from -9 to 9 (this project's own rule).
+pub fn is_places(count: i64) -> bool
+    ensures { result ≡ spec.is_places count }
+{
+    count.unsigned_abs() <= 9
+}
 
 /// What makes a number of two.
 #[derive(Clone, Copy, Debug, PartialEq, Eq)]
@@ -48,12 +75,26 @@ pub enum Function {
     Where,
     /// `select([conditions], [values], default=value)`
     Select,
-    /// `min_(first, second)`
+    /// `min_(first, second, ..)`
     Min,
-    /// `max_(first, second)`
+    /// `max_(first, second, ..)`
     Max,
+    /// `clip(number, low, high)`
+    Clip,
     /// `not_(bool)`
     Not,
+    /// `np.logical_and(first, second)`
+    And,
+    /// `np.logical_or(first, second)`
+    Or,
+    /// `floor(number)`
+    Floor,
+    /// `ceil(number)`
+    Ceil,
+    /// `round_(number)` or `round_(number, places)`
+    Round,
+    /// `abs_(number)`
+    Absolute,
 }
 
 /// What an entity tells beside the values of variables.

@@ -6,4 +6,5 @@ pub mod Continued
 pub mod Fault
 pub mod Came
 pub mod Odometer
+pub mod Steps
 pub mod Turning

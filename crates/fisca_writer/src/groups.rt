@@ -1,4 +1,4 @@
-//! Groups of places, of which the first turns fastest.
+//! GroupLengths of places, of which the first turns fastest.
 
 ghost use Rattle.std.specs.Prelude.{◌≡◌, ◌*◌, ◌<◌, ◌≤◌, ◌^◌, ◌++◌, ◌∷◌, [], length};
 ghost use Rattle.fisca_writer.specs.Odometer.{product_of};
@@ -9,14 +9,14 @@ use std::marker::Model;
 /// The lengths of the groups of a grid, of which the first turns fastest: at most 16, each from 1 on, with a product
 /// below 2^64. Contracts see the list of the lengths. This project's own rule.
 #[derive(Debug, Drop)]
-pub struct Groups {
+pub struct GroupLengths {
     /// The last place of each group.
     lasts: [u64; 16],
     count: usize,
     size: u64,
 }
 
-impl Model for Groups {
+impl Model for GroupLengths {
     ghost use Rattle.std.specs.Prelude.{◌≡◌, ℕ, ◌+◌, ◌≤◌, List, length, map, take};
     ghost use Rattle.fisca_writer.specs.Odometer.{product_of};
 
@@ -27,12 +27,12 @@ impl Model for Groups {
     ghost invariant = { λ g. (g.count ≤ 16) × (length g.lasts ≡ 16) × (g.size ≡ product_of (map (λ last. last + 1) (take g.count g.lasts))) };
 }
 
-impl Groups {
+impl GroupLengths {
     /// No group: a grid of one position.
     pub fn new() -> Self
         ensures { result ≡ [] }
     {
-        Groups {
+        GroupLengths {
             lasts: [0; 16],
             count: 0,
             size: 1,
@@ -55,7 +55,7 @@ impl Groups {
     pub fn copied(&self) -> Self
         ensures { result ≡ self.now }
     {
-        Groups {
+        GroupLengths {
             lasts: self.lasts,
             count: self.count,
             size: self.size,

@@ -12,7 +12,7 @@ mod sink;
 mod stream_sink;
 
 pub use fault::{RowFault, RunEnd, RunFault};
-pub use groups::Groups;
+pub use groups::GroupLengths;
 pub use law::{positions_rise, runs_continue};
 pub use memory_sink::MemorySink;
 pub use odometer::Odometer;

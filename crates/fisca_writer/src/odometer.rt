@@ -5,14 +5,14 @@ ghost use Rattle.std.specs.Iterator.{YieldsFirst, item_count};
 ghost use Rattle.fisca_writer.specs.Lines.{positions_from};
 ghost use Rattle.fisca_writer.specs.Odometer.{product_of, left_of, after_next, HaveTurned};
 
-use super::groups::Groups;
+use super::groups::GroupLengths;
 use std::marker::Model;
 
 /// The positions of a grid from a start to the last, in order. It keeps the place of each group and turns them, without a division
 /// at any position but the start.
 #[derive(Debug, Drop)]
 pub struct Odometer {
-    groups: Groups,
+    groups: GroupLengths,
     places: [u64; 16],
     start: u64,
     next: u64,
@@ -32,7 +32,7 @@ impl Model for Odometer {
 
 impl Odometer {
     /// The positions from `from` on; none from the number of positions on.
-    pub fn new(groups: Groups, from: u64) -> Self
+    pub fn new(groups: GroupLengths, from: u64) -> Self
         ensures { result ≡ record { counts = groups; start = from; next = from } }
     {
         let places = groups.places(from);

@@ -3,7 +3,7 @@
 ghost use Rattle.std.specs.Prelude.{◌≡◌, ℕ, ◌<◌, [], string_bytes};
 
 use super::fault::RowFault;
-use super::groups::Groups;
+use super::groups::GroupLengths;
 
 /// Whether a position has a line.
 #[derive(Clone, Copy, Debug, PartialEq, Eq)]
@@ -45,7 +45,7 @@ pub trait Rows {
     ghost refused: { Self → ℕ → Self → Type 0 };
 
     /// The groups of the grid.
-    fn groups(&self) -> Groups
+    fn groups(&self) -> GroupLengths
         ensures { result ≡ counts self.now };
 
     /// Works out the row at a position, where only the first `turned` groups may have other places than

@@ -2,7 +2,8 @@
 
 ghost use Rattle.std.specs.Prelude.{◌≡◌, ℕ, OnOk, OnErr, is_err};
 ghost use Rattle.std.specs.Io.KnownBytes.{Appends};
-ghost use Rattle.fisca_writer.specs.Sink.{CountsFailure, one_more};
+ghost use Rattle.fisca_writer.specs.Sink.{CountsFailure};
+ghost use Rattle.fisca_writer.specs.Steps.Sink.{one_more};
 ghost use Rattle.fisca_writer.specs.Run.{AppendsPart};
 
 use std::marker::Model;

@@ -2,7 +2,7 @@
 
 ghost use Rattle.std.specs.Prelude.{◌≡◌, ◌≤◌, length, take, IfSome, MatchOption, is_ok, cond};
 ghost use Rattle.std.specs.Io.KnownBytes.{Appends, Keeps};
-ghost use Rattle.fisca_writer.specs.Sink.{one_more};
+ghost use Rattle.fisca_writer.specs.Steps.Sink.{one_more};
 
 use super::sink::{FailureCount, RowSink, SinkFault};
 use std::io::{ErrorKind, Write};

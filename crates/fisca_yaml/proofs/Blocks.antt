@@ -3,9 +3,11 @@ use Rattle.std.proofs.Common.{◌≡◌, ℕ, zero, suc, ◌-◌, ◌<◌, Bool,
 use Rattle.std.proofs.lemmas.Bool.Decides.{nat_tests}
 use Rattle.std.proofs.lemmas.Bool.{or_parts}
 use Rattle.fisca_yaml.specs.Node.{Node, null, list}
-use Rattle.fisca_yaml.specs.Rows.{Row, rank, begins_item, is_marker}
+use Rattle.fisca_yaml.specs.Rows.{Row}
+use Rattle.fisca_yaml.specs.Steps.Rows.{rank, begins_item, is_marker}
 use Rattle.fisca_yaml.specs.Scalars.{Read, entry_of}
-use Rattle.fisca_yaml.specs.Grouping.{Group, front, groups, items_of, entries_of, item_value, entry_value, entry_with, block, block_step, opens, value_of, map_of, alone, on_line}
+use Rattle.fisca_yaml.specs.Grouping.{Group, front, groups, items_of, entries_of, item_value, entry_value, entry_with, block, block_step, value_of, map_of, alone, on_line}
+use Rattle.fisca_yaml.specs.Steps.Grouping.{opens}
 
 pub block-nil : (d : ℕ) → block d [] ≡ Some null
 unfolding block

@@ -5,10 +5,13 @@ use Rattle.std.specs.List.{list_all}
 use Rattle.std.specs.Prelude.{◌^◌}
 use Rattle.std.proofs.lemmas.Bool.Decides.{nat_tests}
 use Rattle.fisca_yaml.specs.Node.{Node, keys, repeats, null, scalar, list, map, Items, no_items, item, Entries, no_entries, nested, items_nested, entries_nested}
-use Rattle.fisca_yaml.specs.Rows.{Row, rank, begins_item, following, after_dash, is_marker, text_rows, tail}
-use Rattle.fisca_yaml.specs.Scalars.{Read, entry_of, is_key, is_quote, quoted, quoted_value, plain_value, ends_line, leaf, may_begin, key_split, trim_end, before_comment}
+use Rattle.fisca_yaml.specs.Rows.{Row}
+use Rattle.fisca_yaml.specs.Steps.Rows.{rank, begins_item, following, after_dash, is_marker, text_rows, tail}
+use Rattle.fisca_yaml.specs.Scalars.{Read, entry_of, quoted, quoted_value, plain_value, key_split, before_comment}
+use Rattle.fisca_yaml.specs.Steps.Scalars.{is_key, is_quote, ends_line, leaf, may_begin, trim_end}
 use Rattle.fisca_yaml.specs.Flow.{add_pair, flow_value}
-use Rattle.fisca_yaml.specs.Grouping.{Group, groups, joined, all_of, items_of, entries_of, item_value, item_rest, entry_value, entry_rest, entry_with, keyed, alone, ended, is_bracket, on_line, is_header, is_text_line, text_block, begins_text, beside, opens, opens_item, block, block_step, value_of, map_of, tree, document}
+use Rattle.fisca_yaml.specs.Grouping.{Group, groups, joined, all_of, items_of, entries_of, item_value, item_rest, entry_value, entry_rest, entry_with, keyed, alone, ended, on_line, is_text_line, text_block, beside, block, block_step, value_of, map_of, tree, document}
+use Rattle.fisca_yaml.specs.Steps.Grouping.{is_bracket, is_header, begins_text, opens, opens_item}
 use Rattle.fisca_yaml.proofs.Blocks.{block-nil}
 use Rattle.fisca_yaml.proofs.FlowDepth.{deep_pair, flow_grow, flow_bounded, leaf_nests}
 

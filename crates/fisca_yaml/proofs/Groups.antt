@@ -1,7 +1,8 @@
 -- Fronts of fronts, and the groups of what is left.
 use Rattle.std.proofs.Common.{◌≡◌, ℕ, ◌+◌, ◌<◌, ◌≤◌, List, [], ◌∷◌, length, Option, Some, None, option_map, IfNone, IfSome, refl, sym, ap, ◌∙◌, arith}
 use Rattle.std.proofs.lemmas.Bool.Decides.{nat_tests}
-use Rattle.fisca_yaml.specs.Rows.{Row, rank}
+use Rattle.fisca_yaml.specs.Rows.{Row}
+use Rattle.fisca_yaml.specs.Steps.Rows.{rank}
 use Rattle.fisca_yaml.specs.Grouping.{Group, front, after, groups, joined, all_of}
 
 -- the first lines deeper than r, among those deeper than f

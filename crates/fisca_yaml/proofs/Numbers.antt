@@ -3,7 +3,8 @@ use Rattle.std.proofs.Common.{◌≡◌, ℕ, zero, suc, max, ◌+◌, ◌<◌, 
 use Rattle.std.proofs.lemmas.Bool.Decides.{nat_tests}
 use Rattle.std.specs.Str.Lines.{lines}
 use Rattle.fisca_yaml.specs.Node.{Node, Entries, no_entries, entry, AreNumbered, last_line}
-use Rattle.fisca_yaml.specs.Rows.{Row, rank, is_blank, is_empty_line, is_start, indented, row_of, with_row, rows, last_number, past_marker, text_rows}
+use Rattle.fisca_yaml.specs.Rows.{Row, with_row, last_number}
+use Rattle.fisca_yaml.specs.Steps.Rows.{rank, is_blank, is_empty_line, is_start, indented, row_of, rows, past_marker, text_rows}
 use Rattle.fisca_yaml.specs.Grouping.{front, after}
 use Rattle.fisca_yaml.specs.Views.{Seen_entry, Seen_item, seen_entry, tree_step, entry_step, item_step, entries_view, entries_before, AddsEntry}
 use Rattle.fisca_yaml.specs.declared.tree.Entry.{Entry, fold_out-Entry}

@@ -3,7 +3,7 @@ use Rattle.std.proofs.Common.{◌≡◌, ◌≢◌, ℕ, ◌+◌, ◌<◌, true,
 use Rattle.std.proofs.lemmas.List.{at_drop_more, take_more}
 use Rattle.std.proofs.lemmas.Bool.Decides.{nat_tests}
 use Rattle.fisca_yaml.specs.Scalars.{prepend, single, is_doubled, double, none, begun}
-use Rattle.fisca_yaml.specs.Rows.{begins}
+use Rattle.fisca_yaml.specs.Steps.Rows.{begins}
 use Rattle.fisca_yaml.proofs.Steps.{prepend_twice}
 
 other : (b : ℕ) (bs : List ℕ) → b ≢ 39 → single false (b ∷ bs) ≡ prepend (b ∷ []) (single false bs)

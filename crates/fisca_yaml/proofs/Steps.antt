@@ -3,10 +3,12 @@ use Rattle.std.proofs.Common.{◌≡◌, ℕ, zero, suc, ◌+◌, ◌<◌, ◌�
 use Rattle.std.specs.Prelude.{◌==◌, ◌&&◌, is_some}
 use Rattle.std.proofs.lemmas.List.{at_drop_more, take_more}
 use Rattle.std.proofs.lemmas.Bool.Decides.{nat_tests}
-use Rattle.fisca_yaml.specs.Rows.{is_blank, ends_mark, indented, following}
-use Rattle.fisca_yaml.specs.Scalars.{Read, prepend, past_blanks, before_comment, in_front, trim_end, key_split, may_begin, is_nil}
-use Rattle.fisca_yaml.specs.Flow.{stops, word, past_word, plain_flow}
-use Rattle.fisca_yaml.specs.Grouping.{is_sign, is_header}
+use Rattle.fisca_yaml.specs.Steps.Rows.{is_blank, ends_mark, indented, following}
+use Rattle.fisca_yaml.specs.Scalars.{Read, prepend, before_comment, key_split}
+use Rattle.fisca_yaml.specs.Steps.Scalars.{past_blanks, in_front, trim_end, may_begin, is_nil}
+use Rattle.fisca_yaml.specs.Flow.{word, past_word, plain_flow}
+use Rattle.fisca_yaml.specs.Steps.Flow.{stops}
+use Rattle.fisca_yaml.specs.Steps.Grouping.{is_sign, is_header}
 
 pub blank_ascii : (b : ℕ) → is_blank b ≡ true → b < 128
 blank_ascii b e = grind (arith, nat_tests)

@@ -3,7 +3,7 @@ use Rattle.std.proofs.Common.{◌≡◌, [], ◌∷◌, ◌++◌, true, false, S
 use Rattle.std.specs.Prelude.{codes}
 use lib.Utf8.{encode}
 use Rattle.fisca_yaml.specs.Node.{null, scalar, map, no_entries, entry}
-use Rattle.fisca_yaml.specs.Find.{as_bool, as_number, as_text}
+use Rattle.fisca_yaml.specs.Steps.Find.{as_bool, as_number, as_text}
 use Rattle.fisca_yaml.specs.Flow.{flow_value, series}
 use Rattle.fisca_yaml.specs.Grouping.{tree, block}
 use Rattle.fisca_yaml.proofs.Worked.{text, s, holds, refused}

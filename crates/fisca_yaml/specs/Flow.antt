@@ -1,9 +1,11 @@
 -- Collections in brackets, on one line.
 use Rattle.std.specs.Prelude.{ℕ, zero, suc, List, [], ◌∷◌, length, Bool, true, false, not, ◌==◌, ◌||◌, ◌&&◌, if◌then◌else◌, Option, Some, None, option_map, option_and_then}
-use Rattle.fisca_yaml.specs.Characters.{hash, comma, colon, open_bracket, close_bracket, open_brace, close_brace}
+use Rattle.fisca_yaml.specs.Characters.{comma, colon, open_bracket, close_bracket, open_brace, close_brace}
 use Rattle.fisca_yaml.specs.Node.{Node, null, scalar, list, map, keys, repeats, Items, no_items, item, Entries, no_entries, entry}
-use Rattle.fisca_yaml.specs.Rows.{is_blank, begins, tail}
-use Rattle.fisca_yaml.specs.Scalars.{Read, quoted, is_quote, past_blanks, trim_end, may_begin, leaf, is_key, is_nil}
+use Rattle.fisca_yaml.specs.Steps.Rows.{is_blank, begins, tail}
+use Rattle.fisca_yaml.specs.Scalars.{Read, quoted}
+use Rattle.fisca_yaml.specs.Steps.Scalars.{is_quote, past_blanks, trim_end, may_begin, leaf, is_key, is_nil}
+use Rattle.fisca_yaml.specs.Steps.Flow.{ends_key, stops}
 
 -- what is read, and the text after it
 abbrev pub Parse : Type 0 → Type 0
@@ -11,17 +13,6 @@ Parse A = List ℕ → Option (A × List ℕ)
 
 abbrev pub parse_map : {A B : Type 0} → (A → B) → Option (A × List ℕ) → Option (B × List ℕ)
 parse_map f r = option_map (λ p. (f p.0, p.1)) r
-
-abbrev pub ends_value : ℕ → Bool
-ends_value b = (b == comma) || ((b == close_bracket) || (b == close_brace))
-
-abbrev pub ends_key : List ℕ → Bool
-ends_key [] = true
-ends_key (b ∷ bs) = is_blank b || ends_value b
-
--- whether a plain scalar stops before b, with bs after it; the flag says that a blank came just before
-abbrev pub stops : Bool → ℕ → List ℕ → Bool
-stops after b bs = ends_value b || (((b == colon) && ends_key bs) || ((b == hash) && after))
 
 abbrev pub word : Bool → List ℕ → List ℕ
 word after [] = []

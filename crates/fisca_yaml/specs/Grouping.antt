@@ -1,11 +1,14 @@
 -- The lines, grouped by their depth, and what they stand for.
-use Rattle.std.specs.Prelude.{◌≡◌, ◌≤◌, ◌^◌, ℕ, zero, suc, List, [], ◌∷◌, length, Bool, true, not, ◌==◌, ◌||◌, ◌&&◌, nat_le, nat_lt, if◌then◌else◌, Option, Some, None, option_map, is_some}
-use Rattle.fisca_yaml.specs.Characters.{tab, plus_sign, dash, greater, open_bracket, open_brace, bar}
+use Rattle.std.specs.Prelude.{◌≡◌, ◌≤◌, ◌^◌, ℕ, zero, suc, List, [], ◌∷◌, length, Bool, true, not, ◌==◌, ◌&&◌, nat_lt, if◌then◌else◌, Option, Some, None, option_map}
+use Rattle.fisca_yaml.specs.Characters.{tab}
 use Rattle.std.specs.List.{list_all}
 use Rattle.fisca_yaml.specs.Node.{Node, nested, keys, repeats, null, scalar, list, map, Items, no_items, item, Entries, no_entries}
-use Rattle.fisca_yaml.specs.Rows.{Row, begins, tail, begins_item, rank, following, after_dash, is_marker, text_rows}
-use Rattle.fisca_yaml.specs.Scalars.{Read, entry_of, is_key, is_quote, quoted, quoted_value, plain_value, ends_line}
+use Rattle.fisca_yaml.specs.Rows.{Row}
+use Rattle.fisca_yaml.specs.Steps.Rows.{begins, tail, begins_item, rank, following, after_dash, is_marker, text_rows}
+use Rattle.fisca_yaml.specs.Scalars.{Read, entry_of, quoted, quoted_value, plain_value}
+use Rattle.fisca_yaml.specs.Steps.Scalars.{is_key, is_quote, ends_line}
 use Rattle.fisca_yaml.specs.Flow.{add_pair, flow_value}
+use Rattle.fisca_yaml.specs.Steps.Grouping.{is_bracket, is_header, opens, begins_text, opens_item}
 
 -- a line, and the deeper lines below it
 pub record Group : Type 0 where
@@ -54,9 +57,6 @@ abbrev pub alone : List Row → Option Node → Option Node
 alone [] o = o
 alone (l ∷ ls) o = None
 
-abbrev pub is_bracket : List ℕ → Bool
-is_bracket bs = begins open_bracket bs || begins open_brace bs
-
 abbrev pub ended : Option (Node × List ℕ) → Option Node
 ended None = None
 ended (Some p) = if ends_line p.1 then Some p.0 else None
@@ -67,15 +67,6 @@ on_line d r =
     if is_bracket r.content then ended (flow_value d r.number r.content)
     else (if is_quote r.content then quoted_value r.number (quoted r.content) else plain_value r.number r.content)
 
--- a sign or a digit
-abbrev pub is_sign : ℕ → Bool
-is_sign b = (b == plus_sign) || ((b == dash) || (nat_le 48 b && nat_le b 57))
-
--- what may follow `|` or `>`: signs, blanks and a comment
-abbrev pub is_header : List ℕ → Bool
-is_header [] = true
-is_header (b ∷ bs) = if is_sign b then is_header bs else ends_line (b ∷ bs)
-
 -- a line of a block text is deeper than the entry or item, and no tab stands among its leading blanks
 abbrev pub is_text_line : ℕ → Row → Bool
 is_text_line indent l = nat_lt indent l.indent && not (begins tab l.content)
@@ -84,20 +75,9 @@ is_text_line indent l = nat_lt indent l.indent && not (begins tab l.content)
 abbrev pub text_block : ℕ → Row → List Row → Option Node
 text_block indent r inside = if is_header (tail r.content) && list_all (is_text_line indent) inside then Some (scalar [] true r.number) else None
 
--- a list or a map begins here
-abbrev pub opens : Row → Bool
-opens r = begins_item r.content || is_some (entry_of r.content)
-
-abbrev pub begins_text : Row → Bool
-begins_text r = begins bar r.content || begins greater r.content
-
 -- a value beside a key or a dash that stands at this indentation
 abbrev pub beside : ℕ → ℕ → Row → List Row → Option Node
 beside d indent r inside = if begins_text r then text_block indent r inside else alone inside (on_line d r)
-
--- a list or a map begins behind a dash, where `|` and `>` begin a block text
-abbrev pub opens_item : Row → Bool
-opens_item r = not (begins_text r) && opens r
 
 -- the value of an item, from what follows its dash; block reads a block of lines
 abbrev pub item_rest : ℕ → (List Row → Option Node) → ℕ → Option Row → List Row → Option Node

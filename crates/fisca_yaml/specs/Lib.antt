@@ -8,4 +8,5 @@ pub mod Lines
 pub mod Node
 pub mod Rows
 pub mod Scalars
+pub mod Steps
 pub mod Views

@@ -2,9 +2,11 @@
 
 ghost use Rattle.std.specs.Prelude.{◌≡◌, ◌≢◌, ◌<◌, ◌≤◌, ◌-◌, ◌∷◌, Some, None, length, IsTrue, IfOk, OnOk, MatchOption, MatchResult, false, true, slice_index, drop, ◌+◌, take, [], option_map, IfErr};
 ghost use Rattle.std.specs.Bool.{OnTrue, OnFalse};
-ghost use Rattle.fisca_yaml.specs.Rows.{begins, tail};
-ghost use Rattle.fisca_yaml.specs.Scalars.{is_quote, quoted, past_blanks, is_key};
-ghost use Rattle.fisca_yaml.specs.Flow.{ends_key, plain_flow, after_value, flow_key, flow_entry, flow_items, flow_entries, flow_scalar, flow_value, value_or_null, keyed_by};
+ghost use Rattle.fisca_yaml.specs.Steps.Rows.{begins, tail};
+ghost use Rattle.fisca_yaml.specs.Scalars.{quoted};
+ghost use Rattle.fisca_yaml.specs.Steps.Scalars.{is_quote, past_blanks, is_key};
+ghost use Rattle.fisca_yaml.specs.Flow.{plain_flow, after_value, flow_key, flow_entry, flow_items, flow_entries, flow_scalar, flow_value, value_or_null, keyed_by};
+ghost use Rattle.fisca_yaml.specs.Steps.Flow.{ends_key};
 ghost use Rattle.fisca_yaml.specs.Grouping.{map_of};
 ghost use Rattle.fisca_yaml.specs.Views.{node, items_view, entries_view, keyed_view};
 ghost use Rattle.fisca_yaml.specs.Answers.{GivesAnd, Gives, IsTold};

@@ -1,9 +1,9 @@
 //! A line with content, and how it begins.
 
 ghost use Rattle.std.specs.Prelude.{◌≡◌, ◌+◌, ◌*◌, ◌<◌, ◌≤◌, ◌^◌, length, Option, Some, None, option_map, IsTrue, IfOk, IfSome, is_some, false};
-ghost use Rattle.fisca_yaml.specs.Rows.{begins_item, rank, indented, following, row_of, after_dash, is_start, is_marker, begins};
+ghost use Rattle.fisca_yaml.specs.Steps.Rows.{begins_item, rank, indented, following, row_of, after_dash, is_start, is_marker, begins};
 ghost use Rattle.fisca_yaml.specs.Scalars.{entry_of, key_split, trimmed, after_quoted, quoted};
-ghost use Rattle.fisca_yaml.specs.Grouping.{opens, opens_item, begins_text};
+ghost use Rattle.fisca_yaml.specs.Steps.Grouping.{opens, opens_item, begins_text};
 
 use crate::marks::{
     around, begins, begins_item, ends_mark, is_bare, is_blank, is_empty_line, is_quote, may_begin,

@@ -2,7 +2,7 @@
 
 ghost use Rattle.std.specs.Prelude.{◌≡◌, ◌+◌, ◌<◌, ◌≤◌, ◌^◌, [], ◌∷◌, length, IfNone, IfSome, MatchOption, drop};
 ghost use Rattle.std.specs.Str.Lines.{lines};
-ghost use Rattle.fisca_yaml.specs.Rows.{rank, rows, past_marker};
+ghost use Rattle.fisca_yaml.specs.Steps.Rows.{rank, rows, past_marker};
 ghost use Rattle.fisca_yaml.specs.Grouping.{front, after};
 ghost use Rattle.fisca_yaml.specs.Lines.{row};
 
@@ -42,7 +42,8 @@ pub struct Lines<'a> {
 impl<'a> Model for Lines<'a> {
     ghost use Rattle.std.specs.Prelude.{List, ◌+◌, ◌<◌, ◌^◌, length, option_map};
     ghost use Rattle.std.specs.Str.Lines.{lines};
-    ghost use Rattle.fisca_yaml.specs.Rows.{Row, rows, with_row};
+    ghost use Rattle.fisca_yaml.specs.Rows.{Row, with_row};
+    ghost use Rattle.fisca_yaml.specs.Steps.Rows.{rows};
     ghost use Rattle.fisca_yaml.specs.Lines.{row, Nothing};
 
     ghost Value = { List Row };

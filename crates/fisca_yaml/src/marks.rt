@@ -1,9 +1,9 @@
 //! The characters that lines and values begin and end with.
 
 ghost use Rattle.std.specs.Prelude.{◌≡◌, ◌+◌, ◌<◌, ◌≤◌, length, slice_index, take, drop, false};
-ghost use Rattle.fisca_yaml.specs.Rows.{is_blank, begins, tail, begins_item, ends_mark, is_empty_line, is_bare};
-ghost use Rattle.fisca_yaml.specs.Scalars.{is_quote, is_reserved, may_begin, past_blanks, trim_end, ends_line};
-ghost use Rattle.fisca_yaml.specs.Grouping.{is_bracket};
+ghost use Rattle.fisca_yaml.specs.Steps.Rows.{is_blank, begins, tail, begins_item, ends_mark, is_empty_line, is_bare};
+ghost use Rattle.fisca_yaml.specs.Steps.Scalars.{is_quote, is_reserved, may_begin, past_blanks, trim_end, ends_line};
+ghost use Rattle.fisca_yaml.specs.Steps.Grouping.{is_bracket};
 
 /// A space or a tab.
 pub(crate) fn is_blank(b: u8) -> bool

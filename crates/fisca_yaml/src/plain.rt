@@ -1,9 +1,11 @@
 //! Plain scalars, and which texts are keys.
 
 ghost use Rattle.std.specs.Prelude.{◌≡◌, ◌≢◌, ◌+◌, ◌<◌, ◌≤◌, ◌&&◌, length, Some, None, MatchOption, slice_index, take, drop, option_map, is_some, true, false, ◌==◌};
-ghost use Rattle.fisca_yaml.specs.Rows.{ends_mark};
-ghost use Rattle.fisca_yaml.specs.Scalars.{key_split, before_comment, trim_end, is_null_word, is_key};
-ghost use Rattle.fisca_yaml.specs.Flow.{stops, ends_key, ends_value, word, past_word};
+ghost use Rattle.fisca_yaml.specs.Steps.Rows.{ends_mark};
+ghost use Rattle.fisca_yaml.specs.Scalars.{key_split, before_comment};
+ghost use Rattle.fisca_yaml.specs.Steps.Scalars.{trim_end, is_null_word, is_key};
+ghost use Rattle.fisca_yaml.specs.Flow.{word, past_word};
+ghost use Rattle.fisca_yaml.specs.Steps.Flow.{stops, ends_key, ends_value};
 
 use crate::marks::{ends_mark, is_blank};
 

@@ -2,9 +2,10 @@
 
 ghost use Rattle.std.specs.Prelude.{◌≡◌, ◌≢◌, ◌<◌, ◌≤◌, ◌+◌, ◌⊎◌, ℕ, [], Some, None, length, take, drop, slice_index, MatchOption, IfOk, IfSome, IfNone, OnOk, OnErr, option_map, string_bytes, false, true, encode_utf8};
 ghost use Rattle.std.specs.Char.{is_digit, digit_value};
-ghost use Rattle.fisca_yaml.specs.Scalars.{single, is_doubled, double, none, begun, digits, quoted, prepend, short_escape};
+ghost use Rattle.fisca_yaml.specs.Scalars.{single, is_doubled, double, none, begun, digits, quoted, prepend};
+ghost use Rattle.fisca_yaml.specs.Steps.Scalars.{short_escape};
 ghost use Rattle.fisca_yaml.specs.Characters.{single_quote};
-ghost use Rattle.fisca_yaml.specs.Rows.{begins};
+ghost use Rattle.fisca_yaml.specs.Steps.Rows.{begins};
 
 use crate::marks::{around, begins};
 use crate::tree::Text;

@@ -1,7 +1,8 @@
 //! Reading a text: its lines, grouped by how deep they stand.
 
 ghost use Rattle.std.specs.Prelude.{◌≡◌, ◌≢◌, ℕ, ◌^◌, length, ◌∷◌, ◌<◌, ◌-◌, Some, None, Ok, Err, IfOk, OnOk, IfErr, IsTrue, List, MatchResult, is_some, ◌≤◌, OnErr, IsErrAnd, ◌↔◌};
-ghost use Rattle.fisca_yaml.specs.Rows.{rank, begins_item, following, last_number};
+ghost use Rattle.fisca_yaml.specs.Rows.{last_number};
+ghost use Rattle.fisca_yaml.specs.Steps.Rows.{rank, begins_item, following};
 ghost use Rattle.std.specs.Str.Lines.{lines};
 ghost use Rattle.fisca_yaml.specs.Grouping.{Group, front, after, groups, items_of, entries_of, item_value, entry_value, entry_rest, block, map_of, tree, IsTree, Within, document};
 ghost use Rattle.fisca_yaml.specs.Node.{Node, AreNumbered, last_line};

@@ -2,9 +2,10 @@
 
 ghost use Rattle.std.specs.Prelude.{◌≡◌, ℕ, string_bytes, option_map, unwrap_or, Some, OnOk, IfErr, true, OnErr};
 ghost use Rattle.fisca_yaml.specs.Node.{scalar};
-ghost use Rattle.fisca_yaml.specs.Scalars.{leaf};
+ghost use Rattle.fisca_yaml.specs.Steps.Scalars.{leaf};
 ghost use Rattle.fisca_yaml.specs.Views.{node, entries_view, AddsItem, AddsEntry};
-ghost use Rattle.fisca_yaml.specs.Find.{get, get_entry, begins_on, entry_line, line_at, as_text, as_plain, as_bool, as_number, bool_of};
+ghost use Rattle.fisca_yaml.specs.Find.{get_entry, begins_on, entry_line, line_at};
+ghost use Rattle.fisca_yaml.specs.Steps.Find.{get, as_text, as_plain, as_bool, as_number, bool_of};
 
 use crate::fault::{YamlFault, YamlKind};
 use crate::plain::is_null_word;

@@ -2,10 +2,13 @@
 
 ghost use Rattle.std.specs.Prelude.{◌≡◌, ◌≢◌, ℕ, ◌∷◌, Some, None, Ok, Err, OnOk, IfOk, true, false, ◌||◌, IfErr};
 ghost use Rattle.std.specs.List.{list_all};
-ghost use Rattle.fisca_yaml.specs.Rows.{begins, tail, last_number};
-ghost use Rattle.fisca_yaml.specs.Scalars.{is_quote, quoted, quoted_value, plain_value};
+ghost use Rattle.fisca_yaml.specs.Rows.{last_number};
+ghost use Rattle.fisca_yaml.specs.Steps.Rows.{begins, tail};
+ghost use Rattle.fisca_yaml.specs.Scalars.{quoted, quoted_value, plain_value};
+ghost use Rattle.fisca_yaml.specs.Steps.Scalars.{is_quote};
 ghost use Rattle.fisca_yaml.specs.Flow.{flow_value};
-ghost use Rattle.fisca_yaml.specs.Grouping.{front, after, alone, ended, on_line, is_sign, is_header, is_text_line, text_block, begins_text, beside};
+ghost use Rattle.fisca_yaml.specs.Grouping.{front, after, alone, ended, on_line, is_text_line, text_block, beside};
+ghost use Rattle.fisca_yaml.specs.Steps.Grouping.{is_sign, is_header, begins_text};
 ghost use Rattle.fisca_yaml.specs.Lines.{row};
 ghost use Rattle.fisca_yaml.specs.Views.{node};
 ghost use Rattle.fisca_yaml.specs.Answers.{Gives, IsTold};

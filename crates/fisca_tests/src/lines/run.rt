@@ -5,8 +5,8 @@ ghost use Rattle.std.specs.Fmt.{decimal};
 ghost use Rattle.fisca_writer.specs.Row.{Nothing, Line, Fault};
 
 use fisca_writer::{
-    Groups, MemorySink, Odometer, RowFault, RowSink, Rows, RunEnd, RunFault, Selection, SinkFault,
-    StreamSink, write_lines,
+    GroupLengths, MemorySink, Odometer, RowFault, RowSink, Rows, RunEnd, RunFault, Selection,
+    SinkFault, StreamSink, write_lines,
 };
 use std::alloc::Global;
 
@@ -36,8 +36,8 @@ impl Rows for Salaries {
 
     ghost refused = { λ _ _ _. ⊤ };
 
-    fn groups(&self) -> Groups {
-        let mut groups = Groups::new();
+    fn groups(&self) -> GroupLengths {
+        let mut groups = GroupLengths::new();
         groups.push(u64::from(self.count));
         groups
     }
@@ -66,7 +66,7 @@ impl Rows for Salaries {
 /// Rows without lines, which note the positions that they are asked for, and how many groups have turned.
 #[derive(Drop)]
 struct Noted {
-    groups: Groups,
+    groups: GroupLengths,
     asked: Vec<(u64, u32)>,
     here: Option<u64>,
 }
@@ -86,7 +86,7 @@ impl Rows for Noted {
 
     ghost refused = { λ s _ t. t.asked.items ≡ s.asked.items };
 
-    fn groups(&self) -> Groups {
+    fn groups(&self) -> GroupLengths {
         self.groups.copied()
     }
 
@@ -105,10 +105,10 @@ impl Rows for Noted {
 }
 
 /// Three groups of 3, 1 and 2 places.
-fn make_wheels() -> Groups
+fn make_wheels() -> GroupLengths
     ensures { result ≡ 3 ∷ 1 ∷ 2 ∷ [] }
 {
-    let mut groups = Groups::new();
+    let mut groups = GroupLengths::new();
     groups.push(3);
     groups.push(1);
     groups.push(2);
@@ -155,7 +155,7 @@ fn an_odometer_behind_the_last_position_gives_none(rt: HostRuntime) {
 
 #[test]
 fn no_group_has_one_position(rt: HostRuntime) {
-    let mut odometer = Odometer::new(Groups::new(), 0);
+    let mut odometer = Odometer::new(GroupLengths::new(), 0);
     assert_eq!(rt; odometer.next(), Some(0));
     assert_eq!(rt; odometer.turned(), 0);
     assert_eq!(rt; odometer.next(), None);

@@ -1,5 +1,5 @@
 use Rattle.std.proofs.Common.{◌≡◌, ◌∙◌, sym, ap, ◌++◌, ◌+◌, ◌-◌, suc, length, append_assoc, append-nil, arith}
-use Rattle.fisca_ast.specs.Contents.{said_within}
+use Rattle.fisca_ast.specs.Steps.Contents.{said_within}
 use Rattle.fisca_ast.proofs.ContentPieces.{said_more, said_nothing, said_end}
 use Rattle.fisca_ast.proofs.contents.content.Goals as goal
 

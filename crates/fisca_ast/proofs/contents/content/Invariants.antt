@@ -1,5 +1,5 @@
 use Rattle.std.proofs.Common.{◌≡◌, ◌-◌, ◌++◌, length}
-use Rattle.fisca_ast.specs.Contents.{said_within}
+use Rattle.fisca_ast.specs.Steps.Contents.{said_within}
 use Rattle.fisca_ast.proofs.contents.content.Given as goal
 
 abbrev pub invariant-loop-turn : goal.invariant-loop-turn

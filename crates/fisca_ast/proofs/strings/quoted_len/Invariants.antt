@@ -1,6 +1,6 @@
 use Rattle.std.proofs.Common.{◌≡◌, ◌+◌, ◌-◌, ◌≤◌, length, drop, false}
 use Rattle.std.specs.Prelude.{option_map}
-use Rattle.fisca_ast.specs.Strings.{quoted}
+use Rattle.fisca_ast.specs.Steps.Strings.{quoted}
 use Rattle.fisca_ast.proofs.strings.quoted_len.Given as goal
 
 abbrev pub invariant-loop-n : goal.invariant-loop-n

@@ -1,6 +1,6 @@
 use Rattle.std.proofs.Common.{◌≡◌, ◌+◌, ◌-◌, ◌≤◌, ◌<◌, length, drop, false}
 use Rattle.std.specs.Prelude.{option_map}
-use Rattle.fisca_ast.specs.Strings.{tripled}
+use Rattle.fisca_ast.specs.Steps.Strings.{tripled}
 use Rattle.fisca_ast.proofs.strings.tripled_len.Given as goal
 
 abbrev pub invariant-loop-n : goal.invariant-loop-n

@@ -1,6 +1,6 @@
 use Rattle.std.proofs.Common.{◌≡◌, map, drop}
 use Rattle.fisca_ast.specs.Views.{argument_view}
-use Rattle.fisca_attributes.specs.EntityForms.{role_value}
+use Rattle.fisca_attributes.specs.Steps.EntityForms.{role_value}
 use Rattle.fisca_attributes.specs.Values.{each, each_behind}
 use Rattle.fisca_attributes.proofs.entity_forms.each_role.Given as goal
 

@@ -1,7 +1,7 @@
 use Rattle.std.proofs.Common.{◌≡◌, [], map, drop}
 use Rattle.fisca_ast.specs.Views.{argument_view}
 use Rattle.fisca_attributes.specs.Fields.{labels, field_view}
-use Rattle.fisca_attributes.specs.Values.{fields_from}
+use Rattle.fisca_attributes.specs.Steps.Values.{fields_from}
 use Rattle.fisca_attributes.proofs.fields.read_fields.Given as goal
 
 abbrev pub invariant-loop-argument : goal.invariant-loop-argument

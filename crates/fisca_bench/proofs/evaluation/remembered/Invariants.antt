@@ -1,5 +1,5 @@
 use Rattle.std.proofs.Common.{◌≡◌}
-use Rattle.fisca_situations.specs.Views.{situation}
+use Rattle.fisca_situations.specs.Steps.Views.{situation}
 use Rattle.fisca_bench.proofs.evaluation.remembered.Given as goal
 
 abbrev pub invariant-loop-round : goal.invariant-loop-round

@@ -1,7 +1,7 @@
 use Rattle.std.proofs.Common.{◌≡◌, drop}
-use Rattle.fisca_situations.specs.Views.{situation}
+use Rattle.fisca_situations.specs.Steps.Views.{situation}
 use Rattle.fisca_yaml.specs.Views.{items_view}
-use Rattle.fisca_columns.specs.Calc.{with_columns}
+use Rattle.fisca_columns.specs.Steps.Calc.{with_columns}
 use Rattle.fisca_columns.proofs.columns.with_columns.Given as goal
 
 abbrev pub invariant-loop-item : goal.invariant-loop-item

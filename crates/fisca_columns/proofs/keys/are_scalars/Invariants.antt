@@ -1,6 +1,6 @@
 use Rattle.std.proofs.Common.{◌≡◌, drop}
 use Rattle.fisca_yaml.specs.Views.{items_view}
-use Rattle.fisca_columns.specs.Calc.{are_scalars}
+use Rattle.fisca_columns.specs.Steps.Calc.{are_scalars}
 use Rattle.fisca_columns.proofs.keys.are_scalars.Given as goal
 
 abbrev pub invariant-loop-item : goal.invariant-loop-item

@@ -2,8 +2,8 @@ use Rattle.std.proofs.Common.{ap, ◌∙◌}
 use Rattle.fisca_evaluator.specs.Evaluators.{marks_in, simulation_of}
 use Rattle.fisca_rules.specs.Views.{rule_set}
 use Rattle.fisca_commands.proofs.Begun.{kept_begun}
-use Rattle.fisca_run_file.specs.Views.{run_file}
-use Rattle.fisca_situations.specs.Views.{situation}
+use Rattle.fisca_run_file.specs.Views.{file_with}
+use Rattle.fisca_situations.specs.Steps.Views.{situation}
 use Rattle.fisca_commands.proofs.beginning.evaluator_of.Goals as goal
 
 pub returns-clause-kept : goal.returns-clause-kept
@@ -12,5 +12,5 @@ returns-clause-kept g c =
     let s = situation c.args.situation in
     let same = c.new.ensures.simulation
     ∙ ap (λ neutral. record { rules = rule_set c.args.rules.now; situation = s; neutral = neutral }) c.as_slice-neutral.ensures.value in
-    kept_begun c.args.rules.now (run_file c.args.run.now) c.args.slots.now c.requires.accepted c.requires.slots c.args.wheels.now s (simulation_of e) (marks_in e) _ e.store.counts.free
+    kept_begun c.args.rules.now (file_with s.members c.args.request.now) c.args.slots.now c.requires.accepted c.requires.slots c.args.wheels.now s (simulation_of e) (marks_in e) _ e.store.counts.free
     c.requires.wheels c.requires.situation same c.new.ensures.wheels c.new.ensures.memory

@@ -2,7 +2,7 @@ use Rattle.std.proofs.Common.{◌≡◌, ◌∙◌, false, cond, inl, inr, Err, 
 use Rattle.std.proofs.lemmas.Result.{err_from_is_err_and}
 use Rattle.std.specs.Io.KnownBytes.{Keeps}
 use Rattle.fisca_columns.specs.Views.{calc}
-use Rattle.fisca_writer.specs.Sink.{one_more}
+use Rattle.fisca_writer.specs.Steps.Sink.{one_more}
 use Rattle.fisca_commands.specs.Calc.{Calculation}
 use Rattle.fisca_rule_files.specs.Refusal.{is_write}
 use Rattle.fisca_commands.proofs.Calculated.{ready}

@@ -1,8 +1,8 @@
 use Rattle.std.proofs.Common.{None, subst}
 use Rattle.fisca_evaluator.specs.Evaluators.{marks_in, simulation_of}
-use Rattle.fisca_commands.proofs.Came.{came_same, kept_anywhere}
+use Rattle.fisca_commands.proofs.Came.{came_same, kept_anywhere, same_file}
 use Rattle.fisca_commands.specs.Kept.{IsKept}
-use Rattle.fisca_run_file.specs.Views.{run_file}
+use Rattle.fisca_commands.specs.Begun.{file_in}
 use Rattle.fisca_commands.proofs.kept.write_kept.Goals as goal
 
 pub returns-clause-ended : goal.returns-clause-ended
@@ -13,6 +13,10 @@ pub returns-clause-same_reference : goal.returns-clause-same_reference
 returns-clause-same_reference g c =
     (came_same g.R.Recall.find c.args.rows.now c.write_lines.new.rows c.args.from c.write_lines.result c.write_lines.ensures.came).0.3
 
+pub returns-clause-same_members : goal.returns-clause-same_members
+returns-clause-same_members g c =
+    (came_same g.R.Recall.find c.args.rows.now c.write_lines.new.rows c.args.from c.write_lines.result c.write_lines.ensures.came).0.4
+
 pub returns-clause-ready : goal.returns-clause-ready
 returns-clause-ready g c =
     let find = g.R.Recall.find in
@@ -20,8 +24,9 @@ returns-clause-ready g c =
     let new = c.write_lines.new.rows in
     let e = new.evaluator.now in
     let same = (came_same find old new c.args.from c.write_lines.result c.write_lines.ensures.came).0 in
-    let kept = kept_anywhere new.rules.now (run_file new.run.now) new.slots.now new.here (marks_in e) (simulation_of e) (find e.store.recall) e.store.counts.free
+    let file = file_in (simulation_of e) new.request.now in
+    let kept = kept_anywhere new.rules.now file new.slots.now new.here (marks_in e) (simulation_of e) (find e.store.recall) e.store.counts.free
     c.write_lines.ensures.ready in
-    subst (λ r. IsKept r (run_file old.run.now) old.slots.now None (marks_in e) (simulation_of e) (find e.store.recall) e.store.counts.free) same.0
-    (subst (λ f. IsKept new.rules.now (run_file f) old.slots.now None (marks_in e) (simulation_of e) (find e.store.recall) e.store.counts.free) same.1
-    (subst (λ slots. IsKept new.rules.now (run_file new.run.now) slots None (marks_in e) (simulation_of e) (find e.store.recall) e.store.counts.free) same.2 kept))
+    subst (λ r. IsKept r (file_in (simulation_of old.evaluator.now) old.request.now) old.slots.now None (marks_in e) (simulation_of e) (find e.store.recall) e.store.counts.free) same.0
+    (subst (λ f. IsKept new.rules.now f old.slots.now None (marks_in e) (simulation_of e) (find e.store.recall) e.store.counts.free) (same_file old new same)
+    (subst (λ slots. IsKept new.rules.now file slots None (marks_in e) (simulation_of e) (find e.store.recall) e.store.counts.free) same.2 kept))

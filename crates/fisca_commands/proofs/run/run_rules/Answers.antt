@@ -1,7 +1,7 @@
 use Rattle.std.proofs.Common.{◌≡◌, ◌∙◌, false, cond, inl, inr, ℕ, List, Option, Result, Ok, Err, IfOk, ap, sym, rules}
 use Rattle.std.proofs.lemmas.Result.{err_from_is_err_and}
 use Rattle.std.specs.Io.KnownBytes.{Keeps}
-use Rattle.fisca_writer.specs.Sink.{one_more}
+use Rattle.fisca_writer.specs.Steps.Sink.{one_more}
 use Rattle.fisca_writer.specs.declared.fault.RunEnd.{RunEnd}
 use Rattle.fisca_params.specs.Source.{Source}
 use Rattle.fisca_evaluator.specs.declared.counts.Counts.{Counts}
@@ -10,11 +10,10 @@ use Rattle.fisca_rule_files.specs.declared.refusal.Refusal.{Refusal}
 use Rattle.fisca_rules.specs.Views.{rule_set}
 use Rattle.fisca_commands.specs.Ends.{end_of, stop_of}
 use Rattle.fisca_commands.specs.Remembered.{AreCounts}
-use Rattle.fisca_run_file.specs.Views.{run_file}
-use Rattle.fisca_yaml.specs.Views.{node}
+use Rattle.fisca_run_file.specs.Views.{run_start}
 use Rattle.fisca_commands.specs.Run.{IsCounted, IsRunTold, IsRunning, Running}
 use Rattle.fisca_rule_files.proofs.Built.{built}
-use Rattle.fisca_commands.proofs.Telling.{run_unwritten, yaml_unwritten}
+use Rattle.fisca_commands.proofs.Telling.{begin_unwritten}
 use Rattle.fisca_commands.proofs.run.run_rules.Goals as goal
 
 -- the counts are those of the running whose lines were written
@@ -30,43 +29,38 @@ returns-in_err-rules-clause-answer g c =
     let keeps : Keeps (g.S.RowSink.taken c.args.sink.now) (g.S.RowSink.taken c.args.sink.now) = search rules in
     inl (c.in_err-rules.field-0.0, ap end_of (told.1 ∙ ap Err told.2), inl c.in_err-rules.ensures.err, keeps)
 
-pub returns-in_err-tree-clause-answer : goal.returns-in_err-tree-clause-answer
-returns-in_err-tree-clause-answer g c =
-    let told = err_from_is_err_and c.from_residual-in_err-tree.result c.from_residual-in_err-tree.ensures.1 in
+pub returns-in_err-begun-clause-answer : goal.returns-in_err-begun-clause-answer
+returns-in_err-begun-clause-answer g c =
+    let told = err_from_is_err_and c.from_residual-in_err-begun.result c.from_residual-in_err-begun.ensures.1 in
     let keeps : Keeps (g.S.RowSink.taken c.args.sink.now) (g.S.RowSink.taken c.args.sink.now) = search rules in
-    inl (c.in_err-tree.field-0.0, ap end_of (told.1 ∙ ap Err told.2), inr (c.in_ok-rules.rules, c.in_ok-rules.ensures.ok, inl c.in_err-tree.ensures.err), keeps)
+    inl (c.in_err-begun.field-0.0, ap end_of (told.1 ∙ ap Err told.2), inr (c.in_ok-rules.rules, c.in_ok-rules.ensures.ok, c.in_err-begun.ensures.err), keeps)
 
-pub returns-in_err-tree-clause-failures : goal.returns-in_err-tree-clause-failures
-returns-in_err-tree-clause-failures g c =
-    let told = err_from_is_err_and c.from_residual-in_err-tree.result c.from_residual-in_err-tree.ensures.1 in
-    let unwritten : is_write c.from_residual-in_err-tree.result ≡ false = ap is_write (told.1 ∙ ap Err told.2) ∙ yaml_unwritten c.args.text.now c.in_err-tree.field-0.0 c.in_err-tree.ensures.err in
-    ap (λ failed. cond failed (one_more (g.S.RowSink.failures c.args.sink.now)) (g.S.RowSink.failures c.args.sink.now)) (sym unwritten)
-
-pub returns-in_err-run-clause-answer : goal.returns-in_err-run-clause-answer
-returns-in_err-run-clause-answer g c =
-    let told = err_from_is_err_and c.from_residual-in_err-run.result c.from_residual-in_err-run.ensures.1 in
-    let keeps : Keeps (g.S.RowSink.taken c.args.sink.now) (g.S.RowSink.taken c.args.sink.now) = search rules in
-    inl (c.in_err-run.field-0.0, ap end_of (told.1 ∙ ap Err told.2), inr (c.in_ok-rules.rules, c.in_ok-rules.ensures.ok, inr (node c.in_ok-tree.tree, c.in_ok-tree.ensures.ok, c.in_err-run.ensures.err)), keeps)
-
-pub returns-in_err-run-clause-failures : goal.returns-in_err-run-clause-failures
-returns-in_err-run-clause-failures g c =
-    let told = err_from_is_err_and c.from_residual-in_err-run.result c.from_residual-in_err-run.ensures.1 in
-    let unwritten : is_write c.from_residual-in_err-run.result ≡ false = ap is_write (told.1 ∙ ap Err told.2) ∙ run_unwritten c.in_ok-rules.rules (node c.in_ok-tree.tree) c.in_err-run.field-0.0 c.in_err-run.ensures.err in
+pub returns-in_err-begun-clause-failures : goal.returns-in_err-begun-clause-failures
+returns-in_err-begun-clause-failures g c =
+    let told = err_from_is_err_and c.from_residual-in_err-begun.result c.from_residual-in_err-begun.ensures.1 in
+    let unwritten : is_write c.from_residual-in_err-begun.result ≡ false = ap is_write (told.1 ∙ ap Err told.2) ∙ begin_unwritten c.in_ok-rules.rules c.args.text.now c.in_err-begun.field-0.0 c.in_err-begun.ensures.err in
     ap (λ failed. cond failed (one_more (g.S.RowSink.failures c.args.sink.now)) (g.S.RowSink.failures c.args.sink.now)) (sym unwritten)
 
 pub write_run-requires : goal.write_run-requires
 write_run-requires g c =
     let rules = c.in_ok-rules.rules in
     let made = built c.args.files.now (rule_set rules) c.in_ok-rules.ensures.ok in
-    record { safe = c.rule_sets_are_safe.ensures made.0 made.1.0 (rule_set rules) made.1.1; read = c.in_ok-run.ensures.ok }
+    let says = c.in_ok-begun.ensures.says in
+    record {
+      accepted = record {
+        tree = says.0;
+        asked = record { safe = c.rule_sets_are_safe.ensures made.0 made.1.0 (rule_set rules) made.1.1; read = says.2 };
+      };
+      begun = c.in_ok-begun.ensures.begins;
+    }
 
 pub returns-clause-answer : goal.returns-clause-answer
 returns-clause-answer g c =
-    let running : Running = record { rules = c.in_ok-rules.rules; run = run_file c.in_ok-run.run' } in
-    inr (running, (c.in_ok-rules.ensures.ok, (node c.in_ok-tree.tree, c.in_ok-tree.ensures.ok, c.in_ok-run.ensures.ok)), c.write_run.ensures.answer)
+    let running : Running = record { rules = c.in_ok-rules.rules; run = run_start c.in_ok-begun.begun } in
+    inr (running, (c.in_ok-rules.ensures.ok, c.in_ok-begun.ensures.says), c.write_run.ensures.answer)
 
 pub returns-clause-counts : goal.returns-clause-counts
 returns-clause-counts g c =
-    let running : Running = record { rules = c.in_ok-rules.rules; run = run_file c.in_ok-run.run' } in
+    let running : Running = record { rules = c.in_ok-rules.rules; run = run_start c.in_ok-begun.begun } in
     are_counted c.args.files.now c.args.text.now c.args.from c.args.rows (g.S.RowSink.taken c.args.sink.now) (g.S.RowSink.taken c.write_run.new.sink) running c.write_run.result
-    (c.in_ok-rules.ensures.ok, (node c.in_ok-tree.tree, c.in_ok-tree.ensures.ok, c.in_ok-run.ensures.ok)) c.write_run.ensures.answer c.write_run.ensures.counts
+    (c.in_ok-rules.ensures.ok, c.in_ok-begun.ensures.says) c.write_run.ensures.answer c.write_run.ensures.counts

@@ -1,5 +1,5 @@
 use Rattle.std.proofs.Common.{◌≡◌, ◌∙◌, Result, Ok, Err, refl, sym, ap, cond}
-use Rattle.fisca_writer.specs.Sink.{one_more}
+use Rattle.fisca_writer.specs.Steps.Sink.{one_more}
 use Rattle.fisca_writer.specs.declared.fault.RunEnd.{RunEnd}
 use Rattle.fisca_evaluator.specs.declared.counts.Counts.{Counts}
 use Rattle.fisca_rule_files.specs.Refusal.{is_write}

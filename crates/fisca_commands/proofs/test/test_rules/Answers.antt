@@ -1,7 +1,7 @@
 use Rattle.std.proofs.Common.{◌≡◌, ◌∙◌, false, cond, inl, inr, Err, ap, refl, sym, rules}
 use Rattle.std.proofs.lemmas.Result.{err_from_is_err_and}
 use Rattle.std.specs.Io.KnownBytes.{Keeps}
-use Rattle.fisca_writer.specs.Sink.{one_more}
+use Rattle.fisca_writer.specs.Steps.Sink.{one_more}
 use Rattle.fisca_rule_files.specs.Refusal.{is_write}
 use Rattle.fisca_yaml.specs.Views.{node}
 use Rattle.fisca_commands.specs.Test.{Testing}

@@ -2,7 +2,7 @@ use Rattle.std.proofs.Common.{◌≡◌, ◌∙◌, sym, ap, ℕ, List, Option, 
 use Rattle.std.proofs.lemmas.Option.{slice_get-get_or, slice_get_past}
 use Rattle.fisca_attributes.specs.declared.dotted.Dotted.{Dotted}
 use Rattle.fisca_symbols.specs.declared.choices.Choices.{Choices}
-use Rattle.fisca_declarations.specs.VariableForms.{member_of as place_of}
+use Rattle.fisca_declarations.specs.Steps.VariableForms.{member_of as place_of}
 use Rattle.fisca_declarations.proofs.members.member_of.Goals as goal
 
 there : (cs ds : List Choices) (place : ℕ) (found : Option Choices) (d : Dotted) → ds ≡ cs → slice_get ds place ≡ found → place_of found d ≡ place_of (slice_get cs place) d

@@ -1,8 +1,8 @@
 use Rattle.std.proofs.Common.{◌∙◌, ap, map}
-use Rattle.fisca_attributes.specs.AttributeForms as forms
+use Rattle.fisca_attributes.specs.Steps.AttributeForms as forms
 use Rattle.fisca_attributes.specs.Values.{needed}
 use Rattle.fisca_ast.specs.ModuleViews.{item}
-use Rattle.fisca_declarations.specs.VariableForms.{enum_value}
+use Rattle.fisca_declarations.specs.Steps.VariableForms.{enum_value}
 use Rattle.fisca_declarations.proofs.needed.needed_enum.Goals as goal
 
 pub returns-in-Some : goal.returns-in-Some

@@ -1,5 +1,5 @@
 use Rattle.std.proofs.Common.{◌∙◌, ap, map}
-use Rattle.fisca_attributes.specs.AttributeForms as forms
+use Rattle.fisca_attributes.specs.Steps.AttributeForms as forms
 use Rattle.fisca_attributes.specs.Values.{needed}
 use Rattle.fisca_ast.specs.ModuleViews.{item}
 use Rattle.fisca_declarations.proofs.needed.needed_period.Goals as goal

@@ -17,12 +17,12 @@ use Rattle.fisca_evaluator.proofs.Remembering.{grows_none, own_known, own_work, 
 use Rattle.fisca_evaluator.proofs.Risen.{counted_none, counted_on}
 use Rattle.fisca_evaluator.proofs.Working.{nothing_asked, done_known, done_all, done_read, failed_fault, failed_done, next_stack, next_passed, next_fault, next_work, next_apart, next_done, next_more, next_read, next_reading, next_sound}
 use Rattle.fisca_evaluator.specs.Recalled.{HasPassedTo, IsStack, work_at, work_below}
-use Rattle.fisca_evaluator.specs.Scenes.{known_in, marks_in, sources_in, work}
+use Rattle.fisca_evaluator.specs.Evaluations.{known_in, marks_in, sources_in, work}
 use Rattle.fisca_evaluator.proofs.played.play.Goals as goal
 
 pub loop-value-init : goal.loop-value-init
 loop-value-init g c =
-    let s = c.args.scene.now in
+    let s = c.args.evaluation.now in
     let begun = c.begin-progress.ensures in
     record {
       gathered = nothing_asked s (plays c.args.plan.now) c.args.key.now _ _ _ begun;
@@ -39,7 +39,7 @@ loop-value-init g c =
 
 pub remember-requires : goal.remember-requires
 remember-requires g c =
-    let s = c.args.scene.now in
+    let s = c.args.evaluation.now in
     let i = c.loop-value.invariant in
     let keys = c.args.keys.now.items in
     let r = behind_operand c.loop-value.progress (value_seen c.loop-value.operand) in
@@ -57,21 +57,21 @@ remember-requires g c =
 
 pub returns-in-Done-clause-known : goal.returns-in-Done-clause-known
 returns-in-Done-clause-known g c =
-    let s = c.args.scene.now in
+    let s = c.args.evaluation.now in
     let r = behind_operand c.loop-value.progress (value_seen c.loop-value.operand) in
     let M = Remembered (g.R.Recall.find c.loop-value.store.recall) in
     done_known s (plays c.args.plan.now) c.args.key.now c.args.keys.now.items r c.loop-value.tallest M c.requires.work c.loop-value.invariant.gathered c.in-Done.value c.in-Done.ensures.stop
 
 pub returns-in-Done-clause-read : goal.returns-in-Done-clause-read
 returns-in-Done-clause-read g c =
-    let s = c.args.scene.now in
+    let s = c.args.evaluation.now in
     let i = c.loop-value.invariant in
     let r = behind_operand c.loop-value.progress (value_seen c.loop-value.operand) in
     rw c.wheels_of.ensures (done_read s (plays c.args.plan.now) c.args.key.now c.args.keys.now.items r c.loop-value.tallest c.loop-value.reads c.requires.work i.reading i.read c.in-Done.value c.in-Done.ensures.stop)
 
 pub returns-in-Done-clause-grows : goal.returns-in-Done-clause-grows
 returns-in-Done-clause-grows g c =
-    let s = c.args.scene.now in
+    let s = c.args.evaluation.now in
     let i = c.loop-value.invariant in
     let keys = c.args.keys.now.items in
     let r = behind_operand c.loop-value.progress (value_seen c.loop-value.operand) in
@@ -81,7 +81,7 @@ returns-in-Done-clause-grows g c =
 
 pub returns-in-Done-clause-covered : goal.returns-in-Done-clause-covered
 returns-in-Done-clause-covered g c =
-    kept_covered _ _ (g.R.Recall.find c.args.store.now.recall) _ _ c.in_ok-remember-in-Done.ensures.ok (sources_in c.args.scene.now) c.remember.ensures.memory.truth
+    kept_covered _ _ (g.R.Recall.find c.args.store.now.recall) _ _ c.in_ok-remember-in-Done.ensures.ok (sources_in c.args.evaluation.now) c.remember.ensures.memory.truth
 
 pub returns-in-Done-clause-counted : goal.returns-in-Done-clause-counted
 returns-in-Done-clause-counted g c =
@@ -98,7 +98,7 @@ returns-in_err-remember-in-Done-clause-counted g c =
 
 pub returns-in-Failed-clause-fault : goal.returns-in-Failed-clause-fault
 returns-in-Failed-clause-fault g c =
-    let s = c.args.scene.now in
+    let s = c.args.evaluation.now in
     let i = c.loop-value.invariant in
     let r = behind_operand c.loop-value.progress (value_seen c.loop-value.operand) in
     let M = Remembered (g.R.Recall.find c.loop-value.store.recall) in
@@ -106,7 +106,7 @@ returns-in-Failed-clause-fault g c =
 
 pub returns-in-Failed-clause-stopped : goal.returns-in-Failed-clause-stopped
 returns-in-Failed-clause-stopped g c =
-    let s = c.args.scene.now in
+    let s = c.args.evaluation.now in
     let i = c.loop-value.invariant in
     let r = behind_operand c.loop-value.progress (value_seen c.loop-value.operand) in
     let M = Remembered (g.R.Recall.find c.loop-value.store.recall) in
@@ -114,7 +114,7 @@ returns-in-Failed-clause-stopped g c =
 
 pub value_below-requires : goal.value_below-requires
 value_below-requires g c =
-    let s = c.args.scene.now in
+    let s = c.args.evaluation.now in
     let i = c.loop-value.invariant in
     let keys = c.args.keys.now.items in
     let r = behind_operand c.loop-value.progress (value_seen c.loop-value.operand) in
@@ -126,7 +126,7 @@ value_below-requires g c =
     let before = passed_path_more (sources_in s) (Remembered (g.R.Recall.find c.args.store.now.recall)) M i.grows.kept (map key_seen keys) c.requires.passed in
     let passed = next_passed s (plays c.args.plan.now) c.args.key.now keys r c.loop-value.tallest M c.requires.work i.gathered j go told c.requires.stack before in
     record {
-      scene = c.requires.scene;
+      evaluation = c.requires.evaluation;
       depth = rw i.keys c.requires.depth;
       stack = subst (λ ks. IsStack (sources_in s) ks j) (sym i.keys) stack;
       memory = i.memory;
@@ -135,7 +135,7 @@ value_below-requires g c =
 
 pub returns-in_err-known-in-Needs-clause-fault : goal.returns-in_err-known-in-Needs-clause-fault
 returns-in_err-known-in-Needs-clause-fault g c =
-    let s = c.args.scene.now in
+    let s = c.args.evaluation.now in
     let i = c.loop-value.invariant in
     let keys = c.args.keys.now.items in
     let r = behind_operand c.loop-value.progress (value_seen c.loop-value.operand) in
@@ -147,7 +147,7 @@ returns-in_err-known-in-Needs-clause-fault g c =
 
 pub returns-in_err-known-in-Needs-clause-stopped : goal.returns-in_err-known-in-Needs-clause-stopped
 returns-in_err-known-in-Needs-clause-stopped g c =
-    let s = c.args.scene.now in
+    let s = c.args.evaluation.now in
     let i = c.loop-value.invariant in
     let keys = c.args.keys.now.items in
     let src = sources_in s in
@@ -163,7 +163,7 @@ returns-in_err-known-in-Needs-clause-stopped g c =
 
 pub returns-in_err-known-in-Needs-clause-grows : goal.returns-in_err-known-in-Needs-clause-grows
 returns-in_err-known-in-Needs-clause-grows g c =
-    let s = c.args.scene.now in
+    let s = c.args.evaluation.now in
     let i = c.loop-value.invariant in
     let keys = c.args.keys.now.items in
     let r = behind_operand c.loop-value.progress (value_seen c.loop-value.operand) in
@@ -177,7 +177,7 @@ returns-in_err-known-in-Needs-clause-counted g c = counted_on _ _ _ _ _ _ c.loop
 
 pub loop-value-preserved : goal.loop-value-preserved
 loop-value-preserved g c =
-    let s = c.args.scene.now in
+    let s = c.args.evaluation.now in
     let i = c.loop-value.invariant in
     let keys = c.args.keys.now.items in
     let src = sources_in s in
@@ -195,7 +195,7 @@ loop-value-preserved g c =
       gathered = rw (c.max-tallest.ensures) (next_more s (plays c.args.plan.now) c.args.key.now keys r c.loop-value.tallest M c.requires.work i.gathered j go told x known new grown.kept below.covered);
       reading = rw (c.max-tallest.ensures) (next_reading s (plays c.args.plan.now) c.args.key.now keys r c.loop-value.tallest c.loop-value.reads c.requires.work i.reading i.read j go told x known below.read);
       read = next_read s (plays c.args.plan.now) c.args.key.now keys r c.loop-value.tallest c.loop-value.reads c.requires.work i.reading i.read j go told x known below.read;
-      sound = (next_sound s (plays c.args.plan.now) c.args.key.now keys r c.loop-value.tallest M c.requires.work i.gathered j go told x known c.requires.scene i.sound);
+      sound = (next_sound s (plays c.args.plan.now) c.args.key.now keys r c.loop-value.tallest M c.requires.work i.gathered j go told x known c.requires.evaluation i.sound);
       memory = below.memory;
       keys = below.keys ∙ i.keys;
       grows = grows_on _ _ _ (work_at src keys c.args.key.now) i.grows (grows_wider _ _ _ _ grown (next_work s (plays c.args.plan.now) c.args.key.now keys r c.loop-value.tallest M c.requires.work i.gathered j go told));

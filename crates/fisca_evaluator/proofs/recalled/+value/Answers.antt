@@ -26,16 +26,16 @@ use Rattle.fisca_evaluator.proofs.Remembering.{grows_none, pushed_working, pushe
 use Rattle.fisca_evaluator.proofs.Risen.{counted_none, counted_on}
 use Rattle.fisca_evaluator.proofs.Working.{begins, nothing_asked, done_known, done_all, done_read, failed_fault, failed_done, next_stack, next_passed, next_fault, next_work, next_apart, next_done, next_more, next_read, next_reading, next_sound}
 use Rattle.fisca_evaluator.specs.Recalled.{HasPassedTo, IsStack, work_at, work_below}
-use Rattle.fisca_evaluator.specs.Scenes.{known_in, marks_in, seen, sources_in, work}
-use Rattle.fisca_evaluator.specs.Scenes as scenes
+use Rattle.fisca_evaluator.specs.Evaluations.{known_in, marks_in, seen, sources_in, work}
+use Rattle.fisca_evaluator.specs.Evaluations as evaluations
 use Rattle.fisca_evaluator.proofs.recalled.+value.Goals as goal
 
 -- work_out
 
 pub work_out-loop-value-init : goal.work_out-loop-value-init
 work_out-loop-value-init g t c =
-    let s = c.args.scene.now in
-    let begun = (rw c.as_slice-locals.ensures.value at c.in-Ok.ensures.begun) ∙ begins s c.args.variable.now c.args.formula.now c.args.key.now c.requires.scene in
+    let s = c.args.evaluation.now in
+    let begun = (rw c.as_slice-locals.ensures.value at c.in-Ok.ensures.begun) ∙ begins s c.args.variable.now c.args.formula.now c.args.key.now c.requires.evaluation in
     record {
       gathered = nothing_asked s (work s c.args.variable.now c.args.formula.now c.args.key.now) c.args.key.now _ _ _ begun;
       reading = nothing_asked s (work s c.args.variable.now c.args.formula.now c.args.key.now) c.args.key.now _ _ _ begun;
@@ -52,10 +52,10 @@ work_out-loop-value-init g t c =
 
 pub work_out-remember-requires : goal.work_out-remember-requires
 work_out-remember-requires g t c =
-    let s = c.args.scene.now in
+    let s = c.args.evaluation.now in
     let i = c.loop-value.invariant in
     let keys = c.args.keys.now.items in
-    let r = resume s.world c.loop-value.machine c.loop-value.control in
+    let r = resume s.context c.loop-value.machine c.loop-value.control in
     let M = Remembered (g.R.Recall.find c.loop-value.store.recall) in
     let told = c.in-Done.ensures.told.0 in
     let known = done_known s (work s c.args.variable.now c.args.formula.now c.args.key.now) c.args.key.now keys r c.loop-value.tallest M c.requires.work i.gathered c.in-Done.value told in
@@ -70,31 +70,31 @@ work_out-remember-requires g t c =
 
 pub work_out-returns-in-Done-clause-known : goal.work_out-returns-in-Done-clause-known
 work_out-returns-in-Done-clause-known g t c =
-    let s = c.args.scene.now in
-    let r = resume s.world c.loop-value.machine c.loop-value.control in
+    let s = c.args.evaluation.now in
+    let r = resume s.context c.loop-value.machine c.loop-value.control in
     let M = Remembered (g.R.Recall.find c.loop-value.store.recall) in
     done_known s (work s c.args.variable.now c.args.formula.now c.args.key.now) c.args.key.now c.args.keys.now.items r c.loop-value.tallest M c.requires.work c.loop-value.invariant.gathered c.in-Done.value c.in-Done.ensures.told.0
 
 pub work_out-returns-in-Done-clause-read : goal.work_out-returns-in-Done-clause-read
 work_out-returns-in-Done-clause-read g t c =
-    let s = c.args.scene.now in
+    let s = c.args.evaluation.now in
     let i = c.loop-value.invariant in
-    let r = resume s.world c.loop-value.machine c.loop-value.control in
+    let r = resume s.context c.loop-value.machine c.loop-value.control in
     rw c.wheels_of.ensures (done_read s (work s c.args.variable.now c.args.formula.now c.args.key.now) c.args.key.now c.args.keys.now.items r c.loop-value.tallest c.loop-value.reads c.requires.work i.reading i.read c.in-Done.value c.in-Done.ensures.told.0)
 
 pub work_out-returns-in-Done-clause-grows : goal.work_out-returns-in-Done-clause-grows
 work_out-returns-in-Done-clause-grows g t c =
-    let s = c.args.scene.now in
+    let s = c.args.evaluation.now in
     let i = c.loop-value.invariant in
     let keys = c.args.keys.now.items in
-    let r = resume s.world c.loop-value.machine c.loop-value.control in
+    let r = resume s.context c.loop-value.machine c.loop-value.control in
     let M = Remembered (g.R.Recall.find c.loop-value.store.recall) in
     let known = done_known s (work s c.args.variable.now c.args.formula.now c.args.key.now) c.args.key.now keys r c.loop-value.tallest M c.requires.work i.gathered c.in-Done.value c.in-Done.ensures.told.0 in
     kept_grows _ _ _ _ _ c.in_ok-remember-in-Done.ensures.ok (work_at (sources_in s) keys c.args.key.now) (own_work s keys c.args.key.now (value_seen c.in-Done.value) (c.loop-value.tallest + 1) known (_, c.requires.work.source)) i.grows
 
 pub work_out-returns-in-Done-clause-covered : goal.work_out-returns-in-Done-clause-covered
 work_out-returns-in-Done-clause-covered g t c =
-    kept_covered _ _ (g.R.Recall.find c.args.store.now.recall) _ _ c.in_ok-remember-in-Done.ensures.ok (sources_in c.args.scene.now) c.remember.ensures.memory.truth
+    kept_covered _ _ (g.R.Recall.find c.args.store.now.recall) _ _ c.in_ok-remember-in-Done.ensures.ok (sources_in c.args.evaluation.now) c.remember.ensures.memory.truth
 
 pub work_out-returns-in-Done-clause-counted : goal.work_out-returns-in-Done-clause-counted
 work_out-returns-in-Done-clause-counted g t c =
@@ -111,55 +111,55 @@ work_out-returns-in_err-remember-in-Done-clause-counted g t c =
 
 pub work_out-returns-in-Failed-clause-fault : goal.work_out-returns-in-Failed-clause-fault
 work_out-returns-in-Failed-clause-fault g t c =
-    let s = c.args.scene.now in
+    let s = c.args.evaluation.now in
     let i = c.loop-value.invariant in
-    let r = resume s.world c.loop-value.machine c.loop-value.control in
+    let r = resume s.context c.loop-value.machine c.loop-value.control in
     let M = Remembered (g.R.Recall.find c.loop-value.store.recall) in
     failed_fault s (work s c.args.variable.now c.args.formula.now c.args.key.now) c.args.key.now c.args.keys.now.items r c.loop-value.tallest M c.requires.work i.gathered _ c.in-Failed.ensures.told _ c.told_of.ensures
 
 pub work_out-returns-in-Failed-clause-stopped : goal.work_out-returns-in-Failed-clause-stopped
 work_out-returns-in-Failed-clause-stopped g t c =
-    let s = c.args.scene.now in
+    let s = c.args.evaluation.now in
     let i = c.loop-value.invariant in
-    let r = resume s.world c.loop-value.machine c.loop-value.control in
+    let r = resume s.context c.loop-value.machine c.loop-value.control in
     let M = Remembered (g.R.Recall.find c.loop-value.store.recall) in
     failed_done s (work s c.args.variable.now c.args.formula.now c.args.key.now) c.args.key.now c.args.keys.now.items r c.loop-value.tallest M c.requires.work i.gathered _ c.in-Failed.ensures.told _
 
 pub work_out-value_below-requires : goal.work_out-value_below-requires
 work_out-value_below-requires g t c κs within =
-    let s = c.args.scene.now in
+    let s = c.args.evaluation.now in
     let i = c.loop-value.invariant in
     let keys = c.args.keys.now.items in
-    let r = resume s.world c.loop-value.machine c.loop-value.control in
+    let r = resume s.context c.loop-value.machine c.loop-value.control in
     let M = Remembered (g.R.Recall.find c.loop-value.store.recall) in
     let told = c.in-Needs.ensures.told in
     let j = c.in-Needs.asked in
-    let go = rest s.world c.run.new.self in
+    let go = rest s.context c.run.new.self in
     let stack = next_stack s (work s c.args.variable.now c.args.formula.now c.args.key.now) c.args.key.now keys r c.loop-value.tallest M c.requires.work i.gathered j go told.0 c.requires.stack in
     let before = passed_path_more (sources_in s) (Remembered (g.R.Recall.find c.args.store.now.recall)) M i.grows.kept (map key_seen keys) c.requires.passed in
     let passed = next_passed s (work s c.args.variable.now c.args.formula.now c.args.key.now) c.args.key.now keys r c.loop-value.tallest M c.requires.work i.gathered j go told.0 c.requires.stack before in
     let long : length c.loop-value.keys.items ≡ length keys = ap length i.keys in
-    (omega arith, (within, (c.requires.scene, (rw i.keys c.requires.depth, (subst (λ ks. IsStack (sources_in s) ks j) (sym i.keys) stack, (i.memory, subst (λ ks. HasPassedTo (sources_in s) (g.R.Recall.find c.loop-value.store.recall) ks j) (sym i.keys) passed))))))
+    (omega arith, (within, (c.requires.evaluation, (rw i.keys c.requires.depth, (subst (λ ks. IsStack (sources_in s) ks j) (sym i.keys) stack, (i.memory, subst (λ ks. HasPassedTo (sources_in s) (g.R.Recall.find c.loop-value.store.recall) ks j) (sym i.keys) passed))))))
 
 pub work_out-returns-in_err-known-in-Needs-clause-fault : goal.work_out-returns-in_err-known-in-Needs-clause-fault
 work_out-returns-in_err-known-in-Needs-clause-fault g t c =
-    let s = c.args.scene.now in
+    let s = c.args.evaluation.now in
     let i = c.loop-value.invariant in
     let keys = c.args.keys.now.items in
-    let r = resume s.world c.loop-value.machine c.loop-value.control in
+    let r = resume s.context c.loop-value.machine c.loop-value.control in
     let M = Remembered (g.R.Recall.find c.loop-value.store.recall) in
     let told = c.in-Needs.ensures.told in
     let p = err_from_is_err_and c.from_residual-in_err-known-in-Needs.result c.from_residual-in_err-known-in-Needs.ensures.1 in
     let h = rw i.keys at c.in_err-known-in-Needs.ensures.fault in
-    rw (p.1, p.2) (next_fault s (work s c.args.variable.now c.args.formula.now c.args.key.now) c.args.key.now keys r c.loop-value.tallest M c.requires.work i.gathered c.in-Needs.asked (rest s.world c.run.new.self) told.0 c.requires.stack _ h)
+    rw (p.1, p.2) (next_fault s (work s c.args.variable.now c.args.formula.now c.args.key.now) c.args.key.now keys r c.loop-value.tallest M c.requires.work i.gathered c.in-Needs.asked (rest s.context c.run.new.self) told.0 c.requires.stack _ h)
 
 pub work_out-returns-in_err-known-in-Needs-clause-stopped : goal.work_out-returns-in_err-known-in-Needs-clause-stopped
 work_out-returns-in_err-known-in-Needs-clause-stopped g t c =
-    let s = c.args.scene.now in
+    let s = c.args.evaluation.now in
     let i = c.loop-value.invariant in
     let keys = c.args.keys.now.items in
     let src = sources_in s in
-    let r = resume s.world c.loop-value.machine c.loop-value.control in
+    let r = resume s.context c.loop-value.machine c.loop-value.control in
     let M = Remembered (g.R.Recall.find c.loop-value.store.recall) in
     let new = Remembered (g.R.Recall.find c.value_below.new.store.recall) in
     let told = c.in-Needs.ensures.told in
@@ -167,34 +167,34 @@ work_out-returns-in_err-known-in-Needs-clause-stopped g t c =
     let h = rw i.keys at c.in_err-known-in-Needs.ensures.fault in
     let below = rw i.keys at c.in_err-known-in-Needs.ensures.stopped in
     let wide = gathered_wider src _ _ _ c.loop-value.tallest (Covered src M) (Covered src new) (covered_wider src M new c.in_err-known-in-Needs.ensures.grows.kept) i.gathered in
-    rw (p.1, p.2) (next_done s (work s c.args.variable.now c.args.formula.now c.args.key.now) c.args.key.now keys r c.loop-value.tallest new c.requires.work wide c.in-Needs.asked (rest s.world c.run.new.self) told.0 _ h below)
+    rw (p.1, p.2) (next_done s (work s c.args.variable.now c.args.formula.now c.args.key.now) c.args.key.now keys r c.loop-value.tallest new c.requires.work wide c.in-Needs.asked (rest s.context c.run.new.self) told.0 _ h below)
 
 pub work_out-returns-in_err-known-in-Needs-clause-grows : goal.work_out-returns-in_err-known-in-Needs-clause-grows
 work_out-returns-in_err-known-in-Needs-clause-grows g t c =
-    let s = c.args.scene.now in
+    let s = c.args.evaluation.now in
     let i = c.loop-value.invariant in
     let keys = c.args.keys.now.items in
-    let r = resume s.world c.loop-value.machine c.loop-value.control in
+    let r = resume s.context c.loop-value.machine c.loop-value.control in
     let M = Remembered (g.R.Recall.find c.loop-value.store.recall) in
     let told = c.in-Needs.ensures.told in
     let h = rw i.keys at c.in_err-known-in-Needs.ensures.grows in
-    grows_on _ _ _ (work_at (sources_in s) keys c.args.key.now) i.grows (grows_wider _ _ _ _ h (next_work s (work s c.args.variable.now c.args.formula.now c.args.key.now) c.args.key.now keys r c.loop-value.tallest M c.requires.work i.gathered c.in-Needs.asked (rest s.world c.run.new.self) told.0))
+    grows_on _ _ _ (work_at (sources_in s) keys c.args.key.now) i.grows (grows_wider _ _ _ _ h (next_work s (work s c.args.variable.now c.args.formula.now c.args.key.now) c.args.key.now keys r c.loop-value.tallest M c.requires.work i.gathered c.in-Needs.asked (rest s.context c.run.new.self) told.0))
 
 pub work_out-returns-in_err-known-in-Needs-clause-counted : goal.work_out-returns-in_err-known-in-Needs-clause-counted
 work_out-returns-in_err-known-in-Needs-clause-counted g t c = counted_on _ _ _ _ _ _ c.loop-value.invariant.counted c.in_err-known-in-Needs.ensures.counted
 
 pub work_out-loop-value-preserved : goal.work_out-loop-value-preserved
 work_out-loop-value-preserved g t c =
-    let s = c.args.scene.now in
+    let s = c.args.evaluation.now in
     let i = c.loop-value.invariant in
     let keys = c.args.keys.now.items in
     let src = sources_in s in
-    let r = resume s.world c.loop-value.machine c.loop-value.control in
+    let r = resume s.context c.loop-value.machine c.loop-value.control in
     let M = Remembered (g.R.Recall.find c.loop-value.store.recall) in
     let new = Remembered (g.R.Recall.find c.value_below.new.store.recall) in
     let told = c.in-Needs.ensures.told in
     let j = c.in-Needs.asked in
-    let go = rest s.world c.run.new.self in
+    let go = rest s.context c.run.new.self in
     let below = c.in_ok-known-in-Needs.ensures in
     let x = c.in_ok-known-in-Needs.known in
     let known = rw i.keys at below.known in
@@ -203,7 +203,7 @@ work_out-loop-value-preserved g t c =
       gathered = rw (c.give-control.ensures.machine, c.give-control.ensures.control, below.rest, c.max-tallest.ensures) (next_more s (work s c.args.variable.now c.args.formula.now c.args.key.now) c.args.key.now keys r c.loop-value.tallest M c.requires.work i.gathered j go told.0 x known new grown.kept below.covered);
       reading = rw (c.give-control.ensures.machine, c.give-control.ensures.control, below.rest, c.max-tallest.ensures) (next_reading s (work s c.args.variable.now c.args.formula.now c.args.key.now) c.args.key.now keys r c.loop-value.tallest c.loop-value.reads c.requires.work i.reading i.read j go told.0 x known below.read);
       read = next_read s (work s c.args.variable.now c.args.formula.now c.args.key.now) c.args.key.now keys r c.loop-value.tallest c.loop-value.reads c.requires.work i.reading i.read j go told.0 x known below.read;
-      sound = rw (c.give-control.ensures.machine, c.give-control.ensures.control, below.rest) (next_sound s (work s c.args.variable.now c.args.formula.now c.args.key.now) c.args.key.now keys r c.loop-value.tallest M c.requires.work i.gathered j go told.0 x known c.requires.scene i.sound);
+      sound = rw (c.give-control.ensures.machine, c.give-control.ensures.control, below.rest) (next_sound s (work s c.args.variable.now c.args.formula.now c.args.key.now) c.args.key.now keys r c.loop-value.tallest M c.requires.work i.gathered j go told.0 x known c.requires.evaluation i.sound);
       waits = rw c.give-control.ensures.machine (below.waits ∙ sym told.1 ∙ i.waits);
       memory = below.memory;
       keys = below.keys ∙ i.keys;
@@ -221,13 +221,13 @@ pub by_formula-returns-then-len-ge-MOST_KEYS-clause-fault : goal.by_formula-retu
 by_formula-returns-then-len-ge-MOST_KEYS-clause-fault g t c =
     let long : length c.args.keys.now.items ≡ 100 = omega (arith, c.requires.depth) in
     let first = rw c.as_slice.ensures.value at c.first_of_chain.ensures in
-    full_below c.args.scene.now c.args.keys.now.items c.args.key.now c.requires.stack c.requires.away (subst IsAskable (sym c.requires.work.source) tt) long
+    full_below c.args.evaluation.now c.args.keys.now.items c.args.key.now c.requires.stack c.requires.away (subst IsAskable (sym c.requires.work.source) tt) long
     ∙ ap (λ k. Err (fault_at too_deep k)) (sym first)
 
 pub by_formula-returns-then-len-ge-MOST_KEYS-clause-stopped : goal.by_formula-returns-then-len-ge-MOST_KEYS-clause-stopped
 by_formula-returns-then-len-ge-MOST_KEYS-clause-stopped g t c =
     let long : length c.args.keys.now.items ≡ 100 = omega (arith, c.requires.depth) in
-    full_done c.args.scene.now c.args.keys.now.items c.args.key.now _ long
+    full_done c.args.evaluation.now c.args.keys.now.items c.args.key.now _ long
 
 pub by_formula-returns-then-len-ge-MOST_KEYS-clause-counted : goal.by_formula-returns-then-len-ge-MOST_KEYS-clause-counted
 by_formula-returns-then-len-ge-MOST_KEYS-clause-counted g t c = counted_none _ _
@@ -237,7 +237,7 @@ by_formula-returns-in-Err-clause-counted g t c = counted_none _ _
 
 pub by_formula-work_out-worked-requires : goal.by_formula-work_out-worked-requires
 by_formula-work_out-worked-requires g t c κs within =
-    let s = c.args.scene.now in
+    let s = c.args.evaluation.now in
     let keys = c.args.keys.now.items in
     let room : length keys < 100 = omega arith in
     let pushed = c.in-Ok.ensures.items in
@@ -246,7 +246,7 @@ by_formula-work_out-worked-requires g t c κs within =
       (
         within,
         (
-          c.requires.scene,
+          c.requires.evaluation,
           (
             c.requires.work,
             (
@@ -263,28 +263,28 @@ by_formula-returns-in-Ok-clause-known g t c =
     let keys = c.args.keys.now.items in
     let room : length keys < 100 = omega arith in
     let h = rw c.in-Ok.ensures.items at c.work_out-worked.ensures.known in
-    IfOk-weaker c.work_out-worked.result _ _ (λ k is. popped_known c.args.scene.now keys c.args.key.now room k is) h
+    IfOk-weaker c.work_out-worked.result _ _ (λ k is. popped_known c.args.evaluation.now keys c.args.key.now room k is) h
 
 pub by_formula-returns-in-Ok-clause-fault : goal.by_formula-returns-in-Ok-clause-fault
 by_formula-returns-in-Ok-clause-fault g t c =
     let keys = c.args.keys.now.items in
     let room : length keys < 100 = omega arith in
     let h = rw c.in-Ok.ensures.items at c.work_out-worked.ensures.fault in
-    IfErr-weaker c.work_out-worked.result _ _ (λ e is. popped_fault c.args.scene.now keys c.args.key.now room (work c.args.scene.now c.args.variable.now c.args.formula.now c.args.key.now) c.requires.work (told e) is) h
+    IfErr-weaker c.work_out-worked.result _ _ (λ e is. popped_fault c.args.evaluation.now keys c.args.key.now room (work c.args.evaluation.now c.args.variable.now c.args.formula.now c.args.key.now) c.requires.work (told e) is) h
 
 pub by_formula-returns-in-Ok-clause-grows : goal.by_formula-returns-in-Ok-clause-grows
 by_formula-returns-in-Ok-clause-grows g t c =
     let keys = c.args.keys.now.items in
     let room : length keys < 100 = omega arith in
     let h = rw c.in-Ok.ensures.items at c.work_out-worked.ensures.grows in
-    popped_grows c.args.scene.now keys c.args.key.now room _ _ h
+    popped_grows c.args.evaluation.now keys c.args.key.now room _ _ h
 
 pub by_formula-returns-in-Ok-clause-stopped : goal.by_formula-returns-in-Ok-clause-stopped
 by_formula-returns-in-Ok-clause-stopped g t c =
     let keys = c.args.keys.now.items in
     let room : length keys < 100 = omega arith in
     let h = rw c.in-Ok.ensures.items at c.work_out-worked.ensures.stopped in
-    IfErr-weaker c.work_out-worked.result _ _ (λ e is. popped_done c.args.scene.now keys c.args.key.now room _ (told e) is) h
+    IfErr-weaker c.work_out-worked.result _ _ (λ e is. popped_done c.args.evaluation.now keys c.args.key.now room _ (told e) is) h
 
 pub work_out-returns-in-Err-clause-counted : goal.work_out-returns-in-Err-clause-counted
 work_out-returns-in-Err-clause-counted g t c = counted_none _ _
@@ -293,13 +293,13 @@ work_out-returns-in-Err-clause-counted g t c = counted_none _ _
 
 pub value_below-returns-in_default-clause-fault : goal.value_below-returns-in_default-clause-fault
 value_below-returns-in_default-clause-fault g t c =
-    let s = c.args.scene.now in
+    let s = c.args.evaluation.now in
     let k = key_seen c.args.key.now in
     below_refused (sources_in s) (map key_seen c.args.keys.now.items) k (of_none (seen s) k (sym c.in_default.ensures))
 
 pub value_below-returns-in_default-clause-stopped : goal.value_below-returns-in_default-clause-stopped
 value_below-returns-in_default-clause-stopped g t c =
-    let s = c.args.scene.now in
+    let s = c.args.evaluation.now in
     let k = key_seen c.args.key.now in
     λ i w. absurd (work_refused (sources_in s) (Remembered (g.R.Recall.find c.args.store.now.recall)) k (of_none (seen s) k (sym c.in_default.ensures)) _ i w)
 
@@ -314,14 +314,14 @@ value_below-returns-in-Some-2-clause-counted g t c = counted_none _ _
 
 pub value_below-returns-in-Some-input-clause-covered : goal.value_below-returns-in-Some-input-clause-covered
 value_below-returns-in-Some-input-clause-covered g t c =
-    let s = c.args.scene.now in
+    let s = c.args.evaluation.now in
     let k = key_seen c.args.key.now in
     let e = of_input (seen s) k c.in-Some.variable.now (sym c.in-Some.ensures) c.in-Some-input.value (sym c.in-Some-input.ensures) in
     on_ok_any c.at_hand.result _ (covered_known (sources_in s) (Remembered (g.R.Recall.find c.args.store.now.recall)) k (value_seen c.in-Some-input.value) e)
 
 pub value_below-returns-in-Some-input-clause-stopped : goal.value_below-returns-in-Some-input-clause-stopped
 value_below-returns-in-Some-input-clause-stopped g t c =
-    let s = c.args.scene.now in
+    let s = c.args.evaluation.now in
     let k = key_seen c.args.key.now in
     let e = of_input (seen s) k c.in-Some.variable.now (sym c.in-Some.ensures) c.in-Some-input.value (sym c.in-Some-input.ensures) in
     told_any c.at_hand.result _ (λ i w. covered_known (sources_in s) (Remembered (g.R.Recall.find c.args.store.now.recall)) k (value_seen c.in-Some-input.value) e _ i w)
@@ -331,30 +331,30 @@ value_below-returns-in-Some-input-clause-counted g t c = counted_none _ _
 
 pub value_below-by_formula-requires : goal.value_below-by_formula-requires
 value_below-by_formula-requires g t c κs within =
-    let s = c.args.scene.now in
+    let s = c.args.evaluation.now in
     let k = key_seen c.args.key.now in
     let w = c.in-Some.variable.now in
     let f = formula_view c.in-Some-formula.formula.now in
     let e = sym (c.in-Some.ensures) in
     let h = sym (c.in-Some-formula.ensures) in
-    let is : scenes.IsWork s (work s c.in-Some.variable.now c.in-Some-formula.formula.now c.args.key.now) c.args.key.now = record {
+    let is : evaluations.IsWork s (work s c.in-Some.variable.now c.in-Some-formula.formula.now c.args.key.now) c.args.key.now = record {
       source = of_formula (seen s) k w e (sym (c.in_default-input.ensures)) f h;
-      sound = works_soundly (seen s) c.requires.scene.safe k w e f h;
+      sound = works_soundly (seen s) c.requires.evaluation.safe k w e f h;
     } in
     let away : has (map key_seen c.args.keys.now.items) k ≡ false = search rules in
     let miss : g.R.Recall.find c.args.store.now.recall k ≡ None = search rules in
-    (omega arith, (within, (c.requires.scene, (is, (c.requires.depth, (c.requires.stack, (away, (c.requires.memory, (miss, c.requires.passed)))))))))
+    (omega arith, (within, (c.requires.evaluation, (is, (c.requires.depth, (c.requires.stack, (away, (c.requires.memory, (miss, c.requires.passed)))))))))
 
 pub value_below-returns-in-Some-default_of-clause-covered : goal.value_below-returns-in-Some-default_of-clause-covered
 value_below-returns-in-Some-default_of-clause-covered g t c =
-    let s = c.args.scene.now in
+    let s = c.args.evaluation.now in
     let k = key_seen c.args.key.now in
     let e = of_default (seen s) k c.in-Some.variable.now (sym c.in-Some.ensures) (sym c.in_default-input.ensures) (sym c.in-None.ensures) c.in-Some-default_of.value (sym c.in-Some-default_of.ensures) in
     on_ok_any c.at_hand-in-Some-default_of.result _ (covered_known (sources_in s) (Remembered (g.R.Recall.find c.args.store.now.recall)) k (value_seen c.in-Some-default_of.value) e)
 
 pub value_below-returns-in-Some-default_of-clause-stopped : goal.value_below-returns-in-Some-default_of-clause-stopped
 value_below-returns-in-Some-default_of-clause-stopped g t c =
-    let s = c.args.scene.now in
+    let s = c.args.evaluation.now in
     let k = key_seen c.args.key.now in
     let e = of_default (seen s) k c.in-Some.variable.now (sym c.in-Some.ensures) (sym c.in_default-input.ensures) (sym c.in-None.ensures) c.in-Some-default_of.value (sym c.in-Some-default_of.ensures) in
     told_any c.at_hand-in-Some-default_of.result _ (λ i w. covered_known (sources_in s) (Remembered (g.R.Recall.find c.args.store.now.recall)) k (value_seen c.in-Some-default_of.value) e _ i w)
@@ -364,14 +364,14 @@ value_below-returns-in-Some-default_of-clause-counted g t c = counted_none _ _
 
 pub value_below-returns-in-None-default_of-clause-fault : goal.value_below-returns-in-None-default_of-clause-fault
 value_below-returns-in-None-default_of-clause-fault g t c =
-    let s = c.args.scene.now in
+    let s = c.args.evaluation.now in
     let k = key_seen c.args.key.now in
     below_refused (sources_in s) (map key_seen c.args.keys.now.items) k
     (of_nothing (seen s) k c.in-Some.variable.now (sym c.in-Some.ensures) (sym c.in_default-input.ensures) (sym c.in-None.ensures) (sym c.in-None-default_of.ensures))
 
 pub value_below-returns-in-None-default_of-clause-stopped : goal.value_below-returns-in-None-default_of-clause-stopped
 value_below-returns-in-None-default_of-clause-stopped g t c =
-    let s = c.args.scene.now in
+    let s = c.args.evaluation.now in
     let k = key_seen c.args.key.now in
     let e = of_nothing (seen s) k c.in-Some.variable.now (sym c.in-Some.ensures) (sym c.in_default-input.ensures) (sym c.in-None.ensures) (sym c.in-None-default_of.ensures) in
     λ i w. absurd (work_refused (sources_in s) (Remembered (g.R.Recall.find c.args.store.now.recall)) k e _ i w)

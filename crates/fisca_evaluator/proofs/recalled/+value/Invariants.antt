@@ -13,7 +13,7 @@ use Rattle.fisca_machine.specs.Running.{rest, resume, waiting}
 use Rattle.fisca_simulation.specs.Sound.{GivesOnly}
 use Rattle.fisca_evaluator.specs.Counting.{IsCounted}
 use Rattle.fisca_evaluator.specs.Recalled.{work_at}
-use Rattle.fisca_evaluator.specs.Scenes.{IsMemoryIn, known_in, marks_in, sources_in, work}
+use Rattle.fisca_evaluator.specs.Evaluations.{IsMemoryIn, known_in, marks_in, sources_in, work}
 use Rattle.fisca_evaluator.proofs.recalled.+value.Given as goal
 
 abbrev pub decreases-value_below : goal.decreases-value_below
@@ -28,16 +28,16 @@ decreases-work_out g l = 3 * (101 - length l.keys.now.items) + 3
 -- the work so far is right, and so is what is remembered
 abbrev pub invariant-work_out-loop-value : goal.invariant-work_out-loop-value
 invariant-work_out-loop-value g l =
-    let src = sources_in l.scene in
-    let left = resume l.scene.world l.machine l.control in
+    let src = sources_in l.evaluation in
+    let left = resume l.evaluation.context l.machine l.control in
     record {
-      gathered : IsGathered src (left_below (map key_seen l.fn.keys.items)) (of_key (key_seen l.key) (work l.scene l.variable l.formula l.key)) (of_key (key_seen l.key) left) l.tallest (Covered src (Remembered (g.R.Recall.find l.store.recall)));
-      reading : IsGathered src (left_below (map key_seen l.fn.keys.items)) (of_key (key_seen l.key) (work l.scene l.variable l.formula l.key)) (of_key (key_seen l.key) left) l.tallest
-          (ReadsWithin (marks_in l.scene) src (left_below (map key_seen l.fn.keys.items)) l.reads);
-      read : AreRead (marks_in l.scene) src (left_below (map key_seen l.fn.keys.items)) (of_key (key_seen l.key) (work l.scene l.variable l.formula l.key)) l.reads;
-      sound : GivesOnly (known_in l.scene) (IsValueOf (known_in l.scene) l.key.variable) left;
-      waits : waiting l.scene.world l.machine ≡ rest l.scene.world l.fn.machine ∷ waiting l.scene.world l.fn.machine;
-      memory : IsMemoryIn l.scene (g.R.Recall.find l.store.recall) l.store.counts.free;
+      gathered : IsGathered src (left_below (map key_seen l.fn.keys.items)) (of_key (key_seen l.key) (work l.evaluation l.variable l.formula l.key)) (of_key (key_seen l.key) left) l.tallest (Covered src (Remembered (g.R.Recall.find l.store.recall)));
+      reading : IsGathered src (left_below (map key_seen l.fn.keys.items)) (of_key (key_seen l.key) (work l.evaluation l.variable l.formula l.key)) (of_key (key_seen l.key) left) l.tallest
+          (ReadsWithin (marks_in l.evaluation) src (left_below (map key_seen l.fn.keys.items)) l.reads);
+      read : AreRead (marks_in l.evaluation) src (left_below (map key_seen l.fn.keys.items)) (of_key (key_seen l.key) (work l.evaluation l.variable l.formula l.key)) l.reads;
+      sound : GivesOnly (known_in l.evaluation) (IsValueOf (known_in l.evaluation) l.key.variable) left;
+      waits : waiting l.evaluation.context l.machine ≡ rest l.evaluation.context l.fn.machine ∷ waiting l.evaluation.context l.fn.machine;
+      memory : IsMemoryIn l.evaluation (g.R.Recall.find l.store.recall) l.store.counts.free;
       keys : l.keys.items ≡ l.fn.keys.items;
       grows : Grows (g.R.Recall.find l.fn.store.recall) (g.R.Recall.find l.store.recall) (work_at src l.fn.keys.items l.key);
       apart : Remembered (g.R.Recall.find l.store.recall) (key_seen l.key) → Remembered (g.R.Recall.find l.fn.store.recall) (key_seen l.key);
@@ -48,5 +48,5 @@ invariant-work_out-loop-value g l =
 -- the questions that are left
 abbrev pub decreases-work_out-loop-value : goal.decreases-work_out-loop-value
 decreases-work_out-loop-value g l =
-    let W = value_within (sources_in l.scene) (left_below (map key_seen l.fn.keys.items)) in
-    length (asked W (of_key (key_seen l.key) (resume l.scene.world l.machine l.control)))
+    let W = value_within (sources_in l.evaluation) (left_below (map key_seen l.fn.keys.items)) in
+    length (asked W (of_key (key_seen l.key) (resume l.evaluation.context l.machine l.control)))

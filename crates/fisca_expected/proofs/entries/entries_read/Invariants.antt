@@ -1,7 +1,7 @@
 use Rattle.std.proofs.Common.{◌≡◌, drop}
-use Rattle.fisca_situations.specs.Views.{situation}
+use Rattle.fisca_situations.specs.Steps.Views.{situation}
 use Rattle.fisca_yaml.specs.Views.{entries_view}
-use Rattle.fisca_expected.specs.Reading.{entries_read}
+use Rattle.fisca_expected.specs.Steps.Reading.{entries_read}
 use Rattle.fisca_expected.proofs.entries.entries_read.Given as goal
 
 abbrev pub invariant-loop-entry : goal.invariant-loop-entry

@@ -1,7 +1,7 @@
 use Rattle.std.proofs.Common.{◌≡◌, drop, map}
 use Rattle.fisca_members.specs.Views.{section}
-use Rattle.fisca_situations.specs.Views.{situation}
-use Rattle.fisca_expected.specs.Reading.{sections_read}
+use Rattle.fisca_situations.specs.Steps.Views.{situation}
+use Rattle.fisca_expected.specs.Steps.Reading.{sections_read}
 use Rattle.fisca_expected.proofs.members.sections_read.Given as goal
 
 abbrev pub invariant-loop-section : goal.invariant-loop-section

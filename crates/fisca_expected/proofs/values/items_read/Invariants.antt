@@ -1,6 +1,6 @@
 use Rattle.std.proofs.Common.{◌≡◌, drop}
 use Rattle.fisca_yaml.specs.Views.{items_view}
-use Rattle.fisca_expected.specs.Reading.{items_read}
+use Rattle.fisca_expected.specs.Steps.Reading.{items_read}
 use Rattle.fisca_expected.specs.Views.{subject}
 use Rattle.fisca_expected.proofs.values.items_read.Given as goal
 

@@ -1,6 +1,6 @@
 use Rattle.std.proofs.Common.{◌≡◌, drop}
 use Rattle.fisca_yaml.specs.Views.{entries_view}
-use Rattle.fisca_expected.specs.Reading.{all_dated}
+use Rattle.fisca_expected.specs.Steps.Reading.{all_dated}
 use Rattle.fisca_expected.specs.Views.{subject}
 use Rattle.fisca_expected.proofs.variables.all_dated.Given as goal
 

@@ -3,10 +3,11 @@ use Rattle.std.specs.Prelude.{◌&&◌}
 use Rattle.std.proofs.lemmas.Result.{err_from_is_err_and}
 use Rattle.fisca_expr_parser.specs.declared.sign.Sign.{Sign}
 use Rattle.fisca_lexer.specs.declared.token.Mark.TheVariants as mark
-use Rattle.fisca_expr_parser.specs.Marks.{tightness}
+use Rattle.fisca_expr_parser.specs.Steps.Marks.{tightness}
 use Rattle.fisca_ast.specs.Tree.{Tree, Series, Argument, next, height, height_of}
-use Rattle.fisca_expr_parser.specs.Spelling.{place_behind, takes_many}
-use Rattle.fisca_expr_parser.specs.Reading.{Outcome, and_then, pure, tail, begins, joint_ahead, reads, climb, joined, series}
+use Rattle.fisca_expr_parser.specs.Steps.Spelling.{place_behind, takes_many}
+use Rattle.fisca_expr_parser.specs.Reading.{Outcome, and_then, pure, tail, joint_ahead, reads, climb, joined, series}
+use Rattle.fisca_expr_parser.specs.Steps.Reading.{begins}
 use Rattle.fisca_ast.specs.Views.{tree, argument_view, before}
 use Rattle.fisca_expr_parser.proofs.Climbs.{reads_within, climb_stop, climb_deep, climb_more, series_end, series_fail, series_last, series_next, before_next}
 use Rattle.fisca_expr_parser.proofs.Pushed.{more_height}

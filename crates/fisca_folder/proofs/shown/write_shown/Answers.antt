@@ -13,5 +13,5 @@ loop-c-preserved c =
 
 pub returns : goal.returns
 returns c =
-    let end = YieldsList-end (YieldsList-from_chars c.args.path.now c.utf8.path cc) c.loop-c.yielded _ c.loop-c.yielded_by _ _ c.in-None.is c.next.ensures.steps in
+    let end = YieldsList-end (YieldsList-from_chars c.args.text.now c.utf8.text cc) c.loop-c.yielded _ c.loop-c.yielded_by _ _ c.in-None.is c.next.ensures.steps in
     c.loop-c.invariant ∙ ap (λ cs. string_bytes c.args.line.now ++ flat_map shown_char cs) (sym (map-id c.loop-c.yielded) ∙ end.0)

@@ -1,7 +1,7 @@
 use Rattle.std.proofs.Common.{◌≡◌, length}
 use denote.Shadow.{shadow}
 use denote.Text.{Utf8}
-use Rattle.fisca_grid.specs.Condition.{past_spaces}
+use Rattle.fisca_grid.specs.Steps.Condition.{past_spaces}
 use Rattle.fisca_grid.proofs.condition.past_spaces.Given as goal
 
 abbrev pub invariant-spaces : goal.invariant-spaces

@@ -1,5 +1,6 @@
 use Rattle.std.proofs.Common.{◌≡◌, ◌++◌, ◌/◌, ℕ, take, map}
-use Rattle.fisca_grid.specs.Turning.{specs_of, axes_of, placed, turned}
+use Rattle.fisca_grid.specs.Turning.{specs_of, axes_of, placed}
+use Rattle.fisca_grid.specs.Steps.Turning.{turned}
 use Rattle.fisca_grid.proofs.grid.push_group.Given as goal
 
 -- the first axes of the group are appended

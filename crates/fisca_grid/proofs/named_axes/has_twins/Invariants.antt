@@ -1,5 +1,5 @@
 use Rattle.std.proofs.Common.{◌≡◌, drop, map, string_bytes}
-use Rattle.fisca_grid.specs.NamedAxes.{name_of, has_twins}
+use Rattle.fisca_grid.specs.Steps.NamedAxes.{name_of, has_twins}
 use Rattle.fisca_grid.proofs.named_axes.has_twins.Given as goal
 
 -- the names that are left have twins, if any have

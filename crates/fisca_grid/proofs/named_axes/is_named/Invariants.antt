@@ -1,7 +1,7 @@
 use Rattle.std.proofs.Common.{◌≡◌, drop, map, string_bytes}
 use Rattle.std.specs.List.{list_any}
 use Rattle.std.specs.Str.{bytes_eq}
-use Rattle.fisca_grid.specs.NamedAxes.{name_of}
+use Rattle.fisca_grid.specs.Steps.NamedAxes.{name_of}
 use Rattle.fisca_grid.proofs.named_axes.is_named.Given as goal
 
 -- the name is among those that are left, if at all

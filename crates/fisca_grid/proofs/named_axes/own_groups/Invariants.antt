@@ -1,5 +1,5 @@
 use Rattle.std.proofs.Common.{◌≡◌, take}
-use Rattle.fisca_grid.specs.NamedAxes.{own_groups}
+use Rattle.fisca_grid.specs.Steps.NamedAxes.{own_groups}
 use Rattle.fisca_grid.proofs.named_axes.own_groups.Given as goal
 
 -- a length for each axis so far

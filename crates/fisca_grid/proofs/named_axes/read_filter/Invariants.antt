@@ -1,5 +1,6 @@
 use Rattle.std.proofs.Common.{◌≡◌, drop, map, string_bytes}
-use Rattle.fisca_grid.specs.NamedAxes.{name_of, filter_from}
+use Rattle.fisca_grid.specs.NamedAxes.{filter_from}
+use Rattle.fisca_grid.specs.Steps.NamedAxes.{name_of}
 use Rattle.fisca_grid.proofs.named_axes.read_filter.Given as goal
 
 -- the condition is on one of the axes that are left, if on any

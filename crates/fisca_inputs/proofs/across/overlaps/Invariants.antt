@@ -1,5 +1,5 @@
 use Rattle.std.proofs.Common.{◌≡◌, drop}
-use Rattle.fisca_inputs.specs.Overlaps.{overlaps}
+use Rattle.fisca_inputs.specs.Steps.Overlaps.{overlaps}
 use Rattle.fisca_inputs.proofs.across.overlaps.Given as goal
 
 abbrev pub invariant-loop-input : goal.invariant-loop-input

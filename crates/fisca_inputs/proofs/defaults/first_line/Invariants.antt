@@ -1,5 +1,5 @@
 use Rattle.std.proofs.Common.{◌≡◌, drop}
-use Rattle.fisca_inputs.specs.Defaults.{first_line}
+use Rattle.fisca_inputs.specs.Steps.Defaults.{first_line}
 use Rattle.fisca_inputs.proofs.defaults.first_line.Given as goal
 
 abbrev pub invariant-loop-given : goal.invariant-loop-given

@@ -2,7 +2,8 @@ use Rattle.std.proofs.Common.{◌≡◌, ◌∷◌, ◌+◌, drop, true, ap, sym
 use Rattle.std.proofs.lemmas.List.{drop_more}
 use Rattle.std.specs.Map.{keys_of}
 use Rattle.fisca_inputs.specs.Defaults.{and_row, rows_with}
-use Rattle.fisca_inputs.specs.Entries.{has, key}
+use Rattle.fisca_inputs.specs.Entries.{key}
+use Rattle.fisca_inputs.specs.Steps.Entries.{has}
 use Rattle.fisca_model.specs.declared.key.Key.{Key}
 use Rattle.fisca_inputs.proofs.Numbered.{has_own}
 use Rattle.fisca_inputs.proofs.inputs.rows_among.Goals as goal

@@ -1,5 +1,5 @@
 use Rattle.std.proofs.Common.{◌≡◌, suc, ◌+◌, List, ◌∷◌, ap, sym, ◌∙◌, subst, drop, drop-cons, add-one, map, arith}
-use Rattle.fisca_inputs.specs.Order.{in_order_with, put_in_order}
+use Rattle.fisca_inputs.specs.Steps.Order.{in_order_with, put_in_order}
 use Rattle.fisca_inputs.specs.Rules.{Rule, rule_of}
 use Rattle.fisca_inputs.specs.declared.given.Given.{Given}
 use Rattle.fisca_inputs.proofs.Ordered.{IsRank, Kept, given_of, insert-in_order, Kept-insert}

@@ -1,5 +1,5 @@
 use Rattle.std.proofs.Common.{◌≡◌, drop, map}
-use Rattle.fisca_inputs.specs.Order.{in_order, in_order_with}
+use Rattle.fisca_inputs.specs.Steps.Order.{in_order, in_order_with}
 use Rattle.fisca_inputs.specs.Rules.{rule_of}
 use Rattle.fisca_inputs.proofs.Ordered.{Kept, given_of}
 use Rattle.fisca_inputs.proofs.order.in_order.Given as goal

@@ -1,7 +1,7 @@
 use Rattle.std.proofs.Common.{◌≡◌, ◌∙◌, ap, sym, pos, arith}
 use Rattle.std.proofs.lemmas.Int.{ints}
 use Rattle.fisca_num.specs.Operations.{number_over}
-use Rattle.fisca_inputs.specs.Sharing.{computed}
+use Rattle.fisca_inputs.specs.Steps.Sharing.{computed}
 use Rattle.fisca_inputs.proofs.Parting.{whole_there, part_by}
 use Rattle.fisca_inputs.proofs.sharing.share_of.Goals as goal
 use mir.Syntax.{w64}

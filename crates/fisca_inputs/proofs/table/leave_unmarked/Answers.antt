@@ -1,6 +1,6 @@
 use Rattle.std.proofs.Common.{not, rules}
 use Rattle.std.proofs.lemmas.Fn.{filter_same}
-use Rattle.fisca_inputs.specs.Inputs.{is_marked}
+use Rattle.fisca_inputs.specs.Steps.Inputs.{is_marked}
 use Rattle.fisca_inputs.proofs.table.leave_unmarked.Goals as goal
 
 pub returns : goal.returns

@@ -1,6 +1,6 @@
 use Rattle.std.proofs.Common.{not, rules}
 use Rattle.indexmap.proofs.CallerLemmas.{filter-RetainsPairs}
-use Rattle.fisca_inputs.specs.Inputs.{is_marked}
+use Rattle.fisca_inputs.specs.Steps.Inputs.{is_marked}
 use Rattle.fisca_inputs.proofs.table.leave_unmarked_pages.Goals as goal
 
 pub returns : goal.returns

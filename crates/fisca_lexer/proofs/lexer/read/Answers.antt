@@ -4,7 +4,7 @@ use Rattle.std.proofs.lemmas.Result.{err_from_is_err_and}
 use Rattle.std.proofs.lemmas.Grind.{common_steps}
 use Rattle.fisca_lexer.specs.Layout.{start, step}
 use Rattle.fisca_lexer.specs.Tokens.{behind, after_piece, after_step, tokens_from}
-use Rattle.fisca_lexer.specs.Pieces.{front}
+use Rattle.fisca_lexer.specs.Steps.Pieces.{front}
 use Rattle.fisca_lexer.proofs.Steps.{turn, no_turn, no_front}
 use Rattle.fisca_lexer.proofs.lexer.read.Goals as goal
 

@@ -1,6 +1,6 @@
 use Rattle.std.proofs.Common.{◌≡◌, ◌+◌, ◌-◌, ◌≤◌, length, take, drop, false}
 use Rattle.std.specs.Str.{IsAscii}
-use Rattle.fisca_lexer.specs.Pieces.{digits_len}
+use Rattle.fisca_lexer.specs.Steps.Pieces.{digits_len}
 use Rattle.fisca_lexer.proofs.numbers.digits_len.Given as goal
 
 abbrev pub invariant-loop-n : goal.invariant-loop-n

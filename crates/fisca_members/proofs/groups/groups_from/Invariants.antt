@@ -1,6 +1,6 @@
 use Rattle.std.proofs.Common.{◌≡◌, drop}
 use Rattle.fisca_yaml.specs.Views.{entries_view}
-use Rattle.fisca_members.specs.Groups.{groups_from}
+use Rattle.fisca_members.specs.Steps.Groups.{groups_from}
 use Rattle.fisca_members.proofs.groups.groups_from.Given as goal
 
 abbrev pub invariant-loop-entry : goal.invariant-loop-entry

@@ -1,6 +1,6 @@
 use Rattle.std.proofs.Common.{◌≡◌, drop}
 use Rattle.fisca_yaml.specs.Views.{entries_view}
-use Rattle.fisca_members.specs.Groups.{roles_from}
+use Rattle.fisca_members.specs.Steps.Groups.{roles_from}
 use Rattle.fisca_members.proofs.groups.roles_from.Given as goal
 
 abbrev pub invariant-loop-entry : goal.invariant-loop-entry

@@ -1,6 +1,6 @@
 use Rattle.std.proofs.Common.{◌≡◌, drop}
 use Rattle.fisca_yaml.specs.Views.{items_view}
-use Rattle.fisca_members.specs.Groups.{names_given}
+use Rattle.fisca_members.specs.Steps.Groups.{names_given}
 use Rattle.fisca_members.specs.Views.{post}
 use Rattle.fisca_members.proofs.holders.names_given.Given as goal
 

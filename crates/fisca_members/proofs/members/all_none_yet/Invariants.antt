@@ -1,6 +1,6 @@
 use Rattle.std.proofs.Common.{◌≡◌, ◌++◌, drop, map}
 use Rattle.fisca_symbols.specs.KnownEntities.{entities}
-use Rattle.fisca_members.specs.Members.{none_yet}
+use Rattle.fisca_members.specs.Steps.Members.{none_yet}
 use Rattle.fisca_members.proofs.members.all_none_yet.Given as goal
 
 abbrev pub invariant-loop-entity : goal.invariant-loop-entity

@@ -1,6 +1,6 @@
 use Rattle.std.proofs.Common.{◌≡◌, drop}
 use Rattle.fisca_symbols.specs.KnownEntities.{entities}
-use Rattle.fisca_members.specs.Members.{owns_from}
+use Rattle.fisca_members.specs.Steps.Members.{owns_from}
 use Rattle.fisca_members.proofs.members.all_own.Given as goal
 
 abbrev pub invariant-loop-place : goal.invariant-loop-place

@@ -1,5 +1,5 @@
 use Rattle.std.proofs.Common.{◌≡◌, ◌≤◌, ◌++◌, drop, length}
-use Rattle.fisca_members.specs.Persons.{names_of}
+use Rattle.fisca_members.specs.Steps.Persons.{names_of}
 use Rattle.fisca_members.proofs.members.names_of.Given as goal
 
 abbrev pub invariant-loop-person : goal.invariant-loop-person

@@ -1,6 +1,6 @@
 use Rattle.std.proofs.Common.{◌≡◌, drop, map}
 use Rattle.fisca_symbols.specs.KnownEntities.{entities}
-use Rattle.fisca_members.specs.Members.{sections_read}
+use Rattle.fisca_members.specs.Steps.Members.{sections_read}
 use Rattle.fisca_members.specs.Views.{section}
 use Rattle.fisca_members.proofs.members.sections_read.Given as goal
 

@@ -1,5 +1,5 @@
 use Rattle.std.proofs.Common.{◌≡◌, drop}
-use Rattle.fisca_members.specs.Groups.{own_from}
+use Rattle.fisca_members.specs.Steps.Groups.{own_from}
 use Rattle.fisca_members.proofs.own.own_groups.Given as goal
 
 abbrev pub invariant-loop-place : goal.invariant-loop-place

@@ -1,7 +1,7 @@
 use Rattle.std.proofs.Common.{◌≡◌, drop}
 use Rattle.std.specs.List.{position_from}
 use Rattle.std.specs.Str.{bytes_eq}
-use Rattle.fisca_members.specs.Persons.{names_of, person_named}
+use Rattle.fisca_members.specs.Steps.Persons.{names_of, person_named}
 use Rattle.fisca_members.proofs.person.place_among.Given as goal
 
 abbrev pub invariant-loop-place : goal.invariant-loop-place

@@ -1,7 +1,7 @@
 use Rattle.std.proofs.Common.{◌≡◌, drop, map}
 use Rattle.std.specs.List.{find}
 use Rattle.fisca_symbols.specs.KnownEntities.{entities}
-use Rattle.fisca_members.specs.Persons.{is_person_at}
+use Rattle.fisca_members.specs.Steps.Persons.{is_person_at}
 use Rattle.fisca_members.specs.Views.{section}
 use Rattle.fisca_members.proofs.persons.section_of_persons.Given as goal
 

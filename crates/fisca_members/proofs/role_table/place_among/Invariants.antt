@@ -2,7 +2,7 @@ use Rattle.std.proofs.Common.{◌≡◌, drop}
 use Rattle.std.specs.List.{position_from}
 use Rattle.std.specs.Str.{bytes_eq}
 use Rattle.fisca_symbols.specs.KnownRoles.{roles}
-use Rattle.fisca_members.specs.Groups.{role_named, role_titles}
+use Rattle.fisca_members.specs.Steps.Groups.{role_named, role_titles}
 use Rattle.fisca_members.proofs.role_table.place_among.Given as goal
 
 abbrev pub invariant-loop-place : goal.invariant-loop-place

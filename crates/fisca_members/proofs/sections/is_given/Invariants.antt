@@ -1,5 +1,5 @@
 use Rattle.std.proofs.Common.{◌≡◌, drop, map}
-use Rattle.fisca_members.specs.Sections.{is_given}
+use Rattle.fisca_members.specs.Steps.Sections.{is_given}
 use Rattle.fisca_members.specs.Views.{section}
 use Rattle.fisca_members.proofs.sections.is_given.Given as goal
 

@@ -1,6 +1,6 @@
 use Rattle.std.proofs.Common.{◌≡◌, drop}
 use Rattle.fisca_yaml.specs.Views.{entries_view}
-use Rattle.fisca_members.specs.Sections.{names_some}
+use Rattle.fisca_members.specs.Steps.Sections.{names_some}
 use Rattle.fisca_members.proofs.sections.names_some.Given as goal
 
 abbrev pub invariant-loop-entry : goal.invariant-loop-entry

@@ -1,6 +1,6 @@
 use Rattle.std.proofs.Common.{◌≡◌, [], drop, map}
 use Rattle.fisca_yaml.specs.Views.{entries_view}
-use Rattle.fisca_members.specs.Sections.{sections_from}
+use Rattle.fisca_members.specs.Steps.Sections.{sections_from}
 use Rattle.fisca_members.specs.Views.{section}
 use Rattle.fisca_members.proofs.sections.sections_of.Given as goal
 

@@ -3,7 +3,7 @@ use Rattle.std.specs.Str.{bytes_eq}
 use Rattle.indexmap.specs.IndexSet.{contains}
 use Rattle.fisca_names.proofs.Repeated.{Reached, member_new}
 use Rattle.fisca_names.proofs.Some.{left}
-use Rattle.fisca_names.specs.Clashes.{repeated_member}
+use Rattle.fisca_names.specs.Steps.Clashes.{repeated_member}
 use Rattle.fisca_names.specs.Titles.{Adds}
 use Rattle.fisca_ast.specs.declared.module.Member.{Member}
 use Rattle.fisca_names.proofs.members.repeated_member.Goals as goal

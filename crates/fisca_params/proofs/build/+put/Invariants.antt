@@ -1,6 +1,6 @@
 use Rattle.std.proofs.Common.{◌≡◌, ◌≤◌, drop, length}
 use Rattle.fisca_yaml.specs.Views.{entries_view}
-use Rattle.fisca_params.specs.Tree.{put_children}
+use Rattle.fisca_params.specs.Steps.Tree.{put_children}
 use Rattle.fisca_params.proofs.build.+put.Given as goal
 
 -- what is left, put into the tree so far, gives the whole

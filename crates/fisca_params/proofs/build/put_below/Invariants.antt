@@ -1,7 +1,7 @@
 use Rattle.std.proofs.Common.{◌≡◌, ◌<◌, length}
 use Rattle.fisca_yaml.specs.Views.{node}
 use Rattle.fisca_params.specs.Paths.{names_in}
-use Rattle.fisca_params.specs.Tree.{put_below}
+use Rattle.fisca_params.specs.Steps.Tree.{put_below}
 use Rattle.fisca_params.proofs.build.put_below.Given as goal
 use denote.Text.{Utf8}
 use denote.Shadow.{shadow}

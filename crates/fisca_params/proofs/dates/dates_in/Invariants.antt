@@ -1,5 +1,5 @@
 use Rattle.std.proofs.Common.{◌≡◌, drop, map}
-use Rattle.fisca_params.specs.Content.{read_all}
+use Rattle.fisca_params.specs.Steps.Content.{read_all}
 use Rattle.fisca_params.specs.Written.{seen}
 use Rattle.fisca_params.proofs.Walks.{after}
 use Rattle.fisca_params.proofs.dates.dates_in.Given as goal

@@ -1,7 +1,7 @@
 use Rattle.std.proofs.Common.{◌≡◌, ◌≤◌, drop, length}
 use Rattle.std.specs.List.{filter_map}
-use Rattle.fisca_params.specs.Scale.{complete_at}
-use Rattle.fisca_params.specs.Lowest.{lowest_above}
+use Rattle.fisca_params.specs.Steps.Scale.{complete_at}
+use Rattle.fisca_params.specs.Steps.Lowest.{lowest_above}
 use Rattle.fisca_params.proofs.lowest.lowest_above.Given as goal
 
 -- the lowest of the brackets from `at` on

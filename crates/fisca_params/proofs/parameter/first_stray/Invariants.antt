@@ -1,6 +1,7 @@
 use Rattle.std.proofs.Common.{◌≡◌, drop}
 use Rattle.fisca_yaml.specs.Views.{entries_view}
-use Rattle.fisca_params.specs.Content.{first_line, names_field}
+use Rattle.fisca_params.specs.Content.{first_line}
+use Rattle.fisca_params.specs.Steps.Content.{names_field}
 use Rattle.fisca_params.proofs.parameter.first_stray.Given as goal
 
 abbrev pub invariant-loop-entry : goal.invariant-loop-entry

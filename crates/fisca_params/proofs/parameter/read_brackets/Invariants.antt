@@ -1,6 +1,6 @@
 use Rattle.std.proofs.Common.{◌≡◌, drop}
 use Rattle.fisca_yaml.specs.Views.{items_view}
-use Rattle.fisca_params.specs.Content.{brackets_of}
+use Rattle.fisca_params.specs.Steps.Content.{brackets_of}
 use Rattle.fisca_params.specs.FaultLines.{brackets_line}
 use Rattle.fisca_params.proofs.Walks.{after}
 use Rattle.fisca_params.proofs.parameter.read_brackets.Given as goal

@@ -2,7 +2,7 @@ use Rattle.std.proofs.Common.{◌≡◌, ◌<◌, ◌+◌, ap, sym, ◌∙◌, d
 use Rattle.std.proofs.lemmas.List.{get_or_default}
 use Rattle.std.specs.List.{enumerate_from}
 use Rattle.fisca_params.specs.Source.{Source}
-use Rattle.fisca_params.specs.Files.{in_path_order_with, put_by_path}
+use Rattle.fisca_params.specs.Steps.Files.{in_path_order_with, put_by_path}
 use Rattle.fisca_params.proofs.Ordered.{placed_of, insert-in_order, Kept-insert}
 use Rattle.fisca_params.proofs.read.in_path_order.Goals as goal
 

@@ -1,6 +1,6 @@
 use Rattle.std.proofs.Common.{◌≡◌, drop, map}
 use Rattle.std.specs.List.{enumerate_from}
-use Rattle.fisca_params.specs.Files.{in_path_order, in_path_order_with}
+use Rattle.fisca_params.specs.Steps.Files.{in_path_order, in_path_order_with}
 use Rattle.fisca_params.proofs.Ordered.{Kept, placed_of}
 use Rattle.fisca_params.proofs.read.in_path_order.Given as goal
 

@@ -2,7 +2,7 @@ use Rattle.std.proofs.Common.{◌≡◌, ◌∙◌, rules}
 use Rattle.fisca_yaml.specs.Views.{node}
 use Rattle.fisca_params.specs.Files.{with_file}
 use Rattle.fisca_params.specs.Paths.{names_in}
-use Rattle.fisca_params.specs.Tree.{put_below}
+use Rattle.fisca_params.specs.Steps.Tree.{put_below}
 use Rattle.fisca_params.proofs.Refusals.{refuses-in}
 use Rattle.fisca_params.proofs.read.put_source.Goals as goal
 

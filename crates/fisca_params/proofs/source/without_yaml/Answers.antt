@@ -1,5 +1,5 @@
 use Rattle.std.proofs.Common.{◌≡◌, ap, sym, ◌∙◌, codes, option_map, None}
-use Rattle.fisca_params.specs.Paths.{first_of, without_ending}
+use Rattle.fisca_params.specs.Steps.Paths.{first_of, without_ending}
 use Rattle.fisca_params.proofs.PathTexts.{ending_is}
 use Rattle.fisca_params.proofs.source.without_yaml.Goals as goal
 

@@ -1,6 +1,6 @@
 use Rattle.std.proofs.Common.{◌≡◌, drop}
 use Rattle.fisca_yaml.specs.Views.{entries_view}
-use Rattle.fisca_params.specs.Content.{are_instants}
+use Rattle.fisca_params.specs.Steps.Content.{are_instants}
 use Rattle.fisca_params.proofs.written.are_instants.Given as goal
 
 abbrev pub invariant-loop-entry : goal.invariant-loop-entry

@@ -3,7 +3,8 @@ use Rattle.std.proofs.lemmas.List.{map-append}
 use Rattle.fisca_time.specs.Instant.{CivilDate}
 use Rattle.fisca_yaml.specs.Node.{Node}
 use Rattle.fisca_yaml.specs.Views.{node, entries_view}
-use Rattle.fisca_params.specs.Content.{Written, written_values, written_value, written_if_both, date_of, first_line, onto}
+use Rattle.fisca_params.specs.Content.{Written, written_if_both, date_of, first_line}
+use Rattle.fisca_params.specs.Steps.Content.{written_values, written_value, onto}
 use Rattle.fisca_params.specs.FaultLines.{is_dated}
 use Rattle.fisca_params.specs.Written.{seen}
 use Rattle.fisca_params.proofs.Walks.{entries-drop, after, after-one}

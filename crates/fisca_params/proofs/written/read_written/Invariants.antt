@@ -1,6 +1,7 @@
 use Rattle.std.proofs.Common.{◌≡◌, drop, map}
 use Rattle.fisca_yaml.specs.Views.{entries_view}
-use Rattle.fisca_params.specs.Content.{first_line, written_values}
+use Rattle.fisca_params.specs.Content.{first_line}
+use Rattle.fisca_params.specs.Steps.Content.{written_values}
 use Rattle.fisca_params.specs.FaultLines.{is_dated}
 use Rattle.fisca_params.specs.Written.{seen}
 use Rattle.fisca_params.proofs.Walks.{after}

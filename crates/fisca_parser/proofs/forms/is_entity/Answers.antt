@@ -3,7 +3,7 @@ use Rattle.fisca_ast.specs.Tree.{applied}
 use Rattle.fisca_ast.specs.Views.{series_view, tree}
 use Rattle.fisca_ast.specs.declared.tree.Arguments.{the_lemmas as all_lemmas}
 use Rattle.fisca_ast.specs.declared.tree.Suffix.TheVariants as suffix
-use Rattle.fisca_parser.specs.Forms.{builds_entity, is_the_name}
+use Rattle.fisca_parser.specs.Steps.Forms.{builds_entity, is_the_name}
 use Rattle.fisca_parser.proofs.forms.is_entity.Goals as goal
 
 pub returns-in-Applied-Call-default : goal.returns-in-Applied-Call-default

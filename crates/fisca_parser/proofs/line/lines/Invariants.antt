@@ -1,5 +1,5 @@
 use Rattle.std.proofs.Common.{◌≡◌, ◌++◌, length, reverse}
-use Rattle.fisca_parser.specs.Lines.{lines}
+use Rattle.fisca_parser.specs.Steps.Lines.{lines}
 use Rattle.fisca_parser.proofs.line.lines.Given as goal
 
 abbrev pub invariant-loop-found : goal.invariant-loop-found

@@ -1,5 +1,5 @@
 use Rattle.std.proofs.Common.{◌≡◌, ◌≤◌, ◌++◌, length, take, reverse}
-use Rattle.fisca_parser.specs.Lines.{lines}
+use Rattle.fisca_parser.specs.Steps.Lines.{lines}
 use Rattle.fisca_parser.proofs.line.push_lines.Given as goal
 
 abbrev pub invariant-loop-start : goal.invariant-loop-start

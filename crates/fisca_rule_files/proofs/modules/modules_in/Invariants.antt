@@ -1,6 +1,6 @@
 use Rattle.std.proofs.Common.{◌≡◌, ◌++◌, map}
-use Rattle.fisca_params.specs.Files.{in_path_order}
-use Rattle.fisca_rule_files.specs.Modules.{modules_in}
+use Rattle.fisca_params.specs.Steps.Files.{in_path_order}
+use Rattle.fisca_rule_files.specs.Steps.Modules.{modules_in}
 use Rattle.fisca_rule_files.proofs.modules.modules_in.Given as goal
 
 -- the modules so far, and those of the files that are left

@@ -1,6 +1,6 @@
 use Rattle.std.proofs.Common.{◌≡◌, map, drop}
 use Rattle.fisca_ast.specs.Views.{argument_view}
-use Rattle.fisca_rules.specs.Build.{all_known}
+use Rattle.fisca_rules.specs.Steps.Build.{all_known}
 use Rattle.fisca_rules.proofs.entities.all_known.Given as goal
 
 abbrev pub invariant-loop-argument : goal.invariant-loop-argument

@@ -1,5 +1,5 @@
 use Rattle.std.proofs.Common.{◌≡◌, ◌+◌, ◌≤◌, length, drop}
-use Rattle.fisca_rules.specs.Build.{members_of}
+use Rattle.fisca_rules.specs.Steps.Build.{members_of}
 use Rattle.fisca_rules.proofs.enums.member_count.Given as goal
 
 abbrev pub invariant-loop-member : goal.invariant-loop-member

@@ -5,7 +5,8 @@ use Rattle.std.specs.Vec.Iter.{into_iter_items}
 use Rattle.fisca_names.specs.Names.{names_from, placed_from}
 use Rattle.fisca_ast.specs.ModuleViews.{statements}
 use Rattle.fisca_ast.specs.declared.module.Module.{Module}
-use Rattle.fisca_rules.specs.Build.{found_from, none_yet}
+use Rattle.fisca_rules.specs.Build.{none_yet}
+use Rattle.fisca_rules.specs.Steps.Build.{found_from}
 use Rattle.fisca_rules.specs.Walk.{Reached}
 use Rattle.fisca_rules.proofs.statements.walk_modules.Goals as goal
 

@@ -2,7 +2,7 @@ use Rattle.std.proofs.Common.{◌≡◌, map, rules}
 use Rattle.std.proofs.lemmas.Result.{err_from_is_err_and}
 use Rattle.fisca_names.specs.Names.{placed_from}
 use Rattle.fisca_ast.specs.ModuleViews.{statements}
-use Rattle.fisca_rules.specs.Build.{declared_in}
+use Rattle.fisca_rules.specs.Steps.Build.{declared_in}
 use Rattle.std.specs.Prelude.{Err}
 use Rattle.fisca_rules.proofs.Walk.{declared_same, declared_whole}
 use Rattle.fisca_rules.proofs.tables.tables_found.Goals as goal

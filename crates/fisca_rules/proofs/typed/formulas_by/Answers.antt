@@ -1,7 +1,7 @@
 use Rattle.std.proofs.Common.{arith, ◌∙◌, sym, ap, suc, ◌<◌, ◌≤◌, ◌∷◌, map, drop, drop-cons, length}
 use Rattle.std.proofs.Math.ListN.{drop_of_length-le}
 use Rattle.std.proofs.lemmas.Result.{err_from_is_err_and}
-use Rattle.fisca_rules.specs.Rules.{dated_of}
+use Rattle.fisca_rules.specs.Steps.Rules.{dated_of}
 use Rattle.fisca_rules.specs.Views.{dated}
 use Rattle.fisca_rules.proofs.Lined.{all_made, formulas, refused}
 use Rattle.fisca_rules.proofs.typed.formulas_by.Goals as goal

@@ -1,5 +1,5 @@
 use Rattle.std.proofs.Common.{◌≡◌, [], map, drop}
-use Rattle.fisca_rules.specs.Rules.{dated_of}
+use Rattle.fisca_rules.specs.Steps.Rules.{dated_of}
 use Rattle.fisca_rules.specs.Views.{dated}
 use Rattle.fisca_rules.proofs.Each.{all_behind}
 use Rattle.fisca_rules.proofs.Lined.{formulas}

@@ -1,5 +1,5 @@
 use Rattle.std.proofs.Common.{refl}
-use Rattle.fisca_rules.specs.Rules.{formulas_of}
+use Rattle.fisca_rules.specs.Steps.Rules.{formulas_of}
 use Rattle.fisca_rules.proofs.typed.formulas_of.Goals as goal
 
 pub returns-in-Some : goal.returns-in-Some

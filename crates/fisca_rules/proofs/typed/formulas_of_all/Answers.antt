@@ -4,7 +4,7 @@ use Rattle.std.proofs.lemmas.Result.{err_from_is_err_and}
 use Rattle.std.proofs.lemmas.Slice.Zip.{Zip-more, either_empty_from_Zip}
 use Rattle.std.specs.Iterator.Adapters.{zip_first, zip_second}
 use Rattle.std.specs.Slice.Iter.{iter_rest}
-use Rattle.fisca_rules.specs.Rules.{formulas_of}
+use Rattle.fisca_rules.specs.Steps.Rules.{formulas_of}
 use Rattle.fisca_rules.specs.Views.{dated}
 use Rattle.fisca_rules.proofs.Each.{all_behind, behind_end, behind_fault, behind_next, next_pair, no_pair}
 use Rattle.fisca_rules.proofs.typed.formulas_of_all.Goals as goal

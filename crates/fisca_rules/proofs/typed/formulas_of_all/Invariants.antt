@@ -1,7 +1,7 @@
 use Rattle.std.proofs.Common.{◌≡◌, [], map, zip}
 use Rattle.std.specs.Iterator.Adapters.{zip_first, zip_second}
 use Rattle.std.specs.Slice.Iter.{iter_rest}
-use Rattle.fisca_rules.specs.Rules.{formulas_of}
+use Rattle.fisca_rules.specs.Steps.Rules.{formulas_of}
 use Rattle.fisca_rules.specs.Views.{dated}
 use Rattle.fisca_rules.proofs.Each.{all_behind}
 use Rattle.fisca_rules.proofs.typed.formulas_of_all.Given as goal

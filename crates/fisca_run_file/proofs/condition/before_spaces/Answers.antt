@@ -1,6 +1,6 @@
 use Rattle.std.proofs.Common.{◌∙◌, ap, sym, lit<, rules, None, Some}
 use Rattle.std.proofs.lemmas.Str.Pattern.{strip_suffix_char}
-use Rattle.fisca_run_file.specs.Conditions.{before_spaces}
+use Rattle.fisca_run_file.specs.Steps.Conditions.{before_spaces}
 use Rattle.fisca_run_file.proofs.Spaces.{none_passed, space_passed}
 use Rattle.fisca_run_file.proofs.condition.before_spaces.Goals as goal
 

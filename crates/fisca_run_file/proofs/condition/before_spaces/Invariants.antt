@@ -1,7 +1,7 @@
 use Rattle.std.proofs.Common.{◌≡◌, length}
 use denote.Shadow.{shadow}
 use denote.Text.{Utf8}
-use Rattle.fisca_run_file.specs.Conditions.{before_spaces}
+use Rattle.fisca_run_file.specs.Steps.Conditions.{before_spaces}
 use Rattle.fisca_run_file.proofs.condition.before_spaces.Given as goal
 
 abbrev pub invariant-spaces : goal.invariant-spaces

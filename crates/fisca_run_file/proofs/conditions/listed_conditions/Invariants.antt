@@ -1,7 +1,7 @@
 use Rattle.std.proofs.Common.{◌≡◌, [], drop}
-use Rattle.fisca_situations.specs.Views.{situation}
+use Rattle.fisca_situations.specs.Steps.Views.{situation}
 use Rattle.fisca_yaml.specs.Views.{items_view}
-use Rattle.fisca_run_file.specs.Conditions.{with_conditions}
+use Rattle.fisca_run_file.specs.Steps.Conditions.{with_conditions}
 use Rattle.fisca_run_file.proofs.conditions.listed_conditions.Given as goal
 
 abbrev pub invariant-loop-item : goal.invariant-loop-item

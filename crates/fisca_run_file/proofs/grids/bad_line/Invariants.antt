@@ -1,5 +1,5 @@
 use Rattle.std.proofs.Common.{◌≡◌, drop}
-use Rattle.fisca_run_file.specs.Grids.{bad_line}
+use Rattle.fisca_run_file.specs.Steps.Grids.{bad_line}
 use Rattle.fisca_run_file.specs.Views.{said_list}
 use Rattle.fisca_run_file.proofs.grids.bad_line.Given as goal
 

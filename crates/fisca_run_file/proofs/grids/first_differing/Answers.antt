@@ -3,7 +3,7 @@ use Rattle.std.specs.Option.{option_or}
 use Rattle.fisca_grid.specs.Grid.{groups_of}
 use Rattle.fisca_grid.proofs.Groups.{left_grouped}
 use Rattle.fisca_run_file.proofs.Lefts.{left_differing}
-use Rattle.fisca_run_file.specs.Grids.{differing_line, first_differing}
+use Rattle.fisca_run_file.specs.Steps.Grids.{differing_line, first_differing}
 use Rattle.fisca_run_file.specs.Views.{said_list}
 use Rattle.fisca_run_file.proofs.grids.first_differing.Goals as goal
 

@@ -1,6 +1,6 @@
 use Rattle.std.proofs.Common.{◌≡◌, drop, sum, length}
 use Rattle.fisca_grid.specs.Grid.{groups_of}
-use Rattle.fisca_run_file.specs.Grids.{first_differing}
+use Rattle.fisca_run_file.specs.Steps.Grids.{first_differing}
 use Rattle.fisca_run_file.specs.Views.{said_list}
 use Rattle.fisca_run_file.proofs.grids.first_differing.Given as goal
 

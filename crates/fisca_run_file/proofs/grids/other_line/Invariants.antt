@@ -1,5 +1,5 @@
 use Rattle.std.proofs.Common.{◌≡◌, drop}
-use Rattle.fisca_run_file.specs.Grids.{other_line}
+use Rattle.fisca_run_file.specs.Steps.Grids.{other_line}
 use Rattle.fisca_run_file.specs.Views.{said_list}
 use Rattle.fisca_run_file.proofs.grids.other_line.Given as goal
 

@@ -1,5 +1,5 @@
 use Rattle.std.proofs.Common.{◌≡◌, take}
-use Rattle.fisca_run_file.specs.Grids.{specs_of}
+use Rattle.fisca_run_file.specs.Steps.Grids.{specs_of}
 use Rattle.fisca_run_file.specs.Views.{said_list}
 use Rattle.fisca_run_file.proofs.grids.specs_of.Given as goal
 

@@ -1,5 +1,5 @@
 use Rattle.std.proofs.Common.{◌≡◌, ◌++◌, drop}
-use Rattle.fisca_run_file.specs.Positions.{with_values}
+use Rattle.fisca_run_file.specs.Steps.Positions.{with_values}
 use Rattle.fisca_run_file.proofs.positions.put_values.Given as goal
 
 -- those so far, and those that are left

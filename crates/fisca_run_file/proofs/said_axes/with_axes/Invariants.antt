@@ -1,6 +1,6 @@
 use Rattle.std.proofs.Common.{◌≡◌, ◌+◌, drop, length}
 use Rattle.fisca_yaml.specs.Views.{items_view}
-use Rattle.fisca_run_file.specs.SaidAxes.{with_axes}
+use Rattle.fisca_run_file.specs.Steps.SaidAxes.{with_axes}
 use Rattle.fisca_run_file.specs.Views.{said_list}
 use Rattle.fisca_run_file.proofs.said_axes.with_axes.Given as goal
 

@@ -1,6 +1,6 @@
 use Rattle.std.proofs.Common.{◌≡◌, drop}
 use Rattle.fisca_yaml.specs.Views.{items_view}
-use Rattle.fisca_run_file.specs.SaidAxes.{with_groups}
+use Rattle.fisca_run_file.specs.Steps.SaidAxes.{with_groups}
 use Rattle.fisca_run_file.specs.Views.{said_axes}
 use Rattle.fisca_run_file.proofs.said_axes.with_groups.Given as goal
 

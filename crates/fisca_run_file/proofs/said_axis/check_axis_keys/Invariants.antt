@@ -1,6 +1,6 @@
 use Rattle.std.proofs.Common.{◌≡◌, drop}
 use Rattle.fisca_yaml.specs.Views.{entries_view}
-use Rattle.fisca_run_file.specs.SaidAxes.{axis_keys_checked}
+use Rattle.fisca_run_file.specs.Steps.SaidAxes.{axis_keys_checked}
 use Rattle.fisca_run_file.proofs.said_axis.check_axis_keys.Given as goal
 
 abbrev pub invariant-loop-entry : goal.invariant-loop-entry

@@ -1,6 +1,6 @@
 use Rattle.std.proofs.Common.{◌≡◌, drop, map, option_map}
 use Rattle.fisca_rules.specs.Views.{dated}
-use Rattle.fisca_simulation.specs.InForce.{in_force, latest_of}
+use Rattle.fisca_simulation.specs.Steps.InForce.{in_force, latest_of}
 use Rattle.fisca_simulation.proofs.formulas.in_force.Given as goal
 
 -- what is found so far, and the formulas that are left

@@ -1,6 +1,6 @@
 use Rattle.std.proofs.Common.{◌≡◌, drop}
 use Rattle.fisca_yaml.specs.Views.{entries_view}
-use Rattle.fisca_situations.specs.Reading.{all_dated}
+use Rattle.fisca_situations.specs.Steps.Reading.{all_dated}
 use Rattle.fisca_situations.specs.Views.{place}
 use Rattle.fisca_situations.proofs.given.all_dated.Given as goal
 

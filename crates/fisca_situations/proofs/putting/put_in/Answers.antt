@@ -1,7 +1,7 @@
 use Rattle.std.proofs.Common.{◌≡◌, ◌<◌, ◌≤◌, ◌∷◌, ◌++◌, ◌∙◌, [], List, length, get_or, sym, ap, add-one, arith}
 use Rattle.std.proofs.Math.ListN.{set}
 use Rattle.fisca_inputs.specs.declared.given.Given.{Given}
-use Rattle.fisca_situations.specs.Axes.{put_in}
+use Rattle.fisca_situations.specs.Steps.Axes.{put_in}
 use Rattle.fisca_situations.proofs.Puts.{put_here, put_past, put_behind}
 use Rattle.fisca_situations.proofs.putting.put_in.Goals as goal
 

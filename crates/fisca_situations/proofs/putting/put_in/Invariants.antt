@@ -1,5 +1,5 @@
 use Rattle.std.proofs.Common.{◌≡◌, ◌++◌, drop, take}
-use Rattle.fisca_situations.specs.Axes.{put_in}
+use Rattle.fisca_situations.specs.Steps.Axes.{put_in}
 use Rattle.fisca_situations.proofs.putting.put_in.Given as goal
 
 -- none so far is the same

@@ -1,6 +1,6 @@
 use Rattle.std.proofs.Common.{◌≡◌, drop}
 use Rattle.fisca_yaml.specs.Views.{entries_view}
-use Rattle.fisca_situations.specs.Reading.{members_given}
+use Rattle.fisca_situations.specs.Steps.Reading.{members_given}
 use Rattle.fisca_situations.proofs.sections.members_given.Given as goal
 
 abbrev pub invariant-loop-member : goal.invariant-loop-member

@@ -1,6 +1,6 @@
 use Rattle.std.proofs.Common.{◌≡◌, drop, map}
 use Rattle.fisca_members.specs.Views.{section}
-use Rattle.fisca_situations.specs.Reading.{sections_given}
+use Rattle.fisca_situations.specs.Steps.Reading.{sections_given}
 use Rattle.fisca_situations.proofs.sections.sections_given.Given as goal
 
 abbrev pub invariant-loop-section : goal.invariant-loop-section

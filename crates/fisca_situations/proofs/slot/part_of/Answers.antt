@@ -3,7 +3,7 @@ use Rattle.std.specs.Prelude.{◌==◌}
 use Rattle.std.proofs.lemmas.Bool.{eqb-true}
 use Rattle.std.proofs.lemmas.Int.{ints}
 use Rattle.fisca_inputs.proofs.Parting.{part_by, whole_there}
-use Rattle.fisca_inputs.specs.Sharing.{part_ratio}
+use Rattle.fisca_inputs.specs.Steps.Sharing.{part_ratio}
 use Rattle.fisca_num.specs.Operations.{number_of, number_over}
 use Rattle.fisca_num.specs.declared.faults.NumFault.TheVariants.{ZeroDivisor}
 use Rattle.fisca_situations.proofs.slot.part_of.Goals as goal

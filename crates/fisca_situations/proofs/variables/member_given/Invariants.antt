@@ -1,6 +1,6 @@
 use Rattle.std.proofs.Common.{◌≡◌, drop}
 use Rattle.fisca_yaml.specs.Views.{entries_view}
-use Rattle.fisca_situations.specs.Reading.{member_given}
+use Rattle.fisca_situations.specs.Steps.Reading.{member_given}
 use Rattle.fisca_situations.proofs.variables.member_given.Given as goal
 
 abbrev pub invariant-loop-entry : goal.invariant-loop-entry

@@ -1,7 +1,7 @@
 use Rattle.std.proofs.Common.{◌≡◌, ℕ, List, drop, option_map}
 use Rattle.std.specs.List.{position_from}
 use Rattle.std.specs.Str.{bytes_eq}
-use Rattle.fisca_symbols.specs.Spelling.{spelled}
+use Rattle.fisca_symbols.specs.Steps.Spelling.{spelled}
 use Rattle.fisca_model.specs.Tables.{otherwise, place_in, subrole_of}
 use Rattle.indexmap.specs.IndexMap.{get}
 use Rattle.fisca_symbols.proofs.role.note_subroles.Given as goal

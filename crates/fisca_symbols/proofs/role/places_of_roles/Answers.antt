@@ -4,7 +4,7 @@ use Rattle.std.specs.Str.{bytes_eq}
 use Rattle.fisca_symbols.proofs.Noted.{noted_role}
 use Rattle.fisca_symbols.specs.declared.role.Role.{Role}
 use Rattle.fisca_symbols.specs.KnownRoles.{role, roles}
-use Rattle.fisca_symbols.specs.Spelling.{spelled}
+use Rattle.fisca_symbols.specs.Steps.Spelling.{spelled}
 use Rattle.fisca_model.specs.Tables.{otherwise, role_from}
 use Rattle.indexmap.specs.IndexMap.{get}
 use Rattle.fisca_symbols.proofs.role.places_of_roles.Goals as goal

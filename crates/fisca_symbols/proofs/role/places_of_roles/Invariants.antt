@@ -1,7 +1,7 @@
 use Rattle.std.proofs.Common.{◌≡◌, ℕ, List, drop}
 use Rattle.std.specs.Str.{bytes_eq}
 use Rattle.fisca_symbols.specs.KnownRoles.{roles}
-use Rattle.fisca_symbols.specs.Spelling.{spelled}
+use Rattle.fisca_symbols.specs.Steps.Spelling.{spelled}
 use Rattle.fisca_model.specs.Tables.{otherwise, role_from}
 use Rattle.indexmap.specs.IndexMap.{get}
 use Rattle.fisca_symbols.proofs.role.places_of_roles.Given as goal

@@ -2,7 +2,7 @@ use Rattle.std.proofs.Common.{◌≡◌, ◌+◌, ◌≤◌, length}
 use denote.Text.{Utf8}
 use denote.Shadow.{shadow}
 use Rattle.std.specs.Str.Lines.{lines}
-use Rattle.fisca_yaml.specs.Rows.{rows}
+use Rattle.fisca_yaml.specs.Steps.Rows.{rows}
 use Rattle.fisca_yaml.proofs.lines.next_line.Given as goal
 
 abbrev pub invariant-lines : goal.invariant-lines

@@ -1,5 +1,5 @@
 use Rattle.std.proofs.Common.{◌≡◌, drop}
-use Rattle.fisca_yaml.specs.Rows.{is_empty_line}
+use Rattle.fisca_yaml.specs.Steps.Rows.{is_empty_line}
 use Rattle.fisca_yaml.proofs.marks.is_empty_line.Given as goal
 
 abbrev pub invariant-loop-b : goal.invariant-loop-b

@@ -1,6 +1,6 @@
 use Rattle.std.proofs.Common.{◌≡◌, ◌≤◌, ◌-◌, length, drop, false, nat_lt}
 use Rattle.std.specs.Str.{IsCharBoundary}
-use Rattle.fisca_yaml.specs.Scalars.{past_blanks}
+use Rattle.fisca_yaml.specs.Steps.Scalars.{past_blanks}
 use Rattle.fisca_yaml.proofs.marks.past_blanks.Given as goal
 
 abbrev pub invariant-blanks : goal.invariant-blanks

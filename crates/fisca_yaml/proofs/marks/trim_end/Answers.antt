@@ -1,7 +1,7 @@
 use Rattle.std.proofs.Common.{◌≡◌, ◌+◌, ◌-◌, ◌<◌, arith, ◌∙◌, true, false, get_or, take, sym, ap}
 use Rattle.std.proofs.lemmas.Grind.{common_steps}
-use Rattle.fisca_yaml.specs.Rows.{is_blank}
-use Rattle.fisca_yaml.specs.Scalars.{trim_end}
+use Rattle.fisca_yaml.specs.Steps.Rows.{is_blank}
+use Rattle.fisca_yaml.specs.Steps.Scalars.{trim_end}
 use Rattle.fisca_yaml.proofs.Steps.{trim_less, trim_done, blank_ascii}
 use Rattle.fisca_yaml.proofs.marks.trim_end.Goals as goal
 use Rattle.fisca_yaml.proofs.marks.trim_end.Goals.{then-blanks-test+else-is_blank, else-blanks-test}

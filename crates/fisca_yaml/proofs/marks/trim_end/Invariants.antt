@@ -1,6 +1,6 @@
 use Rattle.std.proofs.Common.{◌≡◌, ◌≤◌, length, take}
 use Rattle.std.specs.Str.{IsCharBoundary}
-use Rattle.fisca_yaml.specs.Scalars.{trim_end}
+use Rattle.fisca_yaml.specs.Steps.Scalars.{trim_end}
 use Rattle.fisca_yaml.proofs.marks.trim_end.Given as goal
 
 abbrev pub invariant-blanks : goal.invariant-blanks

@@ -1,7 +1,7 @@
 use Rattle.std.proofs.Common.{◌≡◌, ◌+◌, arith, ◌∙◌, refl, true, get_or}
 use Rattle.std.proofs.lemmas.Str.{IsCharBoundary-after_ascii, IsCharBoundary-start}
 use Rattle.std.specs.Str.{IsCharBoundary}
-use Rattle.fisca_yaml.specs.Grouping.{is_sign}
+use Rattle.fisca_yaml.specs.Steps.Grouping.{is_sign}
 use Rattle.fisca_yaml.proofs.Steps.{header_more, sign_ascii}
 use Rattle.fisca_yaml.proofs.value.is_header.Goals as goal
 

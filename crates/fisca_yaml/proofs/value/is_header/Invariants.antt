@@ -1,6 +1,6 @@
 use Rattle.std.proofs.Common.{◌≡◌, ◌≤◌, ◌-◌, length, drop}
 use Rattle.std.specs.Str.{IsCharBoundary}
-use Rattle.fisca_yaml.specs.Grouping.{is_header}
+use Rattle.fisca_yaml.specs.Steps.Grouping.{is_header}
 use Rattle.fisca_yaml.proofs.value.is_header.Given as goal
 
 abbrev pub invariant-signs : goal.invariant-signs

@@ -1,5 +1,5 @@
 use Rattle.std.proofs.Common.{sym, subst}
-use Rattle.fisca_situations.specs.Views.{situation}
+use Rattle.fisca_situations.specs.Steps.Views.{situation}
 use Rattle.fisca_rules.specs.Views.{rule_set}
 use Rattle.fisca_simulation.specs.Simulations.{sources}
 use Rattle.fisca_evaluator.proofs.Memories.{empty_memory}

@@ -14,20 +14,20 @@ returns-in_err-known-clause-answer g c =
     let m = simulation_of c.args.self.now in
     let k = normal_key m.rules (key_seen c.args.key) in
     let p = err_from_is_err_and c.from_residual.result c.from_residual.ensures.1 in
-    let h = rw (c.clear-2.ensures.items, c.scene_of-scene.ensures.seen, c.own_key-own.ensures) at c.in_err-known.ensures.fault in
+    let h = rw (c.clear-2.ensures.items, c.evaluation_of-evaluation.ensures.seen, c.own_key-own.ensures) at c.in_err-known.ensures.fault in
     rw (p.1, p.2) (subst (IsTold (told c.in_err-known.field-0.0)) (sym (answer_alone (sources m) k)) h)
 
 pub returns-in_err-known-clause-work : goal.returns-in_err-known-clause-work
 returns-in_err-known-clause-work g c =
     let p = err_from_is_err_and c.from_residual.result c.from_residual.ensures.1 in
-    let h = rw (c.clear-2.ensures.items, c.scene_of-scene.ensures.seen, c.own_key-own.ensures) at c.in_err-known.ensures.stopped in
+    let h = rw (c.clear-2.ensures.items, c.evaluation_of-evaluation.ensures.seen, c.own_key-own.ensures) at c.in_err-known.ensures.stopped in
     rw (p.1, p.2) (λ away. unless_memory c.in_err-known.field-0.0 _ h away)
 
 pub returns-in-Some-clause-answer : goal.returns-in-Some-clause-answer
 returns-in-Some-clause-answer g c =
     let m = simulation_of c.args.self.now in
     let k = normal_key m.rules (key_seen c.args.key) in
-    let h = rw (c.clear-2.ensures.items, c.scene_of-scene.ensures.seen, c.own_key-own.ensures) at c.in_ok-known.ensures.known in
+    let h = rw (c.clear-2.ensures.items, c.evaluation_of-evaluation.ensures.seen, c.own_key-own.ensures) at c.in_ok-known.ensures.known in
     answer_alone (sources m) k ∙ known_answer (sources m) [] k (value_seen c.in_ok-known.known.value) c.in_ok-known.known.height h
 
 pub returns-in_err-known-2-clause-answer : goal.returns-in_err-known-2-clause-answer
@@ -35,12 +35,12 @@ returns-in_err-known-2-clause-answer g c =
     let m = simulation_of c.args.self.now in
     let k = normal_key m.rules (key_seen c.args.key) in
     let p = err_from_is_err_and c.from_residual-in_err-known-2.result c.from_residual-in_err-known-2.ensures.1 in
-    let h = rw (c.clear-2.ensures.items, c.scene_of-scene.ensures.seen, c.own_key-own.ensures) at c.in_err-known-2.ensures.fault in
+    let h = rw (c.clear-2.ensures.items, c.evaluation_of-evaluation.ensures.seen, c.own_key-own.ensures) at c.in_err-known-2.ensures.fault in
     rw (p.1, p.2) (subst (IsTold (told c.in_err-known-2.field-0.0)) (sym (answer_alone (sources m) k)) h)
 
 pub returns-clause-answer : goal.returns-clause-answer
 returns-clause-answer g c =
     let m = simulation_of c.args.self.now in
     let k = normal_key m.rules (key_seen c.args.key) in
-    let h = rw (c.clear-2.ensures.items, c.scene_of-scene.ensures.seen, c.own_key-own.ensures) at c.in_ok-known-2.ensures.known in
+    let h = rw (c.clear-2.ensures.items, c.evaluation_of-evaluation.ensures.seen, c.own_key-own.ensures) at c.in_ok-known-2.ensures.known in
     answer_alone (sources m) k ∙ known_answer (sources m) [] k (value_seen c.in_ok-known-2.known.value) c.in_ok-known-2.known.height h

@@ -1,7 +1,7 @@
 use Rattle.std.proofs.Common.{◌≡◌, ◌≢◌, refl, rules}
 use Rattle.std.specs.Prelude.{Err}
-use Rattle.fisca_inputs.specs.Entries.{put_free, put_all}
-use Rattle.fisca_inputs.specs.Sharing.{parts_by}
+use Rattle.fisca_inputs.specs.Steps.Entries.{put_free, put_all}
+use Rattle.fisca_inputs.specs.Steps.Sharing.{parts_by}
 use Rattle.fisca_inputs.specs.declared.fault.SituationKind.TheVariants.{Memory}
 use Rattle.fisca_inputs.proofs.Steps.{goes_on, stops}
 use Rattle.fisca_inputs.proofs.inputs.Inputs.put_all.Goals as goal

@@ -1,6 +1,6 @@
 use Rattle.std.proofs.Common.{◌≡◌, drop}
-use Rattle.fisca_inputs.specs.Entries.{put_all}
-use Rattle.fisca_inputs.specs.Sharing.{parts_by}
+use Rattle.fisca_inputs.specs.Steps.Entries.{put_all}
+use Rattle.fisca_inputs.specs.Steps.Sharing.{parts_by}
 use Rattle.fisca_inputs.proofs.inputs.Inputs.put_all.Given as goal
 
 -- what is left, put into what there is, gives the whole

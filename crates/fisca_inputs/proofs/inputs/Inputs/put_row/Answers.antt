@@ -1,8 +1,9 @@
 use Rattle.std.proofs.Common.{◌≡◌, ◌≢◌, ◌≤◌, length, refl, sym, ap, ◌∙◌, arith, rules}
 use Rattle.std.proofs.lemmas.List.{drop_all}
 use Rattle.std.specs.Prelude.{Err}
-use Rattle.fisca_inputs.specs.Defaults.{first_line, row_of}
-use Rattle.fisca_inputs.specs.Entries.{key, put_free, put_all}
+use Rattle.fisca_inputs.specs.Steps.Defaults.{first_line, row_of}
+use Rattle.fisca_inputs.specs.Entries.{key}
+use Rattle.fisca_inputs.specs.Steps.Entries.{put_free, put_all}
 use Rattle.fisca_inputs.specs.declared.fault.SituationKind.TheVariants.{Memory}
 use Rattle.fisca_inputs.proofs.First.{from_first}
 use Rattle.fisca_inputs.proofs.Rows.{row_at, length-row}

@@ -1,6 +1,6 @@
 use Rattle.std.proofs.Common.{◌≡◌, drop}
-use Rattle.fisca_inputs.specs.Defaults.{first_line, row_of}
-use Rattle.fisca_inputs.specs.Entries.{put_all}
+use Rattle.fisca_inputs.specs.Steps.Defaults.{first_line, row_of}
+use Rattle.fisca_inputs.specs.Steps.Entries.{put_all}
 use Rattle.fisca_inputs.proofs.inputs.Inputs.put_row.Given as goal
 
 -- what is left, put into what there is, gives the whole

@@ -1,6 +1,7 @@
 use Rattle.std.proofs.Common.{rules, arith, ap, ◌∙◌, ◌+◌, drop}
 use Rattle.fisca_inputs.specs.declared.sharing.Rest.{Rest}
-use Rattle.fisca_inputs.specs.Sharing.{parts_by, rest_of, count_free}
+use Rattle.fisca_inputs.specs.Sharing.{rest_of, count_free}
+use Rattle.fisca_inputs.specs.Steps.Sharing.{parts_by}
 use Rattle.fisca_inputs.proofs.Rests.{rest_less, rest_same, rest_stops, count_same, count_more}
 use Rattle.fisca_inputs.proofs.inputs.Inputs.rest.Goals as goal
 use Rattle.fisca_inputs.proofs.inputs.Inputs.rest.Goals.{in-Some+in_ok-rest-in-Some, in-None}

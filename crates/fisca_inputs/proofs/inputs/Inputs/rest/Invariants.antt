@@ -1,5 +1,6 @@
 use Rattle.std.proofs.Common.{◌≡◌, ◌≤◌, ◌+◌, drop}
-use Rattle.fisca_inputs.specs.Sharing.{parts_by, rest_of, count_free}
+use Rattle.fisca_inputs.specs.Sharing.{rest_of, count_free}
+use Rattle.fisca_inputs.specs.Steps.Sharing.{parts_by}
 use Rattle.fisca_inputs.proofs.inputs.Inputs.rest.Given as goal
 
 -- the parts from here on, with what is left and counted so far

@@ -1,7 +1,7 @@
 use Rattle.std.proofs.Common.{◌≡◌, Option, Some, None, false, sym, ◌∙◌}
 use Rattle.std.specs.Prelude.{MatchOption, ℕ}
 use Rattle.std.specs.Option.{is_some}
-use Rattle.fisca_inputs.specs.Entries.{has}
+use Rattle.fisca_inputs.specs.Steps.Entries.{has}
 use Rattle.fisca_inputs.specs.Places.{StandsAt}
 use Rattle.fisca_inputs.proofs.Numbered.{has_stands}
 use Rattle.fisca_inputs.proofs.table.Table.has.Goals as goal

@@ -1,5 +1,5 @@
 use Rattle.std.proofs.Common.{not, arith}
-use Rattle.fisca_inputs.specs.Inputs.{is_marked}
+use Rattle.fisca_inputs.specs.Steps.Inputs.{is_marked}
 use Rattle.fisca_inputs.proofs.Numbered.{left_fewer, left_free, left_noted, left_numbered, left_occupied, left_once}
 use Rattle.fisca_inputs.proofs.table.Table.take_out.Goals as goal
 

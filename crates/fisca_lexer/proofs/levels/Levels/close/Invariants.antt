@@ -1,5 +1,5 @@
 use Rattle.std.proofs.Common.{◌≡◌, length}
-use Rattle.fisca_lexer.specs.Layout.{within}
+use Rattle.fisca_lexer.specs.Steps.Layout.{within}
 use Rattle.fisca_lexer.proofs.levels.Levels.close.Given as goal
 
 abbrev pub invariant-loop-self : goal.invariant-loop-self

@@ -5,9 +5,9 @@ use Rattle.fisca_machine.proofs.machine.Machine.run.Given as goal
 
 abbrev pub invariant-loop-now : goal.invariant-loop-now
 invariant-loop-now l = record {
-  same : resume l.world l.self l.now ≡ resume l.world l.initial.self l.initial.now;
-  waits : waiting l.world l.self ≡ waiting l.world l.initial.self;
+  same : resume l.context l.self l.now ≡ resume l.context l.initial.self l.initial.now;
+  waits : waiting l.context l.self ≡ waiting l.context l.initial.self;
 }
 
 abbrev pub decreases-loop-now : goal.decreases-loop-now
-decreases-loop-now l = load l.world l.self l.now
+decreases-loop-now l = load l.context l.self l.now

@@ -1,7 +1,8 @@
 use Rattle.std.proofs.Common.{◌∙◌, ℕ, List, ◌∷◌, refl, sym, ap, subst}
 use Rattle.std.proofs.lemmas.Result.{IfOk-weaker}
 use Rattle.fisca_names.proofs.Clash.{clash_of_titles, entity_named_again, entity_notes}
-use Rattle.fisca_names.specs.Clashes.{names_of, titles, titles_clash}
+use Rattle.fisca_names.specs.Clashes.{names_of, titles}
+use Rattle.fisca_names.specs.Steps.Clashes.{titles_clash}
 use Rattle.fisca_names.specs.Seen.{Notes, NotesNames, NotesTitles, all_titles_within, has_name, has_title, has_variable}
 use Rattle.fisca_names.specs.declared.seen.Seen.{Seen}
 use Rattle.fisca_ast.specs.Modules.{Assigned, entity}

@@ -2,7 +2,7 @@ use Rattle.std.proofs.Common.{◌≡◌, ◌∙◌, ℕ, List, [], ◌∷◌, re
 use Rattle.std.proofs.lemmas.Result.{IfOk-weaker}
 use Rattle.std.specs.Str.{bytes_eq}
 use Rattle.fisca_names.proofs.Clash.{choices_clash, choices_tell}
-use Rattle.fisca_names.specs.Clashes.{repeated_member}
+use Rattle.fisca_names.specs.Steps.Clashes.{repeated_member}
 use Rattle.fisca_names.specs.Seen.{TellsOne, has_name}
 use Rattle.fisca_names.specs.Titles.{Adds}
 use Rattle.fisca_names.specs.declared.seen.Seen.{Seen}

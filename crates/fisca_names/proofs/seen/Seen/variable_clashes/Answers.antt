@@ -3,7 +3,8 @@ use Rattle.std.specs.Prelude.{map}
 use Rattle.std.specs.Str.{bytes_eq}
 use Rattle.fisca_names.proofs.Clash.{clash_of_names, variable_met_here, variable_notes}
 use Rattle.fisca_names.proofs.Some.{or_none}
-use Rattle.fisca_names.specs.Seen.{entity_named, has_name, has_title, has_variable, same_within}
+use Rattle.fisca_names.specs.Seen.{has_name, has_title, has_variable, same_within}
+use Rattle.fisca_names.specs.Steps.Seen.{entity_named}
 use Rattle.fisca_names.specs.Titles.{Adds}
 use Rattle.fisca_names.specs.declared.seen.Seen.{Seen}
 use Rattle.fisca_names.specs.declared.within.Within.{Within}

@@ -1,6 +1,6 @@
 use Rattle.std.proofs.Common.{◌≡◌, arith, ap}
 use Rattle.std.proofs.lemmas.Int.{ints}
-use Rattle.fisca_num.specs.Number.{same_number, opposite_of}
+use Rattle.fisca_num.specs.Number.{same_number, negation_of}
 use Rattle.fisca_num.proofs.Cut.{lowest_negated, within_negated}
 use Rattle.fisca_num.proofs.fractions.Fraction.neg.Goals as goal
 
@@ -13,4 +13,4 @@ invariant_of-result c = (
 pub returns : goal.returns
 returns c =
     let e : c.self.inside.numerator ≡ c.args.self.numerator = ap (λ n. n.numerator) c.self.view_is in
-    same_number _ (opposite_of c.args.self) (omega (arith, ints)) (ap (λ n. n.denominator) c.self.view_is)
+    same_number _ (negation_of c.args.self) (omega (arith, ints)) (ap (λ n. n.denominator) c.self.view_is)

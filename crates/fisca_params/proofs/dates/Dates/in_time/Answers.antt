@@ -1,6 +1,7 @@
 use Rattle.std.proofs.Common.{rules, ◌≡◌, ◌∷◌, ◌∙◌, true, sym, ap, map, drop, drop-cons, add-one, suc, get_or, arith}
 use Rattle.std.proofs.lemmas.Fn.{always_returns_same}
-use Rattle.fisca_params.specs.Dates.{in_time_with, put_in_time, is_before, is_in_order}
+use Rattle.fisca_params.specs.Dates.{is_before, is_in_order}
+use Rattle.fisca_params.specs.Steps.Dates.{in_time_with, put_in_time}
 use Rattle.fisca_params.specs.Written.{numbered_pair}
 use Rattle.fisca_params.proofs.DateMaps.{in_order-answer, in_time-in_order, map-put}
 use Rattle.fisca_params.proofs.dates.Dates.in_time.Goals as goal

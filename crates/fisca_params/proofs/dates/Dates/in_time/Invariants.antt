@@ -1,5 +1,5 @@
 use Rattle.std.proofs.Common.{◌≡◌, drop, map}
-use Rattle.fisca_params.specs.Dates.{in_time, in_time_with}
+use Rattle.fisca_params.specs.Steps.Dates.{in_time, in_time_with}
 use Rattle.fisca_params.specs.Written.{numbered_pair}
 use Rattle.fisca_params.proofs.dates.Dates.in_time.Given as goal
 

@@ -1,7 +1,8 @@
 use Rattle.std.proofs.Common.{◌≡◌, ap, sym, ◌∙◌, List}
 use Rattle.std.specs.List.{filter_map}
 use Rattle.fisca_params.specs.declared.bracket.Bracket.{Bracket}
-use Rattle.fisca_params.specs.Scale.{complete_at, sum_of_sorted, in_order}
+use Rattle.fisca_params.specs.Scale.{sum_of_sorted, in_order}
+use Rattle.fisca_params.specs.Steps.Scale.{complete_at}
 use Rattle.fisca_params.proofs.Thresholds.{sum-distinct, sum-rising}
 use Rattle.fisca_params.proofs.scale.Scale.sum.Goals as goal
 

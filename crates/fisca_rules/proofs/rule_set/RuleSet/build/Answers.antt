@@ -1,7 +1,7 @@
 use Rattle.std.proofs.lemmas.Result.{err_from_is_err_and}
 use Rattle.std.proofs.Common.{◌≡◌, Err, Ok, map, subst}
 use Rattle.fisca_declarations.specs.VariableForms.{written}
-use Rattle.fisca_rules.specs.Rules.{all_formulas}
+use Rattle.fisca_rules.specs.Steps.Rules.{all_formulas}
 use Rattle.fisca_rules.specs.Views.{dated}
 use Rattle.fisca_symbols.specs.Known.{tables as known}
 use Rattle.fisca_ast.specs.ModuleViews.{statements}

@@ -1,5 +1,5 @@
 use Rattle.std.proofs.Common.{◌≡◌, ℕ, List, length, take, drop, true, false, sym, ap, ◌∙◌, arith}
-use Rattle.fisca_yaml.specs.Scalars.{may_begin, trim_end}
+use Rattle.fisca_yaml.specs.Steps.Scalars.{may_begin, trim_end}
 use Rattle.fisca_yaml.specs.Flow.{plain_flow, word, past_word}
 use Rattle.fisca_yaml.proofs.Steps.{plain_some}
 use Rattle.fisca_yaml.proofs.flow.Flow.take_plain.Goals as goal

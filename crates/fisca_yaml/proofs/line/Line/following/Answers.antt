@@ -1,7 +1,7 @@
 use Rattle.std.proofs.Common.{◌≡◌, ◌+◌, arith, ◌∙◌, true, get_or, sym}
 use Rattle.std.proofs.lemmas.Str.{IsCharBoundary-after_ascii, IsCharBoundary-start}
 use Rattle.std.specs.Str.{IsCharBoundary}
-use Rattle.fisca_yaml.specs.Rows.{is_blank}
+use Rattle.fisca_yaml.specs.Steps.Rows.{is_blank}
 use Rattle.fisca_yaml.proofs.Steps.{following_more, following_none, blank_ascii}
 use Rattle.fisca_yaml.proofs.line.Line.following.Goals as goal
 

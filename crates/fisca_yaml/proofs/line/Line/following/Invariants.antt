@@ -1,6 +1,6 @@
 use Rattle.std.proofs.Common.{length, ◌-◌, ◌+◌, ◌≡◌, ◌≤◌, drop}
 use Rattle.std.specs.Str.{IsCharBoundary}
-use Rattle.fisca_yaml.specs.Rows.{following}
+use Rattle.fisca_yaml.specs.Steps.Rows.{following}
 use Rattle.fisca_yaml.proofs.line.Line.following.Given as goal
 
 abbrev pub invariant-blanks : goal.invariant-blanks

@@ -1,6 +1,6 @@
 use Rattle.std.proofs.Common.{length, ◌-◌, ◌≡◌, ◌≤◌, drop}
 use Rattle.std.specs.Str.{IsCharBoundary}
-use Rattle.fisca_yaml.specs.Rows.{indented}
+use Rattle.fisca_yaml.specs.Steps.Rows.{indented}
 use Rattle.fisca_yaml.proofs.line.Line.indented.Given as goal
 
 abbrev pub invariant-spaces : goal.invariant-spaces

@@ -1,0 +1,4 @@
+pub mod Contents
+pub mod Groups
+pub mod Strings
+pub mod Words

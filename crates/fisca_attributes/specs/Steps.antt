@@ -1,0 +1,3 @@
+pub mod AttributeForms
+pub mod EntityForms
+pub mod Values

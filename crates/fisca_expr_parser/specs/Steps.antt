@@ -1,0 +1,5 @@
+pub mod Marks
+pub mod Reading
+pub mod Signs
+pub mod Spelling
+pub mod Views

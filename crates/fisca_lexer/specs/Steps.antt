@@ -1,0 +1,5 @@
+pub mod Layout
+pub mod Marks
+pub mod Pieces
+pub mod Texts
+pub mod Tokens

@@ -1,0 +1,5 @@
+pub mod Faults
+pub mod Groups
+pub mod Members
+pub mod Persons
+pub mod Sections

@@ -1,0 +1,4 @@
+pub mod Casts
+pub mod Parts
+pub mod Persons
+pub mod Totals

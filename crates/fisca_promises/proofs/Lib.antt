@@ -1,0 +1,5 @@
+mod Eternal
+mod Fits
+mod Givens
+mod Numbers
+mod Turns

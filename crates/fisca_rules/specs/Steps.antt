@@ -1,0 +1,3 @@
+pub mod Build
+pub mod Passes
+pub mod Rules

@@ -1,4 +1,0 @@
-pub mod Groups
-pub mod Marks
-pub mod Readings
-pub mod Slots

@@ -1,0 +1,11 @@
+pub mod Conditions
+pub mod Grids
+pub mod Groups
+pub mod Keys
+pub mod Marks
+pub mod Moved
+pub mod Neutral
+pub mod Positions
+pub mod RunFiles
+pub mod SaidAxes
+pub mod Slots

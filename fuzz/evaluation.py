@@ -241,6 +241,10 @@ BY_HAND = [
     ("e.has_role(Household.PARENT)", 1),
     ("e.has_role(Household.SECOND_PARENT)", 0),
     ("e.has_role(Household.CHILD)", 0),
+    # the group of the person
+    ("e.household.nb_persons()", 3),
+    ("e.household.nb_persons(Household.SECOND_PARENT)", 1),
+    ("1 / e.household.nb_persons(Household.GUEST)", "ZeroDivisor X"),
 ]
 # the same of households
 OF_HOUSEHOLDS = [
@@ -270,6 +274,11 @@ OF_HOUSEHOLDS = [
     ('e.sum(parameters(p).late + e.members("f1", p))', "ParameterUndefined X"),
     ('e.sum(parameters(p).late + e.members("f1", p), role=Household.GUEST)', 0),
     ("e.nb_persons(Household.PARENT) / e.nb_persons(Household.GUEST)", "ZeroDivisor X"),
+    # roles of persons
+    ("e.sum(e.members.has_role(Household.PARENT)) - e.nb_persons(Household.PARENT)", 0),
+    ("e.sum(e.members.has_role(Household.SECOND_PARENT))", 1),
+    ("e.any(e.members.has_role(Household.GUEST))", 0),
+    ('e.sum(e.members("most", p) * e.members.has_role(Household.FIRST_PARENT))', MOST),
     ('e.max(e.members("flag", p))', 1),
     ('e.min(e.members("flag", p))', 0),
     ('e.sum(e.members("flag", p))', 2),

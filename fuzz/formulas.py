@@ -263,6 +263,9 @@ class Maker:
             return self.constant(draw)
         if self.is_group and not within:
             return self.of_group(draw)
+        if not self.is_group and draw < 0.48:
+            text = "e.household.nb_persons(Household.CHILD)"
+            return text, lambda who, person: Fraction(len(with_role(GROUP_OF[who], "child")))
         if not self.is_group and draw < 0.55:
             moves = self.moves()
             text = f'e.household("rent", {move_text(moves)})'
@@ -277,6 +280,9 @@ class Maker:
         if not self.is_group and draw < 0.45:
             role = self.lot.choice(ROLES)
             return f"e.has_role(Household.{role})", lambda who, person: role.lower() in ROLES_OF[who]
+        if within and draw < 0.45:
+            role = self.lot.choice(ROLES)
+            return f"e.members.has_role(Household.{role})", lambda who, person: role.lower() in ROLES_OF[person]
         if self.is_group and not within:
             return self.total("bool", 0)
         text, reckon, mode = self.asked(list(FLAGS), within)

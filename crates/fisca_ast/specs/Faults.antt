@@ -1,4 +1,4 @@
--- The plain names of the kinds of faults.
+-- The numbers and the plain names of the kinds of faults.
 use Rattle.std.specs.Prelude.{ℕ, List, codes}
 use Rattle.fisca_ast.specs.declared.fault.FormulaKind.{FormulaKind}
 use Rattle.fisca_ast.specs.declared.fault.FormulaKind.TheVariants.{Syntax, Indent, Unsupported, UnknownName, UnknownVariable, UnknownParameter, BadType, BadLevel, BadAttribute, DuplicateName, TooDeep, TooLong, Memory}
@@ -17,3 +17,18 @@ name_of DuplicateName = codes "DuplicateName"
 name_of TooDeep = codes "TooDeep"
 name_of TooLong = codes "TooLong"
 name_of Memory = codes "Memory"
+
+abbrev pub number_of : FormulaKind → ℕ
+number_of Syntax = 1
+number_of Indent = 2
+number_of Unsupported = 3
+number_of UnknownName = 4
+number_of UnknownVariable = 5
+number_of UnknownParameter = 6
+number_of BadType = 7
+number_of BadLevel = 8
+number_of BadAttribute = 9
+number_of DuplicateName = 10
+number_of TooDeep = 11
+number_of TooLong = 12
+number_of Memory = 13

@@ -1,7 +1,7 @@
 //! The faults of modules and rule sets.
 
 ghost use Rattle.std.specs.Prelude.{◌≡◌};
-ghost use Rattle.fisca_ast.specs.Faults.{name_of};
+ghost use Rattle.fisca_ast.specs.Faults.{name_of, number_of};
 
 use std::alloc::{AllocError, AllocFailed};
 use thiserror::Error;
@@ -39,6 +39,27 @@ pub enum FormulaKind {
 }
 
 impl FormulaKind {
+    /// The number of the kind, from 1 to 13.
+    pub fn number(self) -> u8
+        ensures { result ≡ number_of self }
+    {
+        match self {
+            FormulaKind::Syntax => 1,
+            FormulaKind::Indent => 2,
+            FormulaKind::Unsupported => 3,
+            FormulaKind::UnknownName => 4,
+            FormulaKind::UnknownVariable => 5,
+            FormulaKind::UnknownParameter => 6,
+            FormulaKind::BadType => 7,
+            FormulaKind::BadLevel => 8,
+            FormulaKind::BadAttribute => 9,
+            FormulaKind::DuplicateName => 10,
+            FormulaKind::TooDeep => 11,
+            FormulaKind::TooLong => 12,
+            FormulaKind::Memory => 13,
+        }
+    }
+
     /// The plain name of the kind, as `UnknownName`.
     pub fn name(self) -> &'static str
         ensures { result.now ≡ name_of self }

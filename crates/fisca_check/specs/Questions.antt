@@ -1,6 +1,6 @@
 -- Questions for variables, by their arguments.
 use Rattle.std.specs.Borrow.{Bor}
-use Rattle.std.specs.Prelude.{List, Option, option_map, Result, Ok}
+use Rattle.std.specs.Prelude.{ℕ, List, Option, option_map, Result, Ok}
 use Rattle.fisca_check_calls.specs.Arguments.{given}
 use Rattle.fisca_check_calls.specs.declared.arguments.GivenArgument.{GivenArgument as Held}
 use Rattle.fisca_params.specs.Results.{and_then}
@@ -22,6 +22,6 @@ outcome_of = option_map (λ g. (given g.now).thing)
 abbrev pub settled_view : List CallArgument → Result Positions FormulaKind
 settled_view gs = and_then (settled gs) (λ ss. Ok (positions ss))
 
--- how many persons a group has, or have a role
-abbrev pub count_of : Option RolePlace → Result Thing FormulaKind
-count_of r = typed vt.Number level.Own (count r)
+-- how many persons a group of an entity has, or have a role
+abbrev pub count_of : ℕ → Option RolePlace → Result Thing FormulaKind
+count_of entity r = typed vt.Number level.Own (count entity r)

@@ -6,7 +6,7 @@ ghost use Rattle.fisca_ir.specs.Views.{thing as thing_of};
 ghost use Rattle.fisca_symbols.specs.Known.{tables as tables_of};
 ghost use Rattle.fisca_typing.specs.Typing as spec;
 
-use crate::methods::asker_attribute;
+use crate::methods::{asker_attribute, method_attribute};
 use crate::names::library_function;
 use crate::scope::FormulaScope;
 use fisca_ast::FormulaKind;
@@ -79,12 +79,13 @@ pub fn attribute_of(
         Thing::Choices(choices) => member_thing(names.tables, choices, name),
         Thing::Entity(entity) => role_thing(names.tables, entity, name),
         Thing::Asker => asker_attribute(names, name),
+        Thing::Method(method, relation) => method_attribute(name, method, relation),
         Thing::Library => library_function(name),
         Thing::Offset(_)
         | Thing::Reader
         | Thing::Calculation(..)
         | Thing::Role(..)
-        | Thing::Method(..)
+        | Thing::GroupCount(_)
         | Thing::Function(_)
         | Thing::Asking(_)
         | Thing::Text(_)

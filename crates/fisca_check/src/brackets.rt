@@ -88,7 +88,9 @@ fn subscript_of(
     subscripted(alloc, names.tables, chosen, member)
 }
 
-/// What an expression with brackets behind it stands for, or the first fault.
+/// What an expression with brackets behind it stands for, or the first fault. Its frame is not among those of the
+/// functions that call one another for the parts of an expression.
+#[inline(never)]
 pub fn with_suffix(
     alloc: Global,
     names: &FormulaScope,

@@ -41,7 +41,14 @@ fn method_by(
     ensures { Gives thing_of (spec.method_by (names_of names.now) method (all_given arguments.entry.items)) result }
 {
     match method {
-        Method::HasRole => has_role_by(alloc, settled_positions(alloc, arguments)?),
+        Method::HasRole => {
+            let positions = settled_positions(alloc, arguments)?;
+            has_role_by(alloc, Level::Own, positions)
+        }
+        Method::EachHasRole => {
+            let positions = settled_positions(alloc, arguments)?;
+            has_role_by(alloc, Level::Members, positions)
+        }
         Method::Members => {
             let relation = to_person(names.tables);
             asked_with(
@@ -145,6 +152,10 @@ pub fn called(
         }
         Thing::Method(method, relation) => {
             method_called(alloc, names, method, relation, arguments)
+        }
+        Thing::GroupCount(entity) => {
+            let positions = settled_positions(alloc, arguments)?;
+            count_by(alloc, entity, &positions)
         }
         Thing::Function(function) => {
             function_by(alloc, function, settled_positions(alloc, arguments)?)

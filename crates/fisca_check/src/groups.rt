@@ -29,31 +29,31 @@ fn role_in(entity: usize, thing: &Thing) -> Result<Option<RolePlace>, FormulaKin
     }
 }
 
-/// `has_role(role)`, or `BadType`.
-pub fn has_role_by(alloc: Global, positions: Positions) -> Result<Thing, FormulaKind>
-    ensures { Gives thing_of (spec.has_role_by (positions_view positions.entry)) result }
+/// `has_role(role)` of one person or of each person of the group, or `BadType`.
+pub fn has_role_by(alloc: Global, level: Level, positions: Positions) -> Result<Thing, FormulaKind>
+    ensures { Gives thing_of (spec.has_role_by level (positions_view positions.entry)) result }
 {
     let argument = alone(positions)?;
     let (entity, role) = role_of(&argument.thing)?;
     Ok(Thing::Value(Typed {
         value_type: ValueType::Bool,
-        level: Level::Own,
+        level,
         node: has_role(alloc, entity, role)?,
     }))
 }
 
-/// How many persons of a group there are, or have a role.
-fn counted(alloc: Global, role: Option<RolePlace>) -> Result<Thing, FormulaKind>
-    ensures { Gives thing_of (count_of role) result }
+/// How many persons of a group of this entity there are, or have a role.
+fn counted(alloc: Global, entity: usize, role: Option<RolePlace>) -> Result<Thing, FormulaKind>
+    ensures { Gives thing_of (count_of entity role) result }
 {
     Ok(Thing::Value(Typed {
         value_type: ValueType::Number,
         level: Level::Own,
-        node: count(alloc, role)?,
+        node: count(alloc, entity, role)?,
     }))
 }
 
-/// `nb_persons()` or `nb_persons(role)`, or `BadType`.
+/// `nb_persons()` or `nb_persons(role)` of a group of this entity, or `BadType`.
 pub fn count_by(alloc: Global, entity: usize, positions: &Positions) -> Result<Thing, FormulaKind>
     ensures { Gives thing_of (spec.count_by entity (positions_view positions.now)) result }
 {
@@ -61,8 +61,8 @@ pub fn count_by(alloc: Global, entity: usize, positions: &Positions) -> Result<T
         return Err(FormulaKind::BadType);
     };
     match arguments.as_slice() {
-        [] => counted(alloc, None),
-        [only] => counted(alloc, role_in(entity, &only.thing)?),
+        [] => counted(alloc, entity, None),
+        [only] => counted(alloc, entity, role_in(entity, &only.thing)?),
         [_, _, ..] => Err(FormulaKind::BadType),
     }
 }

@@ -130,6 +130,48 @@ fn method_named(names: &FormulaScope, name: &[u8]) -> Option<Method>
     }
 }
 
+/// The entity of the group that a name leads to, if it leads to one.
+fn group_led_to(relation: Option<Relation>) -> Option<usize>
+    ensures { result ≡ spec.group_led_to (option_map relation_of relation) }
+{
+    match relation {
+        None => None,
+        Some(led) => match led.whom {
+            Whom::Group(entity) => Some(entity),
+            Whom::Own | Whom::Person | Whom::Holder(_) => None,
+        },
+    }
+}
+
+/// `nb_persons` behind a name that leads to a group, or `BadType`.
+fn count_behind(name: &[u8], group: Option<usize>) -> Result<Thing, FormulaKind>
+    ensures { Gives thing (spec.count_behind name.now group) result }
+{
+    match group {
+        Some(entity) if name == b"nb_persons".as_slice() => { Ok(Thing::GroupCount(entity)) }
+        _ => Err(FormulaKind::BadType),
+    }
+}
+
+/// What a name stands for behind a name behind the formula's first argument, or `BadType`: `members.has_role` of a group,
+/// `GROUP.nb_persons` of a person. These are additions of this project.
+pub fn method_attribute(
+    name: &[u8],
+    method: Option<Method>,
+    relation: Option<Relation>,
+) -> Result<Thing, FormulaKind>
+    ensures { Gives thing (spec.method_attribute name.now method (option_map relation_of relation)) result }
+{
+    if !matches!(method, Some(Method::Members)) {
+        return count_behind(name, group_led_to(relation));
+    }
+    if name == b"has_role".as_slice() {
+        Ok(Thing::Method(Some(Method::EachHasRole), None))
+    } else {
+        Err(FormulaKind::BadType)
+    }
+}
+
 /// What a name behind the formula's first argument stands for, or `UnknownName`.
 pub fn asker_attribute(names: &FormulaScope, name: &[u8]) -> Result<Thing, FormulaKind>
     ensures { Gives thing (spec.asker_attribute (names_of names.now) name.now) result }

@@ -80,6 +80,7 @@ pub fn kept(thing: Thing, values: &mut Vec<Node>) -> Result<Held, FormulaKind>
         | Thing::Role(..)
         | Thing::Asker
         | Thing::Method(..)
+        | Thing::GroupCount(_)
         | Thing::Library
         | Thing::Function(_)
         | Thing::Asking(_)

@@ -66,3 +66,12 @@ turned_fit s v m fit key n own is k w at =
     holds (λ x. IsValueOf c k.variable (value_seen x)) k s v m.situation.inputs w at (fit k)
     (λ inside more. subst (λ x. IsValueOf c x (meaning.number more)) (own ∙ sym (in_parts k s.variable s.member s.periods inside).0)
     (each_number c (variable_type c key.variable) n more (fit key (number n) is)))
+
+-- the same where the variable has numbers
+pub numbers_fit : (s : Slot) (v : Number) (m : Simulation) → variable_type (known_by m.rules) s.variable ≡ Some vt.Number → InputsFit m.rules m.situation
+    → InputsFit m.rules (turned_by s v m).situation
+numbers_fit s v m numbers fit k w at =
+    let c = known_by m.rules in
+    holds (λ x. IsValueOf c k.variable (value_seen x)) k s v m.situation.inputs w at (fit k)
+    (λ inside more. subst (λ x. IsValueOf c x (meaning.number more)) (sym (in_parts k s.variable s.member s.periods inside).0)
+    (subst (λ t. is_typed c t (meaning.number more) ≡ true) (sym numbers) refl))

@@ -45,7 +45,7 @@ impl Counts {
     }
 
     /// Counts a value that is remembered and reads these wheels.
-    pub fn count_kept(&mut self, reads: u16)
+    pub(crate) fn count_kept(&mut self, reads: u16)
         ensures { self.new ≡ with_kept reads self.old }
     {
         if reads == 0 {
@@ -56,7 +56,7 @@ impl Counts {
     }
 
     /// Counts a value for which there was no memory.
-    pub fn count_lost(&mut self)
+    pub(crate) fn count_lost(&mut self)
         ensures { self.new ≡ with_lost self.old }
     {
         self.lost = self.lost.saturating_add(1);

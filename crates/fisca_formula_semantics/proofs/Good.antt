@@ -25,7 +25,7 @@ use Rattle.fisca_typing.specs.declared.operations.Unary.TheVariants as unary
 use Rattle.fisca_typing.specs.Nodes.{Node}
 use Rattle.fisca_typing.specs.Operations.{Operation, on_bools_or_numbers, with_numbers, with_bools, operation, extreme, comparison_of_members, comparison_by, comparison_of, with_levels, operated, unary_type, is_just, unary_on, unary_of, prefixed_by, prefixed_value}
 use Rattle.fisca_model.specs.Tables.{Tables}
-use Rattle.fisca_typing.specs.Things.{Thing, Things, Typed, Chosen, Relation, value, period, start, offset, reader, nodes, scale, calculation, enumeration, choices, entity, role, asker, method, library, function, option, text, listed, none, more, value_of, nodes_of, things_of}
+use Rattle.fisca_typing.specs.Things.{Thing, Things, Typed, Chosen, Relation, value, period, start, offset, reader, nodes, scale, calculation, enumeration, choices, entity, role, asker, method, group_count, library, function, option, text, listed, none, more, value_of, nodes_of, things_of}
 use Rattle.fisca_typing.specs.Types.{is_numeric, is_number, common, higher, is_of_members}
 use Rattle.fisca_formula_semantics.specs.Wellformed.{Sort, Within, IsAskable, has_places, is_below, IsTyped, AreIndices, choices_of}
 use Rattle.fisca_formula_semantics.proofs.Weaken.{weaken}
@@ -78,6 +78,7 @@ abbrev mutual
   IsGood c G (role g r) = ⊤
   IsGood c G asker = ⊤
   IsGood c G (method m r) = IsGoodRelation r
+  IsGood c G (group_count g) = ⊤
   IsGood c G library = ⊤
   IsGood c G (function f) = ⊤
   IsGood c G (option a) = ⊤
@@ -103,6 +104,7 @@ value-good c G (entity g) good = tt
 value-good c G (role g r) good = tt
 value-good c G asker good = tt
 value-good c G (method m r) good = tt
+value-good c G (group_count g) good = tt
 value-good c G library good = tt
 value-good c G (function f) good = tt
 value-good c G (option a) good = tt
@@ -124,6 +126,7 @@ nodes-good c G (entity g) good = tt
 nodes-good c G (role g r) good = tt
 nodes-good c G asker good = tt
 nodes-good c G (method m r) good = tt
+nodes-good c G (group_count g) good = tt
 nodes-good c G library good = tt
 nodes-good c G (function f) good = tt
 nodes-good c G (option a) good = tt
@@ -145,6 +148,7 @@ things-good c G (entity g) good = tt
 things-good c G (role g r) good = tt
 things-good c G asker good = tt
 things-good c G (method m r) good = tt
+things-good c G (group_count g) good = tt
 things-good c G library good = tt
 things-good c G (function f) good = tt
 things-good c G (option a) good = tt

@@ -161,10 +161,10 @@ asked_with-good c G r l (v ∷ p ∷ o ∷ q ∷ gs) ask = tt
 
 -- Methods
 
-has_role-good : (c : Tables) (G : List Sort) (ps : Positions) → OkIs (IsGood c G) (has_role_by ps)
-has_role-good c G ps = then_any (IsGood c G) (alone ps) _ (λ s. then_any (IsGood c G) (role_of s.thing) _ (λ r. refl))
+has_role-good : (c : Tables) (G : List Sort) (l : Level) (ps : Positions) → OkIs (IsGood c G) (has_role_by l ps)
+has_role-good c G l ps = then_any (IsGood c G) (alone ps) _ (λ s. then_any (IsGood c G) (role_of s.thing) _ (λ r. refl))
 
-count-good : (c : Tables) (G : List Sort) (entity : ℕ) (ps : Positions) → OkIs (IsGood c G) (count_by entity ps)
+pub count-good : (c : Tables) (G : List Sort) (entity : ℕ) (ps : Positions) → OkIs (IsGood c G) (count_by entity ps)
 count-good c G entity (by_position []) = refl
 count-good c G entity (by_position (s ∷ [])) = then_any (IsGood c G) (role_in entity s.thing) _ (λ r. refl)
 count-good c G entity (by_position (s ∷ t ∷ ss)) = tt
@@ -194,7 +194,8 @@ pub settled_positions-good : (c : Tables) (G : List Sort) (gs : List CallArgumen
 settled_positions-good c G gs f good on = then_is _ (IsGood c G) (settled gs) _ (settled-good c G gs good) (λ ss a. on (positions ss) (positions-good c G ss a))
 
 method_by-good : (c : Names) (G : List Sort) (m : Method) (gs : List CallArgument) → AllGiven c.tables G gs → OkIs (IsGood c.tables G) (method_by c m gs)
-method_by-good c G method.HasRole gs good = settled_positions-good c.tables G gs _ good (λ ps _. has_role-good c.tables G ps)
+method_by-good c G method.HasRole gs good = settled_positions-good c.tables G gs _ good (λ ps _. has_role-good c.tables G level.Own ps)
+method_by-good c G method.EachHasRole gs good = settled_positions-good c.tables G gs _ good (λ ps _. has_role-good c.tables G level.Members ps)
 method_by-good c G method.Members gs good = asked_with-good c.tables G _ level.Members gs refl
 method_by-good c G (method.Total t) gs good = settled_positions-good c.tables G gs _ good (λ ps a. total-good c.tables G c.entity t ps a)
 method_by-good c G method.Count gs good = settled_positions-good c.tables G gs _ good (λ ps _. count-good c.tables G c.entity ps)

@@ -13,7 +13,7 @@ use Rattle.fisca_typing.specs.Names.{Names, Local}
 use Rattle.fisca_typing.specs.Nodes.{Node}
 use Rattle.fisca_typing.specs.Sizes.{Size, size_of, is_small}
 use Rattle.fisca_model.specs.Tables.{Tables}
-use Rattle.fisca_typing.specs.Things.{Thing, Things, Typed, value, period, start, offset, reader, nodes, scale, calculation, enumeration, choices, entity, role, asker, method, library, function, option, text, listed, none, more, value_of}
+use Rattle.fisca_typing.specs.Things.{Thing, Things, Typed, value, period, start, offset, reader, nodes, scale, calculation, enumeration, choices, entity, role, asker, method, group_count, library, function, option, text, listed, none, more, value_of}
 use Rattle.fisca_typing.specs.Types.{is_of_members}
 use Rattle.fisca_typing.specs.Typing.{thing_of}
 use Rattle.fisca_formula_semantics.specs.Wellformed.{Sort, is_below, before_cast, IsTyped, IsTypedFrom, IsTypedFormula}
@@ -64,6 +64,7 @@ mutual
   thing-up c G H up (role g r) good = tt
   thing-up c G H up asker good = tt
   thing-up c G H up (method m r) good = good
+  thing-up c G H up (group_count g) good = tt
   thing-up c G H up library good = tt
   thing-up c G H up (function f) good = tt
   thing-up c G H up (option a) good = tt
@@ -101,6 +102,7 @@ kept-good c G ns (entity g) leads good = tt
 kept-good c G ns (role g r) leads good = tt
 kept-good c G ns asker leads good = tt
 kept-good c G ns (method m r) leads good = tt
+kept-good c G ns (group_count g) leads good = tt
 kept-good c G ns library leads good = tt
 kept-good c G ns (function f) leads good = tt
 kept-good c G ns (option a) leads good = tt

@@ -21,17 +21,17 @@ use Rattle.fisca_model.specs.declared.value_type.ValueType.{ValueType}
 use Rattle.fisca_model.specs.declared.value_type.ValueType.TheVariants as vt
 use Rattle.fisca_typing.specs.declared.moves.Move.{Move}
 use Rattle.fisca_typing.specs.declared.operations.Method.{Method}
-use Rattle.fisca_typing.specs.Asks.{some_method, method_named, relation_named, to_group, to_holder, to_self}
+use Rattle.fisca_typing.specs.Asks.{is_members, group_led_to, count_behind, method_attribute, some_method, method_named, relation_named, to_group, to_holder, to_self}
 use Rattle.fisca_typing.specs.Calls.{CallArgument, Positions, by_position, and_keyword, more_keywords, alone, offset_of, reader_by}
 use Rattle.fisca_typing.specs.Names.{Names, Local, named, local_named, argument_named, has_name, known_word, added_word, declared, library_function, added_function}
 use Rattle.fisca_typing.specs.Operations.{operation, comparison_of}
 use Rattle.fisca_typing.specs.Periods.{period_attribute, start_attribute, whole, unit_named}
 use Rattle.fisca_model.specs.Tables.{Tables, otherwise, place_in, members_at, member_named, role_of_constant, roles_at, is_person_at}
-use Rattle.fisca_typing.specs.Things.{Thing, Relation, value, period, start, offset, reader, nodes, scale, calculation, enumeration, choices, entity, role, asker, method, library, function, option, text, listed, value_of, nodes_of, text_of, instant_of}
+use Rattle.fisca_typing.specs.Things.{Thing, Relation, value, period, start, offset, reader, nodes, scale, calculation, enumeration, choices, entity, role, asker, method, group_count, library, function, option, text, listed, value_of, nodes_of, text_of, instant_of}
 use Rattle.fisca_typing.specs.Typing.{number_thing, value_attribute, member_at, role_at, attribute_of, not_called, called, is_positional, elements, only, in_brackets, with_suffix, thing_of, all_given, given_of}
 use Rattle.fisca_formula_semantics.specs.Wellformed.{Sort}
 use Rattle.fisca_formula_semantics.proofs.Good.{OkIs, then_is, then_any, if_is, IsGood, AreGood, IsGoodValue, AreGoodNodes, IsGoodRelation, value-good, nodes-good, operated-good, operation-good, comparison-good, prefixed-good}
-use Rattle.fisca_formula_semantics.proofs.GoodAsks.{root-good, node_attribute-good, subscripted-good, asked_with-good, settled_positions-good, method_called-good, calculation-good}
+use Rattle.fisca_formula_semantics.proofs.GoodAsks.{count-good, root-good, node_attribute-good, subscripted-good, asked_with-good, settled_positions-good, method_called-good, calculation-good}
 use Rattle.fisca_formula_semantics.proofs.GoodCalls.{AllGiven, function-good}
 
 abbrev pub LocalsGood : Tables → List Sort → List Local → Type 0
@@ -157,6 +157,14 @@ some_method-good c G None None good = tt
 some_method-good c G None (Some r) good = good
 some_method-good c G (Some m) r good = good
 
+count_behind-good : (c : Tables) (G : List Sort) (t : List ℕ) (o : Option ℕ) → OkIs (IsGood c G) (count_behind t o)
+count_behind-good c G t None = tt
+count_behind-good c G t (Some g) = if_is (IsGood c G) (is t (codes "nb_persons")) _ _ (λ _. tt) (λ _. tt)
+
+method_attribute-good : (c : Tables) (G : List Sort) (t : List ℕ) (m : Option Method) (r : Option Relation) → OkIs (IsGood c G) (method_attribute t m r)
+method_attribute-good c G t m r =
+    if_is (IsGood c G) (is_members m) _ _ (λ _. if_is (IsGood c G) (is t (codes "has_role")) _ _ (λ _. tt) (λ _. tt)) (λ _. count_behind-good c G t (group_led_to r))
+
 relation-if : (b : Bool) (r s : Option Relation) → IsGoodRelation r → IsGoodRelation s → IsGoodRelation (if b then r else s)
 relation-if true r s a b = a
 relation-if false r s a b = b
@@ -186,7 +194,8 @@ attribute-good n G t (choices e) good = member-good n.tables G e t (member_named
 attribute-good n G t (entity g) good = role-good n.tables G g (role_of_constant (roles_at n.tables g) t)
 attribute-good n G t (role g r) good = tt
 attribute-good n G t asker good = some_method-good n.tables G (method_named n t) (relation_named n t) (relation-good n t)
-attribute-good n G t (method m r) good = tt
+attribute-good n G t (method m r) good = method_attribute-good n.tables G t m r
+attribute-good n G t (group_count g) good = tt
 attribute-good n G t library good = library-good n.tables G t
 attribute-good n G t (function f) good = tt
 attribute-good n G t (option a) good = tt
@@ -224,6 +233,7 @@ called-good n G (entity g) gs good all = not-good n.tables G gs all
 called-good n G (role g r) gs good all = not-good n.tables G gs all
 called-good n G asker gs good all = asked_with-good n.tables G (to_self n.entity) level.Own gs tt
 called-good n G (method m r) gs good all = method_called-good n G m r gs good all
+called-good n G (group_count g) gs good all = settled_positions-good n.tables G gs _ all (λ ps _. count-good n.tables G g ps)
 called-good n G library gs good all = not-good n.tables G gs all
 called-good n G (function f) gs good all = settled_positions-good n.tables G gs _ all (function-good n.tables G f)
 called-good n G (option a) gs good all = not-good n.tables G gs all

@@ -16,6 +16,7 @@ use Rattle.fisca_key_semantics.specs.Dialogues.{Dialogue, gives}
 use Rattle.fisca_model.specs.Values.{number, bool, member}
 use Rattle.fisca_formula_semantics.specs.Meaning.{Locals, local_at, mean, at_index, at_person, mean_from, formula_means}
 use Rattle.fisca_model.specs.Groups.{Groups, Point, persons_at, has as has_it}
+use Rattle.fisca_formula_semantics.specs.Questions.{person_of}
 use Rattle.fisca_formula_semantics.specs.Safe.{IsSafe}
 use Rattle.fisca_formula_semantics.specs.Wellformed.{Sort, Within, IsTyped, AreIndices, IsTypedFrom, IsTypedFormula, HasMembers, choices_of}
 use Rattle.fisca_formula_semantics.proofs.Operands.{safe_then, safe_below, on_number, on_bool, on_member, computed-safe, arithmetic-safe, comparison-safe, logic-safe, same-safe, unary-safe}
@@ -75,8 +76,8 @@ module _ (c : Tables) (g : Groups) (G : List Sort) (ls : Locals) (have : HasMemb
     mean-safe (node.date_part d ms) t a typed p has =
         as_type c t vt.Number _ typed (at_start-safe c vt.Number ms p.period _ (λ day. computed-safe c _))
     mean-safe (node.ask v w how ms) t a typed p has = asked-safe c g p w how v typed.0 t ms a has typed.3 have typed.1 typed.2
-    mean-safe (node.has_role e r) t a typed p has = as_type c t vt.Bool (gives (bool (has_it r (g.role_of e p.member)))) typed refl
-    mean-safe (node.count r) t a typed p has = as_type c t vt.Number _ typed (computed-safe c _)
+    mean-safe (node.has_role e r) t a typed p has = as_type c t vt.Bool (gives (bool (has_it r (g.role_of e (person_of p))))) typed refl
+    mean-safe (node.count e r) t a typed p has = as_type c t vt.Number _ typed (computed-safe c _)
     mean-safe (node.total o r n) t a typed p has =
         as_type c t _ _ typed.0 (total-safe c o typed.1 _ (persons_at g p r) typed.2 (λ m. mean-safe n typed.1 true typed.3 (at_person p m) tt))
     mean-safe (node.unary o n) t a typed p has =

@@ -34,7 +34,7 @@ module _ (c : Tables) (G H : List Sort) (extends : Extends G H) where
     weaken (node.date_part d ms) t a b more typed = typed
     weaken (node.ask v w how ms) t a b more typed = (typed.0, typed.1, typed.2, askable w a b more typed.3)
     weaken (node.has_role e r) t a b more typed = typed
-    weaken (node.count r) t a b more typed = typed
+    weaken (node.count e r) t a b more typed = typed
     weaken (node.total o r n) t a b more typed = (typed.0, typed.1, typed.2, weaken n typed.1 true true (λ is. is) typed.3)
     weaken (node.unary o n) t a b more typed = (typed.0, typed.1, typed.2, typed.3, weaken n typed.2 a b more typed.4)
     weaken (node.arithmetic o m n) t a b more typed = (typed.0, typed.1, typed.2, typed.3, typed.4, weaken m typed.1 a b more typed.5, weaken n typed.2 a b more typed.6)

@@ -16,13 +16,13 @@ use Rattle.fisca_typing.specs.declared.moves.Move.TheVariants as step
 use Rattle.fisca_typing.specs.declared.operations.Logic.TheVariants as logic
 use Rattle.fisca_typing.specs.declared.operations.Total.TheVariants as total
 use Rattle.fisca_typing.specs.declared.operations.Unary.TheVariants as one
-use Rattle.fisca_typing.specs.Nodes.{Node, truth, member, local, ask, has_role, total as of_all, unary, logic as both_of, same, choose, parameter, no_index, index, literal}
+use Rattle.fisca_typing.specs.Nodes.{Node, truth, member, local, ask, has_role, count, total as of_all, unary, logic as both_of, same, choose, parameter, no_index, index, literal}
 use Rattle.fisca_model.specs.Tables.{Tables, Variable, whole_role, subrole_of}
 use Rattle.fisca_key_semantics.specs.Dialogues.{Dialogue, gives, fails, stuck, asks, ◌>>=◌, with_number, computed, period_mismatch, period_out_of_range, no_member, parameter_undefined}
 use Rattle.fisca_model.specs.Values.{number, bool, member as member_value}
 use Rattle.fisca_formula_semantics.specs.Meaning.{mean, mean_from}
 use Rattle.fisca_model.specs.Groups.{Groups, Point}
-use Rattle.fisca_formula_semantics.specs.Questions.{key, twelve}
+use Rattle.fisca_formula_semantics.specs.Questions.{counted, key, twelve}
 
 abbrev variable : ValueType → Unit → Variable
 variable t u = record { name = []; entity = 0; value_type = Some t; definition_period = u }
@@ -119,6 +119,20 @@ role = refl
 
 other_subrole : mean c g [] (has_role 0 (subrole_of 0 1)) (record { entity = 0; member = 5; person = None; period = february }) ≡ gives (bool false)
 other_subrole = refl
+
+-- of the person at hand, where values of the group's persons are taken
+role_of_person : mean c g [] (has_role 0 (whole_role 0)) (record { entity = 0; member = 7; person = Some 5; period = february }) ≡ gives (bool true)
+role_of_person = refl
+
+-- how many persons the formula's own group has, and the group of its person
+abbrev here : ℕ → ℕ → ℕ → Node → Dialogue
+here entity group at n = mean c (record g { persons = λ e m. if m == group then 5 ∷ 7 ∷ [] else [] }) [] n (record { entity = entity; member = at; person = None; period = february })
+
+persons_here : here 0 3 3 (count 0 None) ≡ counted 2
+persons_here = refl
+
+persons_of_group : here 1 2 5 (count 0 (Some (whole_role 1))) ≡ counted 1
+persons_of_group = refl
 
 -- each person in turn, none skipped; of a role those who have it
 abbrev of_person : ℕ → Node

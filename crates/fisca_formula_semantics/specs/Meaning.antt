@@ -19,7 +19,7 @@ use Rattle.fisca_formula_semantics.specs.Answers.{arithmetic_of, logic_of, compa
 use Rattle.fisca_model.specs.Values.{Value, number, bool, member}
 use Rattle.fisca_key_semantics.specs.Dialogues.{OperationFault, Dialogue, gives, fails, stuck, ◌>>=◌, with_number, with_bool, with_member, fault_of, bad_scale, parameter_undefined, no_member}
 use Rattle.fisca_model.specs.Groups.{Groups, Point, has, persons_at}
-use Rattle.fisca_formula_semantics.specs.Questions.{at_period, at_start, part_of, counted, ask_known}
+use Rattle.fisca_formula_semantics.specs.Questions.{at_period, at_start, part_of, counted, ask_known, person_of, persons_in}
 
 -- Parameters
 
@@ -83,8 +83,8 @@ abbrev mutual
   mean c g ls (node.local i) p = local_at (slice_get ls i) p
   mean c g ls (node.date_part d ms) p = at_start ms p.period (λ day. counted (part_of d day))
   mean c g ls (node.ask v w how ms) p = at_period ms p.period (λ q. ask_known g p w how v q (slice_get c.variables v))
-  mean c g ls (node.has_role e r) p = gives (bool (has r (g.role_of e p.member)))
-  mean c g ls (node.count r) p = counted (length (persons_at g p r))
+  mean c g ls (node.has_role e r) p = gives (bool (has r (g.role_of e (person_of p))))
+  mean c g ls (node.count e r) p = counted (length (persons_in g p e r))
   mean c g ls (node.total o r a) p = total_over o (λ m. mean c g ls a (at_person p m)) (persons_at g p r)
   mean c g ls (node.unary o a) p = mean c g ls a p >>= unary_of o
   mean c g ls (node.arithmetic o a b) p = mean c g ls a p >>= λ x. mean c g ls b p >>= λ y. arithmetic_of o x y

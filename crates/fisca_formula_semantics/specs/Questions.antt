@@ -1,6 +1,6 @@
 -- Periods of a formula, and what is asked for at them.
 use Rattle.std.proofs.Common.{lit<}
-use Rattle.std.specs.Prelude.{ℕ, pos, ◌&&◌, ◌||◌, List, [], ◌∷◌, Bool, false, nat_lt, if◌then◌else◌, Option, Some, None, Result, Ok, Err}
+use Rattle.std.specs.Prelude.{ℕ, pos, ◌==◌, ◌&&◌, ◌||◌, List, [], ◌∷◌, Bool, false, nat_lt, if◌then◌else◌, Option, Some, None, Result, Ok, Err}
 use Rattle.fisca_num.specs.Number.{Number, zero_number, whole_number}
 use Rattle.fisca_num.specs.Operations.{sum_of, quotient_of, number_over}
 use Rattle.fisca_params.specs.Results.{and_then}
@@ -23,7 +23,8 @@ use Rattle.fisca_typing.specs.declared.moves.Move.TheVariants as step
 use Rattle.fisca_model.specs.Tables.{Variable}
 use Rattle.fisca_model.specs.Values.{Value, Key, number, bool, member}
 use Rattle.fisca_key_semantics.specs.Dialogues.{Dialogue, gives, fails, stuck, asks, ◌>>=◌, with_number, computed, period_mismatch, period_out_of_range}
-use Rattle.fisca_model.specs.Groups.{Groups, Point, persons_at}
+use Rattle.fisca_model.specs.Groups.{Groups, Point, persons_at, with_role}
+use Rattle.fisca_model.specs.declared.role_place.RolePlace.{RolePlace}
 use Rattle.fisca_model.specs.Periods.{fits, key_period, is_eternity}
 
 -- Periods
@@ -65,6 +66,23 @@ part_of part.Day d = d.day
 
 abbrev pub counted : ℕ → Dialogue
 counted n = computed (number_over (pos n) (pos 1))
+
+-- Persons and groups at hand
+
+-- one of the group's persons where their values are taken, else the member itself
+abbrev pub person_of : Point → ℕ
+person_of p = else_member p.person where
+  else_member : Option ℕ → ℕ
+  else_member None = p.member
+  else_member (Some m) = m
+
+-- the member itself where it is a group of this entity, else the group that the person belongs to
+abbrev pub group_at : Groups → Point → ℕ → ℕ
+group_at g p e = if p.entity == e then p.member else g.group_of e p.member
+
+-- the persons of that group, of the role alone if there is one
+abbrev pub persons_in : Groups → Point → ℕ → Option RolePlace → List ℕ
+persons_in g p e r = with_role g e r (g.persons e (group_at g p e))
 
 -- Asking
 

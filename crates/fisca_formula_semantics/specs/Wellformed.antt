@@ -71,7 +71,7 @@ abbrev mutual
   IsTyped c G (node.ask v w how ms) t at_persons =
       (s : ValueType) × (variable_type c v ≡ Some s) × (asked_type how s ≡ Ok t) × IsAskable w at_persons
   IsTyped c G (node.has_role e r) t at_persons = t ≡ vt.Bool
-  IsTyped c G (node.count r) t at_persons = t ≡ vt.Number
+  IsTyped c G (node.count e r) t at_persons = t ≡ vt.Number
   IsTyped c G (node.total o r a) t at_persons = (t ≡ gives o) × (s : ValueType) × (takes o s ≡ true) × IsTyped c G a s true
   IsTyped c G (node.unary o a) t at_persons = (t ≡ unary_type o) × (has_places o ≡ true) × (s : ValueType) × (is_below s (unary_type o) ≡ true) × IsTyped c G a s at_persons
   IsTyped c G (node.arithmetic o a b) t at_persons =

@@ -1,6 +1,6 @@
 //! The members of one entity.
 
-ghost use Rattle.std.specs.Prelude.{◌≡◌, ◌<◌, ◌≤◌, [], ◌∷◌, ◌++◌, length, slice_get, option_map, IfOk, OnOk};
+ghost use Rattle.std.specs.Prelude.{◌≡◌, ◌<◌, ◌≤◌, [], ◌∷◌, ◌++◌, length, map, slice_get, option_map, IfOk, OnOk};
 
 use crate::home::Homes;
 use std::alloc::{AllocError, Global};
@@ -20,6 +20,18 @@ impl Model for MemberNames {
     ghost view = { λ n. map (λ v. v.items) n.items.items };
 
     ghost invariant = { λ n. length n.items.items ≤ 1000 };
+}
+
+/// Copies of names.
+fn copies_of(alloc: Global, names: &[Vec<u8>]) -> Result<MemberNames, AllocError>
+    requires { length names.now ≤ 1000 }
+    ensures { IfOk result (λ n. n ≡ map (λ v. v.items) names.now) }
+{
+    let mut copies = MemberNames::with_capacity(alloc, names.len())?;
+    for name in names {
+        copies.push(alloc, name.as_slice())?;
+    }
+    Ok(copies)
 }
 
 impl MemberNames {
@@ -50,6 +62,13 @@ impl MemberNames {
         self.items.push(copy).map_err(AllocError::from)
     }
 
+    /// A copy of these. `AllocError` only where memory was refused.
+    pub fn copied(&self, alloc: Global) -> Result<MemberNames, AllocError>
+        ensures { IfOk result (λ n. n ≡ self.now) }
+    {
+        copies_of(alloc, self.items.as_slice())
+    }
+
     /// How many there are.
     pub fn len(&self) -> usize
         ensures value { result ≡ length self.now }
@@ -76,4 +95,16 @@ pub struct EntityMembers {
     pub names: MemberNames,
     /// Where each person belongs; nowhere among persons.
     pub homes: Homes,
+}
+
+impl EntityMembers {
+    /// A copy of these. `AllocError` only where memory was refused.
+    pub fn copied(&self, alloc: Global) -> Result<EntityMembers, AllocError>
+        ensures { IfOk result (λ m. m ≡ self.now) }
+    {
+        Ok(EntityMembers {
+            names: self.names.copied(alloc)?,
+            homes: self.homes.copied(alloc)?,
+        })
+    }
 }

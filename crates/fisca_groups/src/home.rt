@@ -46,6 +46,15 @@ impl Homes {
         })
     }
 
+    /// A copy of these. `AllocError` only where memory was refused.
+    pub fn copied(&self, alloc: Global) -> Result<Homes, AllocError>
+        ensures { IfOk result (λ h. h ≡ self.now) }
+    {
+        let mut items = Vec::with_capacity(alloc, self.items.len())?;
+        items.extend_from_slice(self.items.as_slice())?;
+        Ok(Homes { items })
+    }
+
     /// For each person the group that holds it, and the role there.
     pub fn as_slice(&self) -> &[Option<Home>]
         ensures value { result.now ≡ self.now }

@@ -44,13 +44,13 @@ pub fn has_role(alloc: Global, entity: usize, role: RolePlace) -> Result<Node, A
     Ok(Node::HasRole(entity, Box::new(alloc, role)?))
 }
 
-/// How many persons of a group there are, or have a role.
-pub fn count(alloc: Global, role: Option<RolePlace>) -> Result<Node, AllocError>
-    ensures { IfOk result (λ n. node n ≡ spec.count role) }
+/// How many persons of a group of an entity there are, or have a role.
+pub fn count(alloc: Global, entity: usize, role: Option<RolePlace>) -> Result<Node, AllocError>
+    ensures { IfOk result (λ n. node n ≡ spec.count entity role) }
 {
     match role {
-        Some(place) => Ok(Node::Count(Some(Box::new(alloc, place)?))),
-        None => Ok(Node::Count(None)),
+        Some(place) => Ok(Node::Count(entity, Some(Box::new(alloc, place)?))),
+        None => Ok(Node::Count(entity, None)),
     }
 }
 

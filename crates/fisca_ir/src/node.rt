@@ -22,10 +22,12 @@ pub enum Node {
     DatePart(DatePart, Box<Vec<Move>>),
     /// The value of a variable.
     Ask(Box<Ask>),
-    /// Whether the person has a role in a group of this entity.
+    /// Whether the person has a role in a group of this entity: one of the group's persons where their values are taken,
+    /// else the formula's own.
     HasRole(usize, Box<RolePlace>),
-    /// How many persons of the group there are, or have a role.
-    Count(Option<Box<RolePlace>>),
+    /// How many persons there are, or have a role, in the group of this entity: the formula's own, else that of its
+    /// person.
+    Count(usize, Option<Box<RolePlace>>),
     /// What values of the group's persons come to.
     Total(Total, Box<Totalled>),
     /// A value of one.
@@ -61,7 +63,7 @@ impl Drop for Node {
                 Node::DatePart(_, _) => return,
                 Node::Ask(_) => return,
                 Node::HasRole(_, _) => return,
-                Node::Count(_) => return,
+                Node::Count(_, _) => return,
                 Node::Total(_, _) => return,
                 Node::Unary(_, _) => return,
                 Node::Arithmetic(_, _) => return,

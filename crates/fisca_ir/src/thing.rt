@@ -55,6 +55,8 @@ pub enum Thing {
     Asker,
     /// A name behind it.
     Method(Option<Method>, Option<Relation>),
+    /// `GROUP.nb_persons` behind it, where it is a person.
+    GroupCount(usize),
     /// `np` and `numpy`
     Library,
     Function(Function),

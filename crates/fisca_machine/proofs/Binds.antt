@@ -93,7 +93,7 @@ module _ (c : Tables) (g : Groups) (E : Locals) (ls : meaning.Locals) (h : (i : 
     says_on (node.date_part d ms) p k = refl
     says_on (node.ask v w how ms) p k = refl
     says_on (node.has_role e r) p k = refl
-    says_on (node.count r) p k = refl
+    says_on (node.count e r) p k = refl
     says_on (node.total o r a) p k = total_on o _ _ (λ m j. says_on a (at_person p m) j) (persons_at g p r) k
     says_on (node.unary o a) p k = says_on a p _ ∙ sym (assoc (mean c g ls a p) (unary_of o) k)
     says_on (node.arithmetic o a b) p k = says_on a p _ ∙ next (mean c g ls a p) _ _ (λ x. says_on b p _ ∙ sym (assoc (mean c g ls b p) (arithmetic_of o x) k)) ∙ sym (assoc (mean c g ls a p) _ k)

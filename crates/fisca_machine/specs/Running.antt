@@ -6,7 +6,7 @@ use Rattle.fisca_model.specs.Values.{Value, number, bool, member}
 use Rattle.fisca_key_semantics.specs.Dialogues.{Dialogue, gives, fails, stuck, asks, ◌>>=◌, with_number, with_member, computed, no_member}
 use Rattle.fisca_formula_semantics.specs.Meaning.{at_person, at_place, chosen, parameter_value, scale_value}
 use Rattle.fisca_model.specs.Groups.{Groups, Point, has, persons_at}
-use Rattle.fisca_formula_semantics.specs.Questions.{at_period, at_start, part_of, counted, ask_all, ask_known}
+use Rattle.fisca_formula_semantics.specs.Questions.{at_period, at_start, part_of, counted, ask_all, ask_known, person_of, persons_in}
 use Rattle.fisca_ir.specs.Views.{node, node_step, index_step, pair_step, parameter_step, scale_step, totalled_step, Indexed, Paired, Parametric, Scaled, Summed}
 use Rattle.fisca_ir.specs.declared.node.Node.{Node as Held}
 use Rattle.fisca_ir.specs.declared.node.Parameter.{Parameter, fold-Parameter}
@@ -91,8 +91,8 @@ abbrev mutual
   says c g ls (node.local i) p k = ls i p k
   says c g ls (node.date_part d ms) p k = at_start ms p.period (λ day. counted (part_of d day)) >>= k
   says c g ls (node.ask v w how ms) p k = at_period ms p.period (λ q. ask_known g p w how v q (slice_get c.variables v)) >>= k
-  says c g ls (node.has_role e r) p k = k (bool (has r (g.role_of e p.member)))
-  says c g ls (node.count r) p k = counted (length (persons_at g p r)) >>= k
+  says c g ls (node.has_role e r) p k = k (bool (has r (g.role_of e (person_of p))))
+  says c g ls (node.count e r) p k = counted (length (persons_in g p e r)) >>= k
   says c g ls (node.total o r a) p k = total_then o (λ m. says c g ls a (at_person p m)) (persons_at g p r) k
   says c g ls (node.unary o a) p k = says c g ls a p (λ x. unary_of o x >>= k)
   says c g ls (node.arithmetic o a b) p k = says c g ls a p (λ x. says c g ls b p (λ y. arithmetic_of o x y >>= k))

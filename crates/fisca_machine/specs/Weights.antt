@@ -31,7 +31,7 @@ abbrev mutual
   weight g f ls (node.date_part d ms) = 1
   weight g f ls (node.ask v w how ms) = 1
   weight g f ls (node.has_role e r) = 1
-  weight g f ls (node.count r) = 1
+  weight g f ls (node.count e r) = 1
   weight g f ls (node.total o r a) = 1 + persons_weight (weight g f ls a) (persons_from g f.entity f.member r 0)
   weight g f ls (node.unary o a) = weight g f ls a + 2
   weight g f ls (node.arithmetic o a b) = weight g f ls a + (weight g f ls b + 3)

@@ -1,8 +1,8 @@
 //! Nodes that are begun.
 
-ghost use Rattle.std.specs.Prelude.{◌≡◌, ◌∷◌, ◌<◌, ◌+◌, IfOk, IfErr, OnOk, option_map, length};
+ghost use Rattle.std.specs.Prelude.{◌≡◌, ◌∷◌, ◌<◌, ◌+◌, IfOk, IfErr, None, OnOk, option_map, length};
 ghost use Rattle.fisca_formula_semantics.specs.Meaning.{chosen};
-ghost use Rattle.fisca_formula_semantics.specs.Questions.{counted as counts};
+ghost use Rattle.fisca_formula_semantics.specs.Questions.{counted as counts, group_at as group_meant, person_of as person_meant};
 ghost use Rattle.fisca_groups.specs.Grouped.{grouped};
 ghost use Rattle.fisca_ops.specs.Persons.{persons_from};
 ghost use Rattle.fisca_ops.specs.Ended.{IsMoving, ended};
@@ -14,11 +14,11 @@ ghost use Rattle.fisca_machine.specs.Context.{tables, groups};
 use crate::context::Context;
 use crate::found::{date_part, local_at};
 use crate::machine::{Control, Machine, Step};
-use crate::pending::{At, Operation, Pending};
+use crate::pending::{At, Frame, Operation, Pending};
 use fisca_ir::{Node, Pair};
 use fisca_members::Members;
 use fisca_model::{RolePlace, Value};
-use fisca_ops::{OperationFault, count_of, counted, has, role_of};
+use fisca_ops::{OperationFault, count_of, counted, group_of, has, role_of};
 
 /// The role that is wanted, where one is.
 fn role_wanted(role: &Option<Box<RolePlace>>) -> Option<RolePlace>
@@ -27,6 +27,27 @@ fn role_wanted(role: &Option<Box<RolePlace>>) -> Option<RolePlace>
     match role {
         None => None,
         Some(role) => Some(**role),
+    }
+}
+
+/// The person whose role is meant: one of the group's persons where their values are taken, else the frame's own member.
+fn person_of(frame: &Frame, at: At) -> u32
+    ensures { result ≡ person_meant (point frame.now at) }
+{
+    match at.person {
+        Some(person) => person,
+        None => frame.member,
+    }
+}
+
+/// The group of an entity whose persons are meant: the frame's own member where it is one, else the group of that person.
+fn group_at(members: &Members, frame: &Frame, entity: usize) -> u32
+    ensures { result ≡ group_meant (grouped members.now) (point frame.now (record { person = None; visible = 0 })) entity }
+{
+    if frame.entity == entity {
+        frame.member
+    } else {
+        group_of(members, entity, frame.member)
     }
 }
 
@@ -172,17 +193,14 @@ impl<'a> Machine<'a> {
             }
             Node::Ask(ask) => self.ask(context, ask, at),
             Node::HasRole(entity, role) => {
-                let held = has(**role, role_of(context.members, *entity, self.frame.member));
+                let person = person_of(&self.frame, at);
+                let held = has(**role, role_of(context.members, *entity, person));
                 self.ends(context, Ok(Value::Bool(held)))
             }
-            Node::Count(role) => {
+            Node::Count(entity, role) => {
                 let role = role_wanted(role);
-                let outcome = count_from(
-                    context.members,
-                    self.frame.entity,
-                    self.frame.member,
-                    role,
-                );
+                let group = group_at(context.members, &self.frame, *entity);
+                let outcome = count_from(context.members, *entity, group, role);
                 self.ends(context, outcome)
             }
             Node::Total(total, x) => self.total(context, *total, x, at),

@@ -1,5 +1,6 @@
 pub mod Faults
 pub mod Groups
+pub mod Kinds
 pub mod Naming
 pub mod Outcomes
 pub mod Persons

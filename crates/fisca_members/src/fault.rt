@@ -1,5 +1,8 @@
 //! Why no members can be read.
 
+ghost use Rattle.std.specs.Prelude.{◌≡◌};
+ghost use Rattle.fisca_members.specs.Kinds.{number_of};
+
 use std::alloc::{AllocError, AllocFailed};
 use thiserror::Error;
 
@@ -27,6 +30,23 @@ pub enum MembersKind {
     /// No memory was given.
     #[error("Memory")]
     Memory,
+}
+
+impl MembersKind {
+    /// The number of the kind, from 1 to 7.
+    pub fn number(self) -> u8
+        ensures { result ≡ number_of self }
+    {
+        match self {
+            MembersKind::UnknownEntity => 1,
+            MembersKind::UnknownPerson => 2,
+            MembersKind::PersonTwice => 3,
+            MembersKind::RoleFull => 4,
+            MembersKind::BadValue => 5,
+            MembersKind::TooMany => 6,
+            MembersKind::Memory => 7,
+        }
+    }
 }
 
 /// Why no members can be read: the line of the input's text on which the first fault stands, counted from 1 (0 for want of

@@ -71,6 +71,13 @@ impl Members {
         })
     }
 
+    /// A copy of these. `AllocError` only where memory was refused.
+    pub fn copied(&self, alloc: Global) -> Result<Members, AllocError>
+        ensures { IfOk result (λ m. m ≡ self.now) }
+    {
+        Members::of(alloc, draft_of(alloc, self.items.as_slice())?)
+    }
+
     /// The members of each entity.
     pub fn as_slice(&self) -> &[EntityMembers]
         ensures { result.now ≡ self.now }
@@ -128,6 +135,18 @@ impl Members {
         }
         Ok(counts)
     }
+}
+
+/// Copies of the members of each entity.
+fn draft_of(alloc: Global, members: &[EntityMembers]) -> Result<Draft, AllocError>
+    ensures { IfOk result (λ d. d ≡ members.now) }
+{
+    let mut items = Vec::with_capacity(alloc, members.len())?;
+    for one in members {
+        let copy = one.copied(alloc)?;
+        items.push(copy).map_err(AllocError::from)?;
+    }
+    Ok(Draft { items })
 }
 
 /// The names of persons.

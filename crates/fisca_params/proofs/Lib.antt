@@ -1,3 +1,4 @@
+pub mod BracketMaps
 pub mod DateMaps
 pub mod Days
 mod EachFile

@@ -16,8 +16,8 @@ use Rattle.fisca_params.specs.Scale.{put_in_order, in_order, starts_at, has_equa
 use Rattle.fisca_params.specs.Steps.Scale.{is_below}
 use Rattle.fisca_params.specs.declared.tally.Tally.{Tally}
 use Rattle.fisca_params.specs.declared.fault.ParamFault.TheVariants as fault
-use Rattle.fisca_params.specs.Tally.{tally_with, tally_of, answer_of, rises_from, sum_if_distinct, sum_if_rising, empty_tally}
-use Rattle.fisca_params.specs.Steps.Tally.{is_above}
+use Rattle.fisca_params.specs.Tally.{empty_tally}
+use Rattle.fisca_params.specs.Steps.Tally.{is_above, tally_with, tally_of, answer_of, rises_from, sum_if_distinct, sum_if_rising}
 use Rattle.fisca_params.specs.Steps.Lowest.{lower_of, lowest_above}
 
 -- is_below is a strict order
@@ -32,7 +32,7 @@ lt_reversed Less = refl
 lt_reversed Equal = refl
 lt_reversed Greater = refl
 
-below-gt : (a b : Number) → is_below b a ≡ is_gt (number_cmp a b)
+pub below-gt : (a b : Number) → is_below b a ≡ is_gt (number_cmp a b)
 below-gt a b = ap is_lt (number_total.antisymm b a) ∙ lt_reversed (number_cmp a b)
 
 gt_not_lt : (o : Ordering) → is_lt o ≡ true → is_gt o ≡ false
@@ -74,11 +74,11 @@ below-not_below a b c p q =
 
 -- sorted lists
 
-abbrev AllFrom : CompleteBracket → List CompleteBracket → Type 0
+abbrev pub AllFrom : CompleteBracket → List CompleteBracket → Type 0
 AllFrom b [] = Unit {0}
 AllFrom b (c ∷ cs) = (is_below c.threshold b.threshold ≡ false) × AllFrom b cs
 
-abbrev Sorted : List CompleteBracket → Type 0
+abbrev pub Sorted : List CompleteBracket → Type 0
 Sorted [] = Unit {0}
 Sorted (b ∷ bs) = AllFrom b bs × Sorted bs
 

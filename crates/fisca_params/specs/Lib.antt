@@ -12,6 +12,7 @@ pub mod Places
 pub mod Fits
 pub mod Results
 pub mod Scale
+pub mod Sorted
 pub mod Source
 pub mod Steps
 pub mod Tally

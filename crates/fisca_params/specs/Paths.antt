@@ -1,7 +1,7 @@
 -- Which files are parameter files, and the names in their paths.
 use Rattle.std.specs.Prelude.{ℕ, ◌==◌, nat_eq, List, length, drop, Option, Some, None, option_map, option_and_then, if◌then◌else◌, codes}
 use Rattle.std.specs.List.{slice_split, starts_with}
-use Rattle.fisca_yaml.specs.Characters.{slash}
+use Rattle.fisca_yaml_scalars.specs.Characters.{slash}
 use Rattle.fisca_params.specs.Steps.Paths.{without_yaml}
 
 abbrev pub after_start : List ℕ → List ℕ → Option (List ℕ)

@@ -1,41 +1,13 @@
 -- A sum that is worked out bracket by bracket: each counts once the next threshold is known.
-use Rattle.std.specs.Prelude.{Bool, true, false, List, [], ◌∷◌, Option, Some, None, Result, Ok, Err, is_none, if◌then◌else◌}
+use Rattle.std.specs.Prelude.{Option, Some, None, Ok}
 use Rattle.fisca_num.specs.Number.{Number, zero_number}
-use Rattle.fisca_params.specs.declared.fault.ParamFault.{ParamFault}
-use Rattle.fisca_params.specs.declared.fault.ParamFault.TheVariants as fault
 use Rattle.fisca_params.specs.declared.bracket.CompleteBracket.{CompleteBracket}
 use Rattle.fisca_params.specs.declared.bracket.ScaleKind.{ScaleKind}
 use Rattle.fisca_params.specs.declared.tally.Tally.{Tally}
-use Rattle.fisca_params.specs.Scale.{in_params, has_equal}
-use Rattle.fisca_params.specs.Steps.Tally.{with_last, is_above}
 
 abbrev pub empty_tally : ScaleKind → Number → Tally
 empty_tally kind base = record { kind = kind; base = base; last = None; sum = Ok zero_number }
 
-abbrev pub tally_with : Tally → CompleteBracket → Tally
-tally_with t b = record { kind = t.kind; base = t.base; last = Some b; sum = with_last t (Some b.threshold) }
-
-abbrev pub tally_of : Tally → List CompleteBracket → Tally
-tally_of t [] = t
-tally_of t (b ∷ bs) = tally_of (tally_with t b) bs
-
--- the sum with all brackets
-abbrev pub answer_of : Tally → Result Number ParamFault
-answer_of t = if is_none t.last then Err fault.Undefined else in_params (with_last t None)
-
 abbrev pub threshold_of : Option CompleteBracket → Option Number
 threshold_of None = None
 threshold_of (Some b) = Some b.threshold
-
--- whether the thresholds rise, from that of a bracket before them
-abbrev pub rises_from : Option CompleteBracket → List CompleteBracket → Bool
-rises_from before [] = true
-rises_from before (b ∷ bs) = if is_above (threshold_of before) b.threshold then rises_from (Some b) bs else false
-
--- the sum over brackets that rise, from a tally on
-abbrev pub sum_if_rising : Tally → List CompleteBracket → Option (Result Number ParamFault)
-sum_if_rising t bs = if rises_from t.last bs then Some (answer_of (tally_of t bs)) else None
-
--- the sum over brackets no two of which have one threshold, from a tally on
-abbrev pub sum_if_distinct : Tally → List CompleteBracket → Result Number ParamFault
-sum_if_distinct t bs = if has_equal bs then Err fault.BadScale else answer_of (tally_of t bs)

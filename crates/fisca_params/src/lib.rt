@@ -12,6 +12,7 @@ mod nodes;
 mod parameter;
 mod read;
 mod scale;
+mod sorted;
 mod source;
 mod tally;
 mod tree;

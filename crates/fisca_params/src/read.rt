@@ -1,7 +1,7 @@
 //! Reading parameter files.
 ghost use Rattle.std.specs.Prelude.{◌≡◌, ◌≢◌, ◌<◌, Ok, Some, length, map, IfOk, IfErr, IfSome, OnOk};
 ghost use Rattle.fisca_params.specs.Answers.{Refuses, file_of};
-ghost use Rattle.fisca_params.specs.Files.{with_file, after_file, with_files};
+ghost use Rattle.fisca_params.specs.Files.{with_file, after_file, with_files, root_alone};
 ghost use Rattle.fisca_params.specs.Steps.Files.{tree_of, in_path_order};
 
 use crate::build::put_below;
@@ -27,9 +27,22 @@ impl ParamTree {
         ensures refused { IfErr result (λ fault. Refuses fault (tree_of files.now)) }
         ensures file { IfErr result (λ fault. IfSome (file_of fault) (λ file. file < length files.now)) }
     {
-        let mut nodes = Nodes::new(alloc)?;
         let sorted = in_path_order(alloc, files)?;
-        put_sources(&mut nodes, alloc, &sorted)?;
+        ParamTree::read_in_order(alloc, &sorted)
+    }
+
+    /// The same of files that [`in_path_order`] has put in order.
+    pub fn read_in_order(
+        alloc: Global,
+        sorted: &BTreeMap<(&str, usize), &SourceFile>,
+    ) -> Result<ParamTree, ParamFault>
+        ensures tree { IfOk result (λ t. with_files root_alone (map (λ e. (e.0.1, e.1.now)) sorted.now.entries) ≡ Ok t) }
+        ensures refused { IfErr result (λ fault. Refuses fault (with_files root_alone (map (λ e. (e.0.1, e.1.now)) sorted.now.entries))) }
+    {
+        let mut nodes = Nodes::new(alloc)?;
+        for (key, source) in sorted.iter() {
+            put_source(&mut nodes, alloc, key.1, source)?;
+        }
         Ok(ParamTree { nodes })
     }
 }
@@ -47,21 +60,6 @@ pub fn in_path_order<'f>(
         sorted.insert((file.path(), place), file)?;
     }
     Ok(sorted)
-}
-
-/// Puts the nodes of these files into the tree, one file after another.
-fn put_sources(
-    nodes: &mut Nodes,
-    alloc: Global,
-    sorted: &BTreeMap<(&str, usize), &SourceFile>,
-) -> Result<(), ParamFault>
-    ensures put { OnOk result (with_files nodes.old (map (λ e. (e.0.1, e.1.now)) sorted.now.entries) ≡ Ok nodes.new) }
-    ensures refused { IfErr result (λ fault. Refuses fault (with_files nodes.old (map (λ e. (e.0.1, e.1.now)) sorted.now.entries))) }
-{
-    for (key, source) in sorted.iter() {
-        put_source(nodes, alloc, key.1, source)?;
-    }
-    Ok(())
 }
 
 /// Puts the nodes of the file at this place into the tree, where it is a parameter file.

@@ -2,15 +2,18 @@
 ghost use Rattle.std.specs.Prelude.{◌≡◌};
 ghost use Rattle.fisca_params.specs.Scale.{kind_at, in_order, scale_sum};
 ghost use Rattle.fisca_params.specs.Steps.Scale.{has_amount_at, complete_at};
-ghost use Rattle.fisca_params.specs.Tally.{empty_tally, sum_if_rising, sum_if_distinct};
+ghost use Rattle.fisca_params.specs.Tally.{empty_tally};
+ghost use Rattle.fisca_params.specs.Steps.Tally.{sum_if_rising, sum_if_distinct};
 ghost use Rattle.std.specs.List.{filter_map, list_any};
 
 use crate::ParamFault;
 use crate::bracket::{Bracket, ScaleKind};
 use crate::lowest::lowest_above;
+use crate::sorted::sum_sorted;
 use crate::tally::Tally;
 use fisca_num::Fraction;
 use fisca_time::Instant;
+use std::alloc::Global;
 use std::marker::Model;
 
 /// A scale: its brackets as they are written, and whether it is marked single amount.
@@ -49,7 +52,10 @@ impl Scale {
         let kind = self.kind_at(instant);
         match sum_as_written(&self.brackets, kind, instant, base) {
             Some(sum) => sum,
-            None => sum_in_order(&self.brackets, kind, instant, base),
+            None => {
+                let alloc = *self.brackets.allocator();
+                sum_by_threshold(alloc, &self.brackets, kind, instant, base)
+            }
         }
     }
 
@@ -97,7 +103,24 @@ fn sum_as_written(
     Some(tally.answer())
 }
 
-/// The sum over the complete brackets in order of threshold. `BadScale` where two have one threshold.
+/// The sum over the complete brackets in order of threshold. `BadScale` where two have one threshold. Where no memory is
+/// given to sort them the sum takes longer.
+fn sum_by_threshold(
+    alloc: Global,
+    brackets: &[Bracket],
+    kind: ScaleKind,
+    instant: Instant,
+    base: Fraction,
+) -> Result<Fraction, ParamFault>
+    ensures { result ≡ sum_if_distinct (empty_tally kind base) (in_order (filter_map (complete_at kind instant) brackets.now)) }
+{
+    match sum_sorted(alloc, brackets, kind, instant, base) {
+        Ok(sum) => sum,
+        Err(_) => sum_in_order(brackets, kind, instant, base),
+    }
+}
+
+/// The same without memory: the lowest bracket is looked for again and again.
 fn sum_in_order(
     brackets: &[Bracket],
     kind: ScaleKind,

@@ -37,13 +37,6 @@ impl SourceFile {
         self.path.as_str()
     }
 
-    /// Whether the file is a parameter file, by its path.
-    pub fn is_parameter_file(&self) -> bool
-        ensures { result ≡ is_some (names_of self.now.path) }
-    {
-        is_parameter_path(self.path.as_str())
-    }
-
     /// The text.
     pub fn text(&self) -> &str
         ensures { result.now ≡ self.now.text }

@@ -1,7 +1,7 @@
 //! A scale's sum, worked out bracket by bracket in order of threshold.
 ghost use Rattle.std.specs.Prelude.{◌≡◌};
-ghost use Rattle.fisca_params.specs.Tally.{empty_tally, tally_with, answer_of, threshold_of};
-ghost use Rattle.fisca_params.specs.Steps.Tally.{with_last, is_above};
+ghost use Rattle.fisca_params.specs.Tally.{empty_tally, threshold_of};
+ghost use Rattle.fisca_params.specs.Steps.Tally.{tally_with, with_last, answer_of, is_above};
 
 use crate::ParamFault;
 use crate::bracket::{CompleteBracket, ScaleKind};

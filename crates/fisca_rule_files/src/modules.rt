@@ -4,7 +4,6 @@ ghost use Rattle.std.specs.Prelude.{◌≡◌, IfOk, map, slice_get};
 ghost use Rattle.fisca_rule_files.specs.Modules as spec;
 ghost use Rattle.fisca_rule_files.specs.Steps.Modules as steps;
 ghost use Rattle.fisca_rule_files.specs.Modules.{IsFaultOf, TellsFile};
-ghost use Rattle.fisca_params.specs.Steps.Files.{in_path_order};
 ghost use Rattle.fisca_rules.specs.Views.{rule_set};
 ghost use Rattle.fisca_ast.specs.ModuleViews.{statements};
 
@@ -12,16 +11,19 @@ use crate::Refusal;
 use fisca_ast::{FormulaFault, FormulaKind, Module};
 use fisca_folder::is_module;
 use fisca_names::BuildFault;
-use fisca_params::{ParamTree, SourceFile, in_path_order};
+use fisca_params::{ParamTree, SourceFile};
 use fisca_parser::read_module;
 use fisca_rules::RuleSet;
 use std::alloc::{AllocError, Global};
+use std::collections::BTreeMap;
 
-/// The modules among these files, in order of their paths.
-fn modules_in<'a>(alloc: Global, files: &'a [SourceFile]) -> Result<Vec<&'a SourceFile>, AllocError>
-    ensures { IfOk result (λ fs. map (λ f. f.now) fs.items ≡ steps.modules_in (in_path_order files.now)) }
+/// The modules among files in order of their paths.
+fn modules_in<'a>(
+    alloc: Global,
+    sorted: &BTreeMap<(&'a str, usize), &'a SourceFile>,
+) -> Result<Vec<&'a SourceFile>, AllocError>
+    ensures { IfOk result (λ fs. map (λ f. f.now) fs.items ≡ steps.modules_in (map (λ e. (e.0.1, e.1.now)) sorted.now.entries)) }
 {
-    let sorted = in_path_order(alloc, files)?;
     let mut modules = Vec::new(alloc);
     for (_place, file) in sorted.iter() {
         if is_module(file.path()) {
@@ -82,16 +84,16 @@ fn build<'a>(
     }
 }
 
-/// The rule set that the modules among these files make beside parameters. Else the first fault is told: of a module that
-/// cannot be read, in order of the paths, or of what all of them declare (`RuleSet::build` says in which order).
+/// The rule set that the modules among files in order of their paths make beside parameters. Else the first fault is told: of a
+/// module that cannot be read, in that order, or of what all of them declare (`RuleSet::build` says in which order).
 pub(crate) fn build_rules<'a>(
     alloc: Global,
     parameters: ParamTree,
-    files: &'a [SourceFile],
+    sorted: &BTreeMap<(&'a str, usize), &'a SourceFile>,
 ) -> Result<RuleSet<'a>, Refusal>
-    ensures { TellsFile rule_set (spec.rules_by parameters files.now) result }
+    ensures { TellsFile rule_set (spec.rules_in parameters (steps.modules_in (map (λ e. (e.0.1, e.1.now)) sorted.now.entries))) result }
 {
-    let modules = modules_in(alloc, files)?;
+    let modules = modules_in(alloc, sorted)?;
     build(alloc, parameters, modules.as_slice())
 }
 

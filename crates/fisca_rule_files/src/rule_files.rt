@@ -9,7 +9,7 @@ ghost use Rattle.fisca_rule_files.specs.RuleFiles.{count_of_files, IsAccepted, I
 use super::modules::build_rules;
 use crate::Refusal;
 use fisca_folder::is_rule_path;
-use fisca_params::{ParamFault, ParamTree, SourceFile};
+use fisca_params::{ParamFault, ParamTree, SourceFile, in_path_order};
 use fisca_rules::RuleSet;
 use std::alloc::Global;
 
@@ -30,7 +30,7 @@ fn count_files(files: &[SourceFile]) -> usize
 fn are_too_many(files: &[SourceFile]) -> bool
     ensures { result ≡ nat_lt 1000 (count_of_files files.now) }
 {
-    count_files(files) > MOST_FILES
+    files.len() > MOST_FILES && count_files(files) > MOST_FILES
 }
 
 /// The refusal of parameter files for a fault, with the path of the file that it names.
@@ -76,8 +76,9 @@ pub fn rules_of(alloc: Global, files: &[SourceFile]) -> Result<RuleSet<'_>, Refu
     if are_too_many(files) {
         return Err(Refusal::TooManyFiles);
     }
-    match ParamTree::read(alloc, files) {
-        Ok(tree) => build_rules(alloc, tree, files),
+    let sorted = in_path_order(alloc, files)?;
+    match ParamTree::read_in_order(alloc, &sorted) {
+        Ok(tree) => build_rules(alloc, tree, &sorted),
         Err(fault) => Err(refuse(alloc, files, fault)),
     }
 }

@@ -73,8 +73,9 @@ fn with_input(alloc: Global, given: &[Given], input: Given) -> Result<Vec<Given>
     Ok(all)
 }
 
-/// Inputs shared anew, without those of neutralised variables.
-fn shared_anew(
+/// The inputs of situations with these members, where this is given: shared anew, and without those of neutralised variables, which have a mark in
+/// `neutral`, by their places. Else as `Inputs::share` tells, at line 0. This project's own rule.
+pub fn shared_anew(
     alloc: Global,
     tables: &Tables<'_>,
     neutral: &[bool],

@@ -18,6 +18,7 @@ mod slot;
 mod variables;
 
 pub use answers::Answers;
+pub use axis::shared_anew;
 pub use axis_slot::slot_of;
 pub use cuts::cut_for;
 pub use given_inputs::GivenInputs;

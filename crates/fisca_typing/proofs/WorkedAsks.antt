@@ -258,11 +258,11 @@ unfolding group_method
 any_of_own = refl
 
 -- `g.nb_persons()`, `g.nb_persons(G.ROLE)`: number, own
-persons : is (behind (codes "nb_persons") []) ≡ number level.Own (count None)
+persons : is (behind (codes "nb_persons") []) ≡ number level.Own (count 0 None)
 unfolding group_method
 persons = refl
 
-children : is (behind (codes "nb_persons") (dot (w (codes "Household")) (codes "CHILD") ∷ [])) ≡ number level.Own (count (Some (whole_role 1)))
+children : is (behind (codes "nb_persons") (dot (w (codes "Household")) (codes "CHILD") ∷ [])) ≡ number level.Own (count 0 (Some (whole_role 1)))
 unfolding group_method known_word
 children = refl
 
@@ -273,6 +273,54 @@ persons_by_keyword = refl
 persons_of_other_role : is (behind (codes "nb_persons") (dot (w (codes "Club")) (codes "MEMBER") ∷ [])) ≡ Err kind.BadType
 unfolding group_method known_word
 persons_of_other_role = refl
+
+-- `person.G.nb_persons()`, `person.G.nb_persons(G.ROLE)` in a formula of persons, which this project adds: number, own
+abbrev behind_group : List ℕ → List Tree → Tree
+behind_group t xs = call (dot (dot person (codes "household")) t) xs
+
+persons_of_group : is_to_person (behind_group (codes "nb_persons") []) ≡ number level.Own (count 0 None)
+unfolding person_method
+persons_of_group = refl
+
+children_of_group : is_to_person (behind_group (codes "nb_persons") (dot (w (codes "Household")) (codes "CHILD") ∷ [])) ≡ number level.Own (count 0 (Some (whole_role 1)))
+unfolding person_method known_word
+children_of_group = refl
+
+members_of_club : is_to_person (behind_group (codes "nb_persons") (dot (w (codes "Club")) (codes "MEMBER") ∷ [])) ≡ Err kind.BadType
+unfolding person_method known_word
+members_of_club = refl
+
+sum_of_group : is_to_person (dot (dot person (codes "household")) (codes "sum")) ≡ Err kind.BadType
+unfolding person_method
+sum_of_group = refl
+
+persons_of_role : is (dot (dot household (codes "first_parent")) (codes "nb_persons")) ≡ Err kind.BadType
+unfolding group_method
+persons_of_role = refl
+
+-- `g.members.has_role(G.ROLE)` in a formula of groups, which this project adds: bool, members
+abbrev are_children : Tree
+are_children = call (dot (dot household (codes "members")) (codes "has_role")) (dot (w (codes "Household")) (codes "CHILD") ∷ [])
+
+roles_of_members : is are_children ≡ bool level.Members (has_role 0 (whole_role 1))
+unfolding group_method known_word
+roles_of_members = refl
+
+number_of_children : is (behind (codes "sum") (are_children ∷ [])) ≡ number level.Own (of_all total.Sum None (has_role 0 (whole_role 1)))
+unfolding group_method known_word
+number_of_children = refl
+
+roles_beside_own : is (binary op.Multiply n are_children) ≡ Err kind.BadLevel
+unfolding group_method known_word
+roles_beside_own = refl
+
+role_alone : is (dot household (codes "has_role")) ≡ Err kind.UnknownName
+unfolding group_method
+role_alone = refl
+
+persons_of_members : is (dot (dot household (codes "members")) (codes "nb_persons")) ≡ Err kind.BadType
+unfolding group_method
+persons_of_members = refl
 
 -- `g.name("v", p)`, name a subrole or a role with `max` 1, other than `members`: the value of that person, own
 of_subrole : is (behind (codes "first_parent") (salary ∷ period ∷ [])) ≡ number level.Own (ask 0 (whom.Holder (subrole_of 0 0)) asking.Plain [])

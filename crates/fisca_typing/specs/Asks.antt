@@ -7,6 +7,7 @@ use Rattle.fisca_ast.specs.declared.fault.FormulaKind.TheVariants as kind
 use Rattle.fisca_typing.specs.declared.asking.Asking.{Asking}
 use Rattle.fisca_typing.specs.declared.asking.Asking.TheVariants as asking
 use Rattle.fisca_model.specs.declared.role_place.RolePlace.{RolePlace}
+use Rattle.fisca_typing.specs.declared.asking.Whom.{Whom}
 use Rattle.fisca_typing.specs.declared.asking.Whom.TheVariants as whom
 use Rattle.fisca_typing.specs.declared.kinds.Level.{Level}
 use Rattle.fisca_typing.specs.declared.kinds.Level.TheVariants as level
@@ -20,7 +21,7 @@ use Rattle.fisca_typing.specs.Calls.{CallArgument, Positions, by_position, and_k
 use Rattle.fisca_typing.specs.Names.{Names, unknown_name}
 use Rattle.fisca_typing.specs.Nodes.{ask, has_role, count, total as total_node}
 use Rattle.fisca_model.specs.Tables.{Tables, Variable, is_person, is_group_of, is_person_at, place_in, role_of_key, roles_at, if_single, variable_named}
-use Rattle.fisca_typing.specs.Things.{Thing, Things, Relation, none, more, typed, value_of, text_of, things_of, period_of, option_of, role_of, method as method_thing}
+use Rattle.fisca_typing.specs.Things.{Thing, Things, Relation, none, more, typed, value_of, text_of, things_of, period_of, option_of, role_of, method as method_thing, group_count}
 use Rattle.fisca_typing.specs.Types.{bad_type, bad_level, is_numeric, is_bool, is_of_members}
 
 -- Variables
@@ -128,6 +129,29 @@ some_method (Some m) r = Ok (method_thing (Some m) r)
 abbrev pub asker_attribute : Names → List ℕ → Result Thing FormulaKind
 asker_attribute c t = some_method (method_named c t) (relation_named c t)
 
+-- Names behind a name behind the first argument, which this project adds: `GROUP.nb_persons` of a person, `members.has_role` of a group
+
+abbrev pub group_of_whom : Whom → Option ℕ
+group_of_whom (whom.Group g) = Some g
+group_of_whom _ = None
+
+abbrev pub group_led_to : Option Relation → Option ℕ
+group_led_to None = None
+group_led_to (Some r) = group_of_whom r.whom
+
+abbrev pub is_members : Option Method → Bool
+is_members (Some method.Members) = true
+is_members _ = false
+
+abbrev pub count_behind : List ℕ → Option ℕ → Result Thing FormulaKind
+count_behind t None = bad_type
+count_behind t (Some g) = if is t (codes "nb_persons") then Ok (group_count g) else bad_type
+
+abbrev pub method_attribute : List ℕ → Option Method → Option Relation → Result Thing FormulaKind
+method_attribute t m r =
+    if is_members m then (if is t (codes "has_role") then Ok (method_thing (Some method.EachHasRole) None) else bad_type)
+    else count_behind t (group_led_to r)
+
 -- Roles
 
 abbrev pub own_role : ℕ → ℕ × RolePlace → Result (Option RolePlace) FormulaKind
@@ -137,12 +161,13 @@ own_role entity r = if r.0 == entity then Ok (Some r.1) else bad_type
 abbrev pub role_in : ℕ → Thing → Result (Option RolePlace) FormulaKind
 role_in entity x = and_then (role_of x) (own_role entity)
 
-abbrev pub has_role_by : Positions → Result Thing FormulaKind
-has_role_by ps = and_then (alone ps) (λ s. and_then (role_of s.thing) (λ r. typed vt.Bool level.Own (has_role r.0 r.1)))
+-- of one person, or of each of a group's persons
+abbrev pub has_role_by : Level → Positions → Result Thing FormulaKind
+has_role_by l ps = and_then (alone ps) (λ s. and_then (role_of s.thing) (λ r. typed vt.Bool l (has_role r.0 r.1)))
 
 abbrev pub count_by : ℕ → Positions → Result Thing FormulaKind
-count_by entity (by_position []) = typed vt.Number level.Own (count None)
-count_by entity (by_position (s ∷ [])) = and_then (role_in entity s.thing) (λ r. typed vt.Number level.Own (count r))
+count_by entity (by_position []) = typed vt.Number level.Own (count entity None)
+count_by entity (by_position (s ∷ [])) = and_then (role_in entity s.thing) (λ r. typed vt.Number level.Own (count entity r))
 count_by entity (by_position (s ∷ t ∷ ss)) = bad_type
 count_by entity (and_keyword ss k x) = bad_type
 count_by entity more_keywords = bad_type
@@ -185,7 +210,8 @@ abbrev pub settled_positions : List CallArgument → (Positions → Result Thing
 settled_positions gs f = and_then (settled gs) (λ ss. f (positions ss))
 
 abbrev pub method_by : Names → Method → List CallArgument → Result Thing FormulaKind
-method_by c method.HasRole gs = settled_positions gs has_role_by
+method_by c method.HasRole gs = settled_positions gs (has_role_by level.Own)
+method_by c method.EachHasRole gs = settled_positions gs (has_role_by level.Members)
 method_by c method.Members gs = asked_with c.tables (to_person c.tables) level.Members gs
 method_by c (method.Total t) gs = settled_positions gs (total_by c.entity t)
 method_by c method.Count gs = settled_positions gs (count_by c.entity)

@@ -11,7 +11,7 @@ use Rattle.fisca_model.specs.declared.value_type.ValueType.TheVariants as vt
 use Rattle.fisca_typing.specs.Names.{Names}
 use Rattle.fisca_typing.specs.Nodes.{Node, local}
 use Rattle.fisca_typing.specs.Sizes.{Size, Sized, size_of, is_small}
-use Rattle.fisca_typing.specs.Things.{Thing, Typed, value, period, start, offset, reader, nodes, scale, calculation, enumeration, choices, entity, role, asker, method, library, function, option, text, listed, value_of}
+use Rattle.fisca_typing.specs.Things.{Thing, Typed, value, period, nodes, scale, choices, value_of}
 use Rattle.fisca_typing.specs.Types.{bad_type, bad_level, is_numeric}
 use Rattle.fisca_typing.specs.Typing.{thing_of}
 

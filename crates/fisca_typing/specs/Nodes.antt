@@ -22,8 +22,10 @@ mutual
     local : ℕ → Node
     date_part : DatePart → List Move → Node
     ask : ℕ → Whom → Asking → List Move → Node
+    -- of the person at hand: one of the group's persons where their values are taken, else the formula's own
     has_role : ℕ → RolePlace → Node
-    count : Option RolePlace → Node
+    -- of the group of an entity: the formula's own group, else that of its person
+    count : ℕ → Option RolePlace → Node
     total : Total → Option RolePlace → Node → Node
     unary : Unary → Node → Node
     arithmetic : Arithmetic → Node → Node → Node

@@ -52,6 +52,8 @@ mutual
     -- the first argument, and a name behind it
     asker : Thing
     method : Option Method → Option Relation → Thing
+    -- `GROUP.nb_persons` behind the first argument, a person, by the place of the group's entity
+    group_count : ℕ → Thing
     -- `np` and `numpy`
     library : Thing
     function : Function → Thing

@@ -16,7 +16,7 @@ use Rattle.fisca_model.specs.declared.role_place.RolePlace.{RolePlace}
 use Rattle.fisca_typing.specs.declared.kinds.Level.TheVariants as level
 use Rattle.fisca_model.specs.declared.value_type.ValueType.{ValueType}
 use Rattle.fisca_model.specs.declared.value_type.ValueType.TheVariants as vt
-use Rattle.fisca_typing.specs.Asks.{asked_with, to_self, asker_attribute, method_called, settled_positions}
+use Rattle.fisca_typing.specs.Asks.{asked_with, to_self, asker_attribute, count_by, method_attribute, method_called, settled_positions}
 use Rattle.fisca_typing.specs.Calls.{CallArgument, function_by, offset_of, reader_by, calculation_by}
 use Rattle.fisca_typing.specs.Names.{Names, named, library_function, unknown_name}
 use Rattle.fisca_typing.specs.Nodes.{literal, member}
@@ -25,7 +25,7 @@ use Rattle.fisca_typing.specs.Parameters.{node_attribute, scale_attribute, subsc
 use Rattle.fisca_typing.specs.Periods.{period_attribute, start_attribute}
 use Rattle.fisca_model.specs.Tables.{Tables, member_named, role_of_constant, roles_at}
 use Rattle.fisca_ast.specs.Steps.Contents.{content}
-use Rattle.fisca_typing.specs.Things.{Thing, Things, typed, value, period, start, offset, reader, nodes, scale, calculation, enumeration, choices, entity, role, asker, method, library, function, option, text, listed, none, more, value_of, nodes_of}
+use Rattle.fisca_typing.specs.Things.{Thing, Things, typed, value, period, start, offset, reader, nodes, scale, calculation, enumeration, choices, entity, role, asker, method, group_count, library, function, option, text, listed, none, more, value_of, nodes_of}
 use Rattle.fisca_typing.specs.Types.{bad_type}
 
 -- no module has a number that is none
@@ -64,6 +64,7 @@ attribute_of c t (enumeration e) = member_thing c.tables e t
 attribute_of c t (choices e) = member_thing c.tables e t
 attribute_of c t (entity g) = role_thing c.tables g t
 attribute_of c t asker = asker_attribute c t
+attribute_of c t (method m r) = method_attribute t m r
 attribute_of c t library = library_function t
 attribute_of _ _ _ = bad_type
 
@@ -78,6 +79,7 @@ called c reader gs = settled_positions gs (reader_by c.tables)
 called c (calculation n ms) gs = settled_positions gs (calculation_by n ms)
 called c asker gs = asked_with c.tables (to_self c.entity) level.Own gs
 called c (method m r) gs = method_called c m r gs
+called c (group_count g) gs = settled_positions gs (count_by g)
 called c (function f) gs = settled_positions gs (function_by f)
 called _ _ gs = not_called gs
 

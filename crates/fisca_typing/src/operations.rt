@@ -102,6 +102,8 @@ pub enum Function {
 pub enum Method {
     /// A person has a role.
     HasRole,
+    /// Each person of a group has a role or has it not (an addition of this project).
+    EachHasRole,
     /// Values of the persons of a group.
     Members,
     /// What they come to.

@@ -1,7 +1,9 @@
--- The numbers and the plain names of the faults of a run.
+-- The numbers and the plain names of the faults of a run, and the numbers of those of sinks.
 use Rattle.std.specs.Prelude.{ℕ, List, codes}
 use Rattle.fisca_writer.specs.declared.fault.RunFault.{RunFault}
 use Rattle.fisca_writer.specs.declared.fault.RunFault.TheVariants as fault
+use Rattle.fisca_writer.specs.declared.sink.SinkFault.{SinkFault}
+use Rattle.fisca_writer.specs.declared.sink.SinkFault.TheVariants as sink
 
 -- the plain name of a fault
 abbrev pub name_of : {F : Type 0} → RunFault F → List ℕ
@@ -15,3 +17,7 @@ number_of fault.BadPosition = 1
 number_of (fault.Eval position x) = 2
 number_of (fault.Write position) = 3
 number_of (fault.Memory position) = 4
+
+abbrev pub sink_number : SinkFault → ℕ
+sink_number sink.Write = 1
+sink_number sink.Memory = 2

@@ -4,6 +4,7 @@ ghost use Rattle.std.specs.Prelude.{◌≡◌, ℕ, OnOk, OnErr, is_err};
 ghost use Rattle.std.specs.Io.KnownBytes.{Appends};
 ghost use Rattle.fisca_writer.specs.Sink.{CountsFailure};
 ghost use Rattle.fisca_writer.specs.Steps.Sink.{one_more};
+ghost use Rattle.fisca_writer.specs.Fault.{sink_number};
 ghost use Rattle.fisca_writer.specs.Run.{AppendsPart};
 
 use std::marker::Model;
@@ -18,6 +19,18 @@ pub enum SinkFault {
     /// Memory was refused.
     #[error("Memory")]
     Memory = 2,
+}
+
+impl SinkFault {
+    /// The number of the fault, 1 or 2.
+    pub fn number(self) -> u8
+        ensures { result ≡ sink_number self }
+    {
+        match self {
+            SinkFault::Write => 1,
+            SinkFault::Memory => 2,
+        }
+    }
 }
 
 /// Takes the bytes of a run, and counts its failures.

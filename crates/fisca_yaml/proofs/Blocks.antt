@@ -1,13 +1,14 @@
 -- A block, by its first line.
-use Rattle.std.proofs.Common.{◌≡◌, ℕ, zero, suc, ◌-◌, ◌<◌, Bool, true, false, ◌||◌, List, [], ◌∷◌, Option, Some, None, option_map, is_some, refl, ap, ◌∙◌, arith}
+use Rattle.std.proofs.Common.{◌≡◌, ℕ, zero, suc, ◌-◌, ◌<◌, true, false, List, [], ◌∷◌, Option, Some, None, option_map, is_some, refl, ap, ◌∙◌, arith}
 use Rattle.std.proofs.lemmas.Bool.Decides.{nat_tests}
 use Rattle.std.proofs.lemmas.Bool.{or_parts}
 use Rattle.fisca_yaml.specs.Node.{Node, null, list}
-use Rattle.fisca_yaml.specs.Rows.{Row}
-use Rattle.fisca_yaml.specs.Steps.Rows.{rank, begins_item, is_marker}
-use Rattle.fisca_yaml.specs.Scalars.{Read, entry_of}
-use Rattle.fisca_yaml.specs.Grouping.{Group, front, groups, items_of, entries_of, item_value, entry_value, entry_with, block, block_step, value_of, map_of, alone, on_line}
-use Rattle.fisca_yaml.specs.Steps.Grouping.{opens}
+use Rattle.fisca_yaml_scalars.specs.Rows.{Row}
+use Rattle.fisca_yaml_scalars.specs.Steps.Rows.{rank, begins_item, is_marker}
+use Rattle.fisca_yaml_scalars.specs.Scalars.{Read, entry_of}
+use Rattle.fisca_yaml.specs.Grouping.{Group, groups, items_of, entries_of, item_value, entry_value, entry_with, block, block_step, value_of, map_of, alone, on_line}
+use Rattle.fisca_yaml_scalars.specs.Deeper.{front}
+use Rattle.fisca_yaml_scalars.specs.Steps.Openings.{opens}
 
 pub block-nil : (d : ℕ) → block d [] ≡ Some null
 unfolding block

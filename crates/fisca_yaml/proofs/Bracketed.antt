@@ -5,8 +5,8 @@ use Rattle.fisca_yaml.specs.Node.{Node, list, map, keys, repeats, Items, item, E
 use Rattle.fisca_yaml.specs.Views.{node, items_before, AddsItem, entries_before, AddsEntry}
 use Rattle.fisca_yaml.specs.declared.tree.Item.{Item}
 use Rattle.fisca_yaml.specs.declared.tree.Entry.{Entry}
-use Rattle.fisca_yaml.specs.Steps.Rows.{begins, tail}
-use Rattle.fisca_yaml.specs.Steps.Scalars.{past_blanks}
+use Rattle.fisca_yaml_scalars.specs.Steps.Rows.{begins, tail}
+use Rattle.fisca_yaml_scalars.specs.Steps.Scalars.{past_blanks}
 use Rattle.fisca_yaml.specs.Grouping.{map_of}
 use Rattle.fisca_yaml.specs.Answers.{Gives, GivesAnd}
 use Rattle.fisca_yaml.specs.declared.fault.YamlFault.{YamlFault}

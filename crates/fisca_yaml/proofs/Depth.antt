@@ -5,13 +5,16 @@ use Rattle.std.specs.List.{list_all}
 use Rattle.std.specs.Prelude.{◌^◌}
 use Rattle.std.proofs.lemmas.Bool.Decides.{nat_tests}
 use Rattle.fisca_yaml.specs.Node.{Node, keys, repeats, null, scalar, list, map, Items, no_items, item, Entries, no_entries, nested, items_nested, entries_nested}
-use Rattle.fisca_yaml.specs.Rows.{Row}
-use Rattle.fisca_yaml.specs.Steps.Rows.{rank, begins_item, following, after_dash, is_marker, text_rows, tail}
-use Rattle.fisca_yaml.specs.Scalars.{Read, entry_of, quoted, quoted_value, plain_value, key_split, before_comment}
-use Rattle.fisca_yaml.specs.Steps.Scalars.{is_key, is_quote, ends_line, leaf, may_begin, trim_end}
+use Rattle.fisca_yaml_scalars.specs.Rows.{Row}
+use Rattle.fisca_yaml_scalars.specs.Steps.Rows.{rank, begins_item, following, after_dash, is_marker, text_rows, tail}
+use Rattle.fisca_yaml_scalars.specs.Scalars.{Read, entry_of, quoted, key_split, before_comment}
+use Rattle.fisca_yaml.specs.Leaves.{quoted_value, plain_value}
+use Rattle.fisca_yaml_scalars.specs.Steps.Scalars.{is_key, is_quote, ends_line, may_begin, trim_end}
+use Rattle.fisca_yaml.specs.Steps.Leaves.{leaf}
 use Rattle.fisca_yaml.specs.Flow.{add_pair, flow_value}
 use Rattle.fisca_yaml.specs.Grouping.{Group, groups, joined, all_of, items_of, entries_of, item_value, item_rest, entry_value, entry_rest, entry_with, keyed, alone, ended, on_line, is_text_line, text_block, beside, block, block_step, value_of, map_of, tree, document}
-use Rattle.fisca_yaml.specs.Steps.Grouping.{is_bracket, is_header, begins_text, opens, opens_item}
+use Rattle.fisca_yaml_scalars.specs.Steps.Openings.{is_bracket, begins_text, opens, opens_item}
+use Rattle.fisca_yaml.specs.Steps.Grouping.{is_header}
 use Rattle.fisca_yaml.proofs.Blocks.{block-nil}
 use Rattle.fisca_yaml.proofs.FlowDepth.{deep_pair, flow_grow, flow_bounded, leaf_nests}
 

@@ -1,9 +1,10 @@
 -- A value in brackets that is found at any depth is found at its own, and a value found at a depth is no deeper.
 use Rattle.std.proofs.Common.{◌≡◌, ℕ, zero, suc, max, ◌≤◌, Bool, true, false, cond, ◌||◌, List, length, Option, Some, None, option_and_then, refl, sym, ap, subst, ◌∙◌, arith}
 use Rattle.fisca_yaml.specs.Node.{Node, null, scalar, list, map, keys, repeats, Items, no_items, item, Entries, no_entries, nested, items_nested, entries_nested}
-use Rattle.fisca_yaml.specs.Steps.Rows.{begins, tail}
-use Rattle.fisca_yaml.specs.Scalars.{Read, quoted}
-use Rattle.fisca_yaml.specs.Steps.Scalars.{past_blanks, is_null_word, is_quote, leaf}
+use Rattle.fisca_yaml_scalars.specs.Steps.Rows.{begins, tail}
+use Rattle.fisca_yaml_scalars.specs.Scalars.{Read, quoted}
+use Rattle.fisca_yaml_scalars.specs.Steps.Scalars.{past_blanks, is_null_word, is_quote}
+use Rattle.fisca_yaml.specs.Steps.Leaves.{leaf}
 use Rattle.fisca_yaml.specs.Flow.{Parse, parse_map, plain_flow, flow_scalar, after_value, then_more, series, flow_items, flow_entries, flow_entry, entry_then, beside_key, value_or_null, flow_key, add_pair, map_apart, flow_with, flow_value}
 
 some_same : {X : Type 0} {a b : X} → Some a ≡ Some b → a ≡ b

@@ -1,9 +1,10 @@
 -- Fronts of fronts, and the groups of what is left.
 use Rattle.std.proofs.Common.{◌≡◌, ℕ, ◌+◌, ◌<◌, ◌≤◌, List, [], ◌∷◌, length, Option, Some, None, option_map, IfNone, IfSome, refl, sym, ap, ◌∙◌, arith}
 use Rattle.std.proofs.lemmas.Bool.Decides.{nat_tests}
-use Rattle.fisca_yaml.specs.Rows.{Row}
-use Rattle.fisca_yaml.specs.Steps.Rows.{rank}
-use Rattle.fisca_yaml.specs.Grouping.{Group, front, after, groups, joined, all_of}
+use Rattle.fisca_yaml_scalars.specs.Rows.{Row}
+use Rattle.fisca_yaml_scalars.specs.Steps.Rows.{rank}
+use Rattle.fisca_yaml.specs.Grouping.{Group, groups, joined, all_of}
+use Rattle.fisca_yaml_scalars.specs.Deeper.{front, after}
 
 -- the first lines deeper than r, among those deeper than f
 pub front_front : (f r : ℕ) (ls : List Row) → f ≤ r → front r (front f ls) ≡ front r ls

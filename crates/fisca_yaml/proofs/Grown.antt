@@ -1,9 +1,10 @@
 -- Lists of items and entries that grow at their end, and their loops, a turn at a time.
 use Rattle.std.proofs.Common.{◌≡◌, ℕ, ◌≤◌, List, [], ◌∷◌, ◌++◌, Option, Some, None, option_map, refl, sym, ap, ◌∙◌, rules, Vec}
 use Rattle.fisca_yaml.specs.Node.{list, Items, no_items, item, Entries, no_entries, entry}
-use Rattle.fisca_yaml.specs.Rows.{Row}
-use Rattle.fisca_yaml.specs.Steps.Rows.{rank}
-use Rattle.fisca_yaml.specs.Grouping.{Group, front, after, groups, joined, all_of}
+use Rattle.fisca_yaml_scalars.specs.Rows.{Row}
+use Rattle.fisca_yaml_scalars.specs.Steps.Rows.{rank}
+use Rattle.fisca_yaml.specs.Grouping.{Group, groups, joined, all_of}
+use Rattle.fisca_yaml_scalars.specs.Deeper.{front, after}
 use Rattle.fisca_yaml.specs.Views.{node, Seen_item, Seen_entry, seen_item, seen_entry, items_view, entries_view, items_before, entries_before, AddsItem, AddsEntry}
 use Rattle.fisca_yaml.specs.declared.tree.Tree.{Tree, List as TreeList, the_lemmas}
 use Rattle.fisca_yaml.specs.declared.tree.Item.{Item, roll-Item, the_lemmas as item_lemmas}

@@ -5,8 +5,6 @@ pub mod FlowDepth
 pub mod Grown
 pub mod Groups
 pub mod Numbers
-pub mod Quotes
-pub mod Splits
 pub mod Steps
 pub mod Twice
 pub mod Worked

@@ -1,11 +1,11 @@
 -- The numbers of lines, and the lines of entries.
-use Rattle.std.proofs.Common.{◌≡◌, ℕ, zero, suc, max, ◌+◌, ◌<◌, ◌≤◌, Bool, true, false, List, [], ◌∷◌, length, get_or, Option, Some, None, option_map, refl, sym, ap, subst, ◌∙◌, cond, eqb, arith}
+use Rattle.std.proofs.Common.{◌≡◌, ℕ, zero, suc, max, ◌+◌, ◌<◌, ◌≤◌, Bool, true, false, List, [], ◌∷◌, length, get_or, Option, Some, None, refl, sym, ap, subst, ◌∙◌, cond, eqb, arith}
 use Rattle.std.proofs.lemmas.Bool.Decides.{nat_tests}
 use Rattle.std.specs.Str.Lines.{lines}
 use Rattle.fisca_yaml.specs.Node.{Node, Entries, no_entries, entry, AreNumbered, last_line}
-use Rattle.fisca_yaml.specs.Rows.{Row, with_row, last_number}
-use Rattle.fisca_yaml.specs.Steps.Rows.{rank, is_blank, is_empty_line, is_start, indented, row_of, rows, past_marker, text_rows}
-use Rattle.fisca_yaml.specs.Grouping.{front, after}
+use Rattle.fisca_yaml_scalars.specs.Rows.{Row, with_row, last_number}
+use Rattle.fisca_yaml_scalars.specs.Steps.Rows.{is_empty_line, is_start, indented, row_of, rows, past_marker, text_rows}
+use Rattle.fisca_yaml_scalars.specs.Deeper.{after}
 use Rattle.fisca_yaml.specs.Views.{Seen_entry, Seen_item, seen_entry, tree_step, entry_step, item_step, entries_view, entries_before, AddsEntry}
 use Rattle.fisca_yaml.specs.declared.tree.Entry.{Entry, fold_out-Entry}
 use Rattle.fisca_yaml.proofs.Grown.{entries_before-no_entries}

@@ -1,11 +1,11 @@
 -- Collections in brackets, on one line.
 use Rattle.std.specs.Prelude.{ℕ, zero, suc, List, [], ◌∷◌, length, Bool, true, false, not, ◌==◌, ◌||◌, ◌&&◌, if◌then◌else◌, Option, Some, None, option_map, option_and_then}
-use Rattle.fisca_yaml.specs.Characters.{comma, colon, open_bracket, close_bracket, open_brace, close_brace}
+use Rattle.fisca_yaml_scalars.specs.Characters.{comma, colon, open_bracket, close_bracket, open_brace, close_brace}
 use Rattle.fisca_yaml.specs.Node.{Node, null, scalar, list, map, keys, repeats, Items, no_items, item, Entries, no_entries, entry}
-use Rattle.fisca_yaml.specs.Steps.Rows.{is_blank, begins, tail}
-use Rattle.fisca_yaml.specs.Scalars.{Read, quoted}
-use Rattle.fisca_yaml.specs.Steps.Scalars.{is_quote, past_blanks, trim_end, may_begin, leaf, is_key, is_nil}
-use Rattle.fisca_yaml.specs.Steps.Flow.{ends_key, stops}
+use Rattle.fisca_yaml_scalars.specs.Steps.Rows.{begins, tail}
+use Rattle.fisca_yaml_scalars.specs.Scalars.{Read, quoted, word, past_word}
+use Rattle.fisca_yaml_scalars.specs.Steps.Scalars.{is_quote, past_blanks, trim_end, may_begin, is_key, is_nil, ends_key}
+use Rattle.fisca_yaml.specs.Steps.Leaves.{leaf}
 
 -- what is read, and the text after it
 abbrev pub Parse : Type 0 → Type 0
@@ -13,15 +13,6 @@ Parse A = List ℕ → Option (A × List ℕ)
 
 abbrev pub parse_map : {A B : Type 0} → (A → B) → Option (A × List ℕ) → Option (B × List ℕ)
 parse_map f r = option_map (λ p. (f p.0, p.1)) r
-
-abbrev pub word : Bool → List ℕ → List ℕ
-word after [] = []
-word after (b ∷ bs) = if stops after b bs then [] else b ∷ word (is_blank b) bs
-
--- what is left; a comment there closes nothing
-abbrev pub past_word : Bool → List ℕ → List ℕ
-past_word after [] = []
-past_word after (b ∷ bs) = if stops after b bs then b ∷ bs else past_word (is_blank b) bs
 
 -- a plain scalar, which has a character
 abbrev pub plain_flow : List ℕ → Read

@@ -1,29 +1,22 @@
 -- The lines, grouped by their depth, and what they stand for.
 use Rattle.std.specs.Prelude.{◌≡◌, ◌≤◌, ◌^◌, ℕ, zero, suc, List, [], ◌∷◌, length, Bool, true, not, ◌==◌, ◌&&◌, nat_lt, if◌then◌else◌, Option, Some, None, option_map}
-use Rattle.fisca_yaml.specs.Characters.{tab}
+use Rattle.fisca_yaml_scalars.specs.Characters.{tab}
 use Rattle.std.specs.List.{list_all}
 use Rattle.fisca_yaml.specs.Node.{Node, nested, keys, repeats, null, scalar, list, map, Items, no_items, item, Entries, no_entries}
-use Rattle.fisca_yaml.specs.Rows.{Row}
-use Rattle.fisca_yaml.specs.Steps.Rows.{begins, tail, begins_item, rank, following, after_dash, is_marker, text_rows}
-use Rattle.fisca_yaml.specs.Scalars.{Read, entry_of, quoted, quoted_value, plain_value}
-use Rattle.fisca_yaml.specs.Steps.Scalars.{is_key, is_quote, ends_line}
+use Rattle.fisca_yaml_scalars.specs.Rows.{Row}
+use Rattle.fisca_yaml_scalars.specs.Steps.Rows.{begins, tail, begins_item, rank, following, after_dash, is_marker, text_rows}
+use Rattle.fisca_yaml_scalars.specs.Deeper.{front}
+use Rattle.fisca_yaml_scalars.specs.Scalars.{Read, entry_of, quoted}
+use Rattle.fisca_yaml.specs.Leaves.{quoted_value, plain_value}
+use Rattle.fisca_yaml_scalars.specs.Steps.Scalars.{is_key, is_quote, ends_line}
 use Rattle.fisca_yaml.specs.Flow.{add_pair, flow_value}
-use Rattle.fisca_yaml.specs.Steps.Grouping.{is_bracket, is_header, opens, begins_text, opens_item}
+use Rattle.fisca_yaml_scalars.specs.Steps.Openings.{is_bracket, opens, begins_text, opens_item}
+use Rattle.fisca_yaml.specs.Steps.Grouping.{is_header}
 
 -- a line, and the deeper lines below it
 pub record Group : Type 0 where
   pub head : Row
   pub inside : List Row
-
--- the first lines, as long as they are deeper
-abbrev pub front : ℕ → List Row → List Row
-front r [] = []
-front r (l ∷ ls) = if nat_lt r (rank l) then l ∷ front r ls else []
-
--- the lines from the first one that isn't deeper
-abbrev pub after : ℕ → List Row → List Row
-after r [] = []
-after r (l ∷ ls) = if nat_lt r (rank l) then after r ls else l ∷ ls
 
 -- each line that isn't deeper, with all deeper lines that follow it
 abbrev pub groups : ℕ → List Row → List Group

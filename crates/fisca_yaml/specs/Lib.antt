@@ -1,12 +1,9 @@
-pub mod Characters
 pub mod Answers
 pub mod Faults
 pub mod Find
 pub mod Flow
 pub mod Grouping
-pub mod Lines
+pub mod Leaves
 pub mod Node
-pub mod Rows
-pub mod Scalars
 pub mod Steps
 pub mod Views

@@ -1,5 +1,3 @@
 pub mod Find
-pub mod Flow
 pub mod Grouping
-pub mod Rows
-pub mod Scalars
+pub mod Leaves

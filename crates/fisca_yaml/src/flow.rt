@@ -1,12 +1,11 @@
 //! Lists and maps in brackets.
 
-ghost use Rattle.std.specs.Prelude.{◌≡◌, ◌≢◌, ◌<◌, ◌≤◌, ◌-◌, ◌∷◌, Some, None, length, IsTrue, IfOk, OnOk, MatchOption, MatchResult, false, true, slice_index, drop, ◌+◌, take, [], option_map, IfErr};
+ghost use Rattle.std.specs.Prelude.{◌≡◌, ◌≢◌, ◌<◌, ◌≤◌, ◌-◌, Some, None, length, IfOk, OnOk, MatchOption, MatchResult, false, true, take, IfErr};
 ghost use Rattle.std.specs.Bool.{OnTrue, OnFalse};
-ghost use Rattle.fisca_yaml.specs.Steps.Rows.{begins, tail};
-ghost use Rattle.fisca_yaml.specs.Scalars.{quoted};
-ghost use Rattle.fisca_yaml.specs.Steps.Scalars.{is_quote, past_blanks, is_key};
+ghost use Rattle.fisca_yaml_scalars.specs.Steps.Rows.{begins, tail};
+ghost use Rattle.fisca_yaml_scalars.specs.Scalars.{quoted};
+ghost use Rattle.fisca_yaml_scalars.specs.Steps.Scalars.{is_quote, past_blanks, is_key, ends_key};
 ghost use Rattle.fisca_yaml.specs.Flow.{plain_flow, after_value, flow_key, flow_entry, flow_items, flow_entries, flow_scalar, flow_value, value_or_null, keyed_by};
-ghost use Rattle.fisca_yaml.specs.Steps.Flow.{ends_key};
 ghost use Rattle.fisca_yaml.specs.Grouping.{map_of};
 ghost use Rattle.fisca_yaml.specs.Views.{node, items_view, entries_view, keyed_view};
 ghost use Rattle.fisca_yaml.specs.Answers.{GivesAnd, Gives, IsTold};
@@ -14,10 +13,11 @@ ghost use Rattle.fisca_yaml.specs.Node.{AreNumbered, last_line};
 
 use crate::fault::{YamlFault, YamlKind, at};
 use crate::keys::{first_fault, first_of_entry, repeated};
-use crate::marks::{around, begins, is_quote, may_begin, past_blanks, trim_end};
-use crate::plain::{ends_key, is_key, word_len};
-use crate::quoted::read_quoted;
-use crate::tree::{Entry, Item, Text, Tree, leaf, push_entry, push_item, quoted_scalar};
+use crate::tree::{Entry, Item, Tree, leaf, push_entry, push_item, quoted_scalar};
+use fisca_yaml_scalars::{
+    Text, around, begins, ends_key, is_key, is_quote, may_begin, past_blanks, read_quoted,
+    trim_end, word_len,
+};
 use std::alloc::{AllocError, Global};
 use std::marker::Model;
 

@@ -5,17 +5,12 @@
 mod fault;
 mod flow;
 mod keys;
-mod line;
-mod lines;
-mod marks;
 mod misfit;
-mod plain;
-mod quoted;
 mod reader;
-mod split;
 mod tree;
 mod value;
 
 pub use fault::{YamlFault, YamlKind};
+pub use fisca_yaml_scalars::Text;
 pub use reader::read;
-pub use tree::{Entry, Item, Text, Tree};
+pub use tree::{Entry, Item, Tree};

@@ -4,9 +4,8 @@ ghost use Rattle.std.specs.Prelude.{◌≡◌, ◌&&◌, ◌==◌, nat_lt, ◌/�
 ghost use Rattle.fisca_yaml.specs.Answers.{IsTold};
 
 use crate::fault::{YamlFault, YamlKind, at};
-use crate::line::Line;
-use crate::plain::is_key;
 use crate::value::read_on_line;
+use fisca_yaml_scalars::{Line, is_key};
 use std::alloc::Global;
 
 /// Whether an indentation is that of the entry or item of this rank.

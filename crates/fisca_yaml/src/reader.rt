@@ -1,24 +1,23 @@
 //! Reading a text: its lines, grouped by how deep they stand.
 
-ghost use Rattle.std.specs.Prelude.{◌≡◌, ◌≢◌, ℕ, ◌^◌, length, ◌∷◌, ◌<◌, ◌-◌, Some, None, Ok, Err, IfOk, OnOk, IfErr, IsTrue, List, MatchResult, is_some, ◌≤◌, OnErr, IsErrAnd, ◌↔◌};
-ghost use Rattle.fisca_yaml.specs.Rows.{last_number};
-ghost use Rattle.fisca_yaml.specs.Steps.Rows.{rank, begins_item, following};
+ghost use Rattle.std.specs.Prelude.{◌≡◌, ◌≢◌, ℕ, ◌^◌, length, ◌∷◌, ◌<◌, ◌-◌, Some, None, Ok, Err, IfOk, OnOk, IfErr, IsTrue, List, MatchResult, ◌≤◌, OnErr, IsErrAnd, ◌↔◌};
+ghost use Rattle.fisca_yaml_scalars.specs.Rows.{last_number};
+ghost use Rattle.fisca_yaml_scalars.specs.Steps.Rows.{rank, begins_item, following};
 ghost use Rattle.std.specs.Str.Lines.{lines};
-ghost use Rattle.fisca_yaml.specs.Grouping.{Group, front, after, groups, items_of, entries_of, item_value, entry_value, entry_rest, block, map_of, tree, IsTree, Within, document};
+ghost use Rattle.fisca_yaml.specs.Grouping.{groups, items_of, entries_of, item_value, entry_value, entry_rest, block, tree, IsTree, Within, document};
+ghost use Rattle.fisca_yaml_scalars.specs.Deeper.{front, after};
 ghost use Rattle.fisca_yaml.specs.Node.{Node, AreNumbered, last_line};
-ghost use Rattle.fisca_yaml.specs.Lines.{row};
+ghost use Rattle.fisca_yaml_scalars.specs.Lines.{row};
 ghost use Rattle.fisca_yaml.specs.Views.{node, items_view, entries_view, AddsEntry};
 ghost use Rattle.fisca_yaml.specs.Answers.{Gives, IsTold};
 
 use crate::fault::{YamlFault, YamlKind, at};
 use crate::flow::make_map;
 use crate::keys::{first_fault, first_of_entry};
-use crate::line::Line;
-use crate::lines::Lines;
 use crate::misfit::{is_open, misfit, misplaced};
-use crate::plain::is_key;
-use crate::tree::{Entry, Item, Text, Tree, push_entry, push_item};
+use crate::tree::{Entry, Item, Tree, push_entry, push_item};
 use crate::value::{read_alone, read_beside};
+use fisca_yaml_scalars::{Line, Lines, Text, is_key};
 use std::alloc::Global;
 
 /// The longest text, in bytes.

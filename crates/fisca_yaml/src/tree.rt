@@ -1,63 +1,16 @@
 //! What a text means.
 
-ghost use Rattle.std.specs.Prelude.{◌≡◌, ℕ, string_bytes, option_map, unwrap_or, Some, OnOk, IfErr, true, OnErr};
+ghost use Rattle.std.specs.Prelude.{◌≡◌, ℕ, option_map, unwrap_or, Some, OnOk, IfErr, true, OnErr};
 ghost use Rattle.fisca_yaml.specs.Node.{scalar};
-ghost use Rattle.fisca_yaml.specs.Steps.Scalars.{leaf};
+ghost use Rattle.fisca_yaml.specs.Steps.Leaves.{leaf};
 ghost use Rattle.fisca_yaml.specs.Views.{node, entries_view, AddsItem, AddsEntry};
 ghost use Rattle.fisca_yaml.specs.Find.{get_entry, begins_on, entry_line, line_at};
 ghost use Rattle.fisca_yaml.specs.Steps.Find.{get, as_text, as_plain, as_bool, as_number, bool_of};
 
 use crate::fault::{YamlFault, YamlKind};
-use crate::plain::is_null_word;
 use fisca_num::Fraction;
+use fisca_yaml_scalars::{Text, is_null_word};
 use std::alloc::{AllocError, Global};
-use std::borrow::CowStr;
-use std::marker::Model;
-
-/// A text that is borrowed from the source for a plain scalar and for a quoted one without escapes, and else owned.
-#[derive(Debug, Drop)]
-pub struct Text<'a> {
-    inner: CowStr<'a, Global>,
-}
-
-impl<'a> Model for Text<'a> {
-    ghost use Rattle.std.specs.Prelude.{ℕ, List};
-    ghost use Rattle.std.specs.Cow.{cow_str_bytes};
-
-    ghost Value = { List ℕ };
-
-    ghost view = { λ t. cow_str_bytes t.inner };
-}
-
-impl<'a> Text<'a> {
-    /// A text that stands in the source.
-    pub(crate) fn borrowed(text: &'a str) -> Text<'a>
-        ensures { result ≡ text.now }
-    {
-        Text {
-            inner: CowStr::Borrowed(text),
-        }
-    }
-
-    /// A text of its own.
-    pub(crate) fn owned(text: String) -> Text<'a>
-        ensures { result ≡ string_bytes text }
-    {
-        Text {
-            inner: CowStr::Owned(text),
-        }
-    }
-
-    /// The text.
-    pub fn as_str(&self) -> &str
-        ensures { result.now ≡ self.now }
-    {
-        match &self.inner {
-            CowStr::Borrowed(text) => text,
-            CowStr::Owned(text) => text.as_str(),
-        }
-    }
-}
 
 /// What a text means: nothing, a scalar, a list or a map, as in YAML 1.1. It borrows the text.
 #[cycle(tree)]

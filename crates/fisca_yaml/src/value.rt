@@ -1,27 +1,28 @@
 //! Values beside a key or a dash.
 
-ghost use Rattle.std.specs.Prelude.{◌≡◌, ◌≢◌, ℕ, ◌∷◌, Some, None, Ok, Err, OnOk, IfOk, true, false, ◌||◌, IfErr};
-ghost use Rattle.std.specs.List.{list_all};
-ghost use Rattle.fisca_yaml.specs.Rows.{last_number};
-ghost use Rattle.fisca_yaml.specs.Steps.Rows.{begins, tail};
-ghost use Rattle.fisca_yaml.specs.Scalars.{quoted, quoted_value, plain_value};
-ghost use Rattle.fisca_yaml.specs.Steps.Scalars.{is_quote};
+ghost use Rattle.std.specs.Prelude.{◌≡◌, ◌∷◌, Some, None, Ok, Err, OnOk, true, ◌||◌, IfErr};
+ghost use Rattle.fisca_yaml_scalars.specs.Rows.{last_number};
+ghost use Rattle.fisca_yaml_scalars.specs.Steps.Rows.{begins, tail};
+ghost use Rattle.fisca_yaml_scalars.specs.Scalars.{quoted};
+ghost use Rattle.fisca_yaml.specs.Leaves.{quoted_value, plain_value};
+ghost use Rattle.fisca_yaml_scalars.specs.Steps.Scalars.{is_quote};
 ghost use Rattle.fisca_yaml.specs.Flow.{flow_value};
-ghost use Rattle.fisca_yaml.specs.Grouping.{front, after, alone, ended, on_line, is_text_line, text_block, beside};
-ghost use Rattle.fisca_yaml.specs.Steps.Grouping.{is_sign, is_header, begins_text};
-ghost use Rattle.fisca_yaml.specs.Lines.{row};
+ghost use Rattle.fisca_yaml_scalars.specs.Deeper.{front, after};
+ghost use Rattle.fisca_yaml.specs.Grouping.{alone, ended, on_line, text_block, beside};
+ghost use Rattle.fisca_yaml.specs.Steps.Grouping.{is_sign, is_header};
+ghost use Rattle.fisca_yaml_scalars.specs.Steps.Openings.{begins_text};
+ghost use Rattle.fisca_yaml_scalars.specs.Lines.{row};
 ghost use Rattle.fisca_yaml.specs.Views.{node};
 ghost use Rattle.fisca_yaml.specs.Answers.{Gives, IsTold};
 
 use crate::fault::{YamlFault, YamlKind, at};
 use crate::flow::{Flow, read_flow, refused_kind};
-use crate::line::Line;
-use crate::lines::Lines;
-use crate::marks::{around, ends_line, is_bracket, is_quote, may_begin, trim_end};
 use crate::misfit::{is_open, misplaced};
-use crate::plain::value_text;
-use crate::quoted::read_quoted;
-use crate::tree::{Text, Tree, leaf, quoted_scalar};
+use crate::tree::{Tree, leaf, quoted_scalar};
+use fisca_yaml_scalars::{
+    Line, Lines, Text, around, ends_line, is_bracket, is_quote, may_begin, read_quoted, trim_end,
+    value_text,
+};
 use std::alloc::Global;
 
 /// The value that begins and ends on a line: a scalar or a collection in brackets.

@@ -44,26 +44,6 @@ class is_of_age(Variable):
         return person("age", period) >= parameters(period).age_of_majority
 
 
-class household_size(Variable):
-    value_type = int
-    entity = Household
-    definition_period = MONTH
-    label = "How many live in the household"
-
-    def formula(household, period):
-        return household.nb_persons()
-
-
-class number_of_children(Variable):
-    value_type = int
-    entity = Household
-    definition_period = MONTH
-    label = "Children of the household, of any age"
-
-    def formula(household, period):
-        return household.nb_persons(Household.CHILD)
-
-
 class minors(Variable):
     value_type = int
     entity = Household
@@ -71,4 +51,5 @@ class minors(Variable):
     label = "Children of the household who are not of age"
 
     def formula(household, period):
-        return household.sum(not_(household.members("is_of_age", period)), role=Household.CHILD)
+        are_children = household.members.has_role(Household.CHILD)
+        return household.sum(are_children & not_(household.members("is_of_age", period)))

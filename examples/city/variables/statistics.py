@@ -22,9 +22,8 @@ class highest_income_of_child(Variable):
     label = "Highest income of a child, 0 where there is none"
 
     def formula(household, period):
-        has_children = household.nb_persons(Household.CHILD) > 0
-        highest = household.max(household.members("income", period), role=Household.CHILD)
-        return where(has_children, highest, 0)
+        are_children = household.members.has_role(Household.CHILD)
+        return household.max(where(are_children, household.members("income", period), 0))
 
 
 class income_of_each(Variable):
@@ -34,4 +33,4 @@ class income_of_each(Variable):
     label = "Income of the household for each of its persons, in whole amounts"
 
     def formula(person, period):
-        return round_(person.household("household_income", period) / person.household("household_size", period))
+        return round_(person.household("household_income", period) / person.household.nb_persons())

@@ -87,7 +87,7 @@ class waste_share(Variable):
     reference = "https://city.example/charges#waste"
 
     def formula(person, period):
-        share = person.household("waste_charge", period) / person.household("household_size", period)
+        share = person.household("waste_charge", period) / person.household.nb_persons()
         return ceil(share * 100) / 100
 
 
@@ -105,7 +105,7 @@ class transit_pass(Variable):
     def formula_2022_07(person, period, parameters):
         transit = parameters(period).charges.transit
         age = person("age", period)
-        children = person.household("number_of_children", period)
+        children = person.household.nb_persons(Household.CHILD)
         is_of_many = person.has_role(Household.CHILD) & (children >= transit.many_children)
         is_reduced = not_(person("is_of_age", period)) | person("is_student", period)
         return select(

@@ -1,7 +1,7 @@
 use Rattle.std.proofs.Common.{◌≡◌, drop}
 use Rattle.std.specs.List.{filter_map}
 use Rattle.fisca_params.specs.Steps.Scale.{complete_at}
-use Rattle.fisca_params.specs.Tally.{sum_if_rising}
+use Rattle.fisca_params.specs.Steps.Tally.{sum_if_rising}
 use Rattle.fisca_params.proofs.scale.sum_as_written.Given as goal
 
 -- what is left gives the whole sum

@@ -3,7 +3,7 @@ use Rattle.std.specs.List.{filter_map}
 use Rattle.fisca_params.specs.declared.bracket.CompleteBracket.{CompleteBracket}
 use Rattle.fisca_params.specs.Scale.{in_order}
 use Rattle.fisca_params.specs.Steps.Scale.{complete_at}
-use Rattle.fisca_params.specs.Tally.{sum_if_distinct, tally_with}
+use Rattle.fisca_params.specs.Steps.Tally.{sum_if_distinct, tally_with}
 use Rattle.fisca_params.proofs.Thresholds.{above_none, none_if_not, above_only, sum-at_end, sum-at_shared, sum-at_lowest, fewer-above_lowest}
 use Rattle.fisca_params.proofs.scale.sum_in_order.Goals as goal
 

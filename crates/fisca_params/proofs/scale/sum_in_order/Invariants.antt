@@ -2,7 +2,7 @@ use Rattle.std.proofs.Common.{◌≡◌, length}
 use Rattle.std.specs.List.{filter_map}
 use Rattle.fisca_params.specs.Scale.{in_order}
 use Rattle.fisca_params.specs.Steps.Scale.{complete_at}
-use Rattle.fisca_params.specs.Tally.{sum_if_distinct}
+use Rattle.fisca_params.specs.Steps.Tally.{sum_if_distinct}
 use Rattle.fisca_params.proofs.Thresholds.{above_only}
 use Rattle.fisca_params.proofs.scale.sum_in_order.Given as goal
 

@@ -2,8 +2,8 @@ use Rattle.std.proofs.Common.{◌≡◌, ◌-◌, ◌<◌, ◌≤◌, List, ℕ,
 use Rattle.std.proofs.lemmas.Result.{err_from_is_err_and}
 use Rattle.fisca_yaml.specs.Answers.{GivesAnd}
 use Rattle.fisca_yaml.specs.Node.{Node, Items, Entries, list, no_items, item, no_entries}
-use Rattle.fisca_yaml.specs.Steps.Rows.{begins, tail}
-use Rattle.fisca_yaml.specs.Steps.Scalars.{past_blanks}
+use Rattle.fisca_yaml_scalars.specs.Steps.Rows.{begins, tail}
+use Rattle.fisca_yaml_scalars.specs.Steps.Scalars.{past_blanks}
 use Rattle.fisca_yaml.specs.Flow.{flow_scalar, flow_value, flow_entry, flow_items, flow_entries, series, add_pair, parse_map, map_apart, after_value}
 use Rattle.fisca_yaml.specs.Views.{node, items_before, entries_before, entries_view}
 use Rattle.fisca_yaml.proofs.Grown.{node-List, items_before-no_items, entries_before-no_entries}

@@ -2,11 +2,12 @@ use Rattle.std.proofs.Common.{◌≡◌, ◌≤◌, ◌∷◌, [], Some, false, 
 use Rattle.std.proofs.lemmas.Result.{err_from_is_err_and}
 use Rattle.fisca_yaml.specs.Flow.{add_pair}
 use Rattle.fisca_yaml.specs.Node.{null, list, no_items, no_entries, item}
-use Rattle.fisca_yaml.specs.Steps.Rows.{rank}
-use Rattle.fisca_yaml.specs.Grouping.{front, after, groups, block, items_of, entries_of, item_value, entry_value, map_of}
-use Rattle.fisca_yaml.specs.Steps.Grouping.{opens}
+use Rattle.fisca_yaml_scalars.specs.Steps.Rows.{rank}
+use Rattle.fisca_yaml_scalars.specs.Deeper.{front, after}
+use Rattle.fisca_yaml.specs.Grouping.{groups, block, items_of, entries_of, item_value, entry_value, map_of}
+use Rattle.fisca_yaml_scalars.specs.Steps.Openings.{opens}
 use Rattle.fisca_yaml.specs.Answers.{Gives}
-use Rattle.fisca_yaml.specs.Lines.{row}
+use Rattle.fisca_yaml_scalars.specs.Lines.{row}
 use Rattle.fisca_yaml.specs.Views.{node, entries_view, items_before, entries_before}
 use Rattle.fisca_yaml.specs.declared.tree.Tree.{Null, the_lemmas}
 use Rattle.fisca_yaml.proofs.Blocks.{block-nil, block-zero, block-closed, block-item, block-entry}

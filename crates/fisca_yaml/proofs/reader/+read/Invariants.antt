@@ -1,8 +1,9 @@
 use Rattle.std.proofs.Common.{◌≡◌, ◌+◌, ◌*◌, ◌≤◌, ◌∷◌, length, option_map}
-use Rattle.fisca_yaml.specs.Grouping.{front, after, groups, items_of, entries_of, item_value, entry_value, block}
-use Rattle.fisca_yaml.specs.Lines.{row}
+use Rattle.fisca_yaml_scalars.specs.Deeper.{front, after}
+use Rattle.fisca_yaml.specs.Grouping.{groups, items_of, entries_of, item_value, entry_value, block}
+use Rattle.fisca_yaml_scalars.specs.Lines.{row}
 use Rattle.fisca_yaml.proofs.Groups.{pending, waiting, Settled}
-use Rattle.fisca_yaml.specs.Rows.{last_number, with_row}
+use Rattle.fisca_yaml_scalars.specs.Rows.{last_number, with_row}
 use Rattle.fisca_yaml.specs.Node.{AreNumbered, last_line}
 use Rattle.fisca_yaml.specs.Views.{entries_view, items_before, entries_before}
 use Rattle.fisca_yaml.proofs.reader.+read.Given as goal

@@ -1,13 +1,14 @@
 use Rattle.std.proofs.Common.{◌≡◌, ◌∷◌, List, true, false, ℕ, ◌≤◌, Result, Ok, Err, IfErr, sym, ap, ◌∙◌, arith, subst, rules}
-use Rattle.fisca_yaml.specs.Rows.{Row, last_number}
-use Rattle.fisca_yaml.specs.Steps.Rows.{text_rows, past_marker, is_marker}
-use Rattle.fisca_yaml.specs.Lines.{row}
+use Rattle.fisca_yaml_scalars.specs.Rows.{Row, last_number}
+use Rattle.fisca_yaml_scalars.specs.Steps.Rows.{text_rows, past_marker, is_marker}
+use Rattle.fisca_yaml_scalars.specs.Lines.{row}
 use Rattle.fisca_yaml.specs.Views.{node}
 use Rattle.fisca_yaml.specs.Answers.{Gives, IsTold}
 use Rattle.fisca_yaml.specs.declared.fault.YamlFault.{YamlFault}
 use Rattle.fisca_yaml.proofs.Numbers.{text_last}
-use Rattle.fisca_yaml.specs.Grouping.{tree, value_of, block, front, alone, on_line}
-use Rattle.fisca_yaml.specs.Steps.Grouping.{opens}
+use Rattle.fisca_yaml.specs.Grouping.{tree, value_of, block, alone, on_line}
+use Rattle.fisca_yaml_scalars.specs.Deeper.{front}
+use Rattle.fisca_yaml_scalars.specs.Steps.Openings.{opens}
 use Rattle.fisca_yaml.proofs.Groups.{front_all}
 use Rattle.fisca_yaml.proofs.Blocks.{value-opens, value-alone}
 use Rattle.fisca_yaml.proofs.reader.read_tree.Goals as goal

@@ -1,5 +1,5 @@
 use Rattle.std.proofs.Common.{ap, arith}
-use Rattle.fisca_yaml.specs.Rows.{last_number}
+use Rattle.fisca_yaml_scalars.specs.Rows.{last_number}
 use Rattle.fisca_yaml.proofs.value.read_text.Goals as goal
 
 pub returns-then-inside-indent-clause-told : goal.returns-then-inside-indent-clause-told

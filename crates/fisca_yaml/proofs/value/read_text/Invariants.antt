@@ -1,7 +1,8 @@
 use Rattle.std.proofs.Common.{◌≡◌, ◌≤◌, length}
 use Rattle.std.specs.List.{list_all}
-use Rattle.fisca_yaml.specs.Grouping.{front, after, is_text_line}
-use Rattle.fisca_yaml.specs.Rows.{last_number}
+use Rattle.fisca_yaml_scalars.specs.Deeper.{front, after}
+use Rattle.fisca_yaml.specs.Grouping.{is_text_line}
+use Rattle.fisca_yaml_scalars.specs.Rows.{last_number}
 use Rattle.fisca_yaml.proofs.value.read_text.Given as goal
 
 abbrev pub invariant-loop-inside : goal.invariant-loop-inside

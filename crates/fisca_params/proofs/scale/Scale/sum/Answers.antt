@@ -19,5 +19,5 @@ returns-in-None c =
     let k = c.kind_at-kind.ensures in
     let found = sum-distinct c.kind_at-kind.result c.args.base (in_order (filter_map (complete_at c.kind_at-kind.result c.args.instant) c.deref-in-None.result.now)) in
     let written : c.deref-in-None.result.now ≡ c.args.self.now.brackets = c.deref-in-None.ensures.value ∙ ap (λ s. s.brackets) c.self.view_is in
-    c.sum_in_order.ensures ∙ found ∙ ap (λ (bs : List Bracket). sum_of_sorted c.kind_at-kind.result c.args.base (in_order (filter_map (complete_at c.kind_at-kind.result c.args.instant) bs))) written
+    c.sum_by_threshold.ensures ∙ found ∙ ap (λ (bs : List Bracket). sum_of_sorted c.kind_at-kind.result c.args.base (in_order (filter_map (complete_at c.kind_at-kind.result c.args.instant) bs))) written
     ∙ ap (λ kind. sum_of_sorted kind c.args.base (in_order (filter_map (complete_at kind c.args.instant) c.args.self.now.brackets))) k

@@ -1,6 +1,7 @@
 use Rattle.std.proofs.Common.{◌≡◌, ℕ, List, length, take, drop, true, false, sym, ap, ◌∙◌, arith}
-use Rattle.fisca_yaml.specs.Steps.Scalars.{may_begin, trim_end}
-use Rattle.fisca_yaml.specs.Flow.{plain_flow, word, past_word}
+use Rattle.fisca_yaml_scalars.specs.Steps.Scalars.{may_begin, trim_end}
+use Rattle.fisca_yaml.specs.Flow.{plain_flow}
+use Rattle.fisca_yaml_scalars.specs.Scalars.{word, past_word}
 use Rattle.fisca_yaml.proofs.Steps.{plain_some}
 use Rattle.fisca_yaml.proofs.flow.Flow.take_plain.Goals as goal
 

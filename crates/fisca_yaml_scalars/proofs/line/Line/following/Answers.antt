@@ -1,0 +1,18 @@
+use Rattle.std.proofs.Common.{◌≡◌, ◌+◌, arith, ◌∙◌, true, get_or, sym}
+use Rattle.std.proofs.lemmas.Str.{IsCharBoundary-after_ascii, IsCharBoundary-start}
+use Rattle.std.specs.Str.{IsCharBoundary}
+use Rattle.fisca_yaml_scalars.specs.Steps.Rows.{is_blank}
+use Rattle.fisca_yaml_scalars.proofs.Steps.{following_more, following_none, blank_ascii}
+use Rattle.fisca_yaml_scalars.proofs.line.Line.following.Goals as goal
+
+pub blanks-init : goal.blanks-init
+blanks-init c = (omega arith, IsCharBoundary-start c.as_bytes-bytes.result.now c.as_bytes-bytes.ensures.utf8, following_none c.args.number c.args.column c.as_bytes-bytes.result.now)
+
+pub blanks-preserved : goal.blanks-preserved
+blanks-preserved c =
+    let i = c.blanks.invariant in
+    let bs = c.as_bytes-bytes.result.now in
+    let n = c.blanks.skip in
+    let blank : is_blank (get_or bs n 0) ≡ true = sym c.is_blank.ensures ∙ c.if-is_blank.true in
+    let cut : IsCharBoundary bs (n + 1) = IsCharBoundary-after_ascii bs n c.as_bytes-bytes.ensures.utf8 (omega arith) (blank_ascii (get_or bs n 0) blank) in
+    (omega arith, cut, i.2 ∙ following_more c.args.number c.args.column bs n (omega arith) blank)

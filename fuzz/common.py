@@ -175,7 +175,7 @@ def least_seconds(call):
 
 def rule_folders():
     """The rule sets of the repository, by their names."""
-    folders = [path for top in ("examples", "tests/rules") for path in (TOP / top).iterdir() if path.is_dir()]
+    folders = [path for top in ("examples", "tests/rules") for path in (TOP / top).iterdir() if (path / "entities.py").is_file()]
     return sorted(folders, key=lambda path: path.name)
 
 

@@ -4,7 +4,7 @@
 # FISCA names a built program to measure, in the place of crates/fisca/out/fisca, which bin/fisca builds; FISCA_BENCH
 # one in the place of crates/fisca_bench/out/fisca_bench, which rt builds. BENCH_WITH has words that stand before each
 # measured command, as `chrt -f 50`.
-for name in FISCA FISCA_BENCH; do
+for name in FISCA FISCA_BENCH FISCA_BEFORE; do
   [ -z "${!name:-}" ] || export "$name=$(readlink -m "${!name}")"
 done
 cd "$(dirname "${BASH_SOURCE[0]}")/../.." || exit 2
@@ -57,6 +57,21 @@ seconds() {
   local file=$1
   shift
   { TIMEFORMAT='%U %S'; time "${with[@]}" "$@" >"$file"; } 2>&1 | awk 'END { print $1 + $2 }'
+}
+
+# spent COUNT FILE WORD..: the user and system seconds of one of so many runs that write FILE
+spent() {
+  local count=$1 file=$2 i
+  shift 2
+  { TIMEFORMAT='%U %S'; time for ((i = 0; i < count; i++)); do "${with[@]}" "$@" >"$file"; done; } 2>&1 |
+    awk -v count="$count" 'END { printf "%.6f\n", ($1 + $2) / count }'
+}
+
+# microseconds WORD..: the time of one run from start to end
+microseconds() {
+  local start=${EPOCHREALTIME/[.,]/}
+  "${with[@]}" "$@" >/dev/null
+  echo $((${EPOCHREALTIME/[.,]/} - start))
 }
 
 # least NUMBER..: the least of them

@@ -30,7 +30,7 @@ _fisca() {
       [=:]*) ((at++)) ;; # bash cuts words there: the next one belongs to the one before
       -*)
         case "$command $word" in
-          'run --from' | 'run --rows' | 'axes --keep' | 'axes --from' | 'axes --rows')
+          'calc --decimals' | 'calc --format' | 'run --from' | 'run --to' | 'run --part' | 'run --rows' | 'run --decimals' | 'run --format' | 'axes --keep' | 'axes --from' | 'axes --to' | 'axes --part' | 'axes --rows' | 'axes --decimals' | 'axes --format')
             [[ ${COMP_WORDS[at + 1]} != = ]] || ((at++))
             ((++at < COMP_CWORD)) || wanted=$word
             ;;
@@ -48,12 +48,13 @@ check  Check the rule files of a folder
 calc   Work out values
 test   Run tests of rules
 run    Write the lines of a grid of situations
+size   Count the positions of a grid
 axes   List the values of axes
 help   Print this message or the help of the given subcommand(s)
 END
       ;;
-    'check 0' | 'calc 0' | 'test 0' | 'run 0') _fisca_paths -d ;;
-    'calc 1' | 'test 1' | 'run 1') _fisca_paths -f ;;
+    'check 0' | 'calc 0' | 'test 0' | 'run 0' | 'size 0') _fisca_paths -d ;;
+    'calc 1' | 'test 1' | 'run 1' | 'size 1') _fisca_paths -f ;;
     ' -')
       _fisca_words <<'END'
 -h         Print help
@@ -70,8 +71,12 @@ END
       ;;
     'calc -')
       _fisca_words <<'END'
--h      Print help
---help  Print help
+--header    Write a first line with the names of the cells
+--decimals  Round numbers to N places, 0 to 18 [default: exact]
+--format    Write lines as tsv, csv or jsonl
+--lines     Take each line of FILE as a file of its own
+-h          Print help
+--help      Print help
 END
       ;;
     'test -')
@@ -82,19 +87,36 @@ END
       ;;
     'run -')
       _fisca_words <<'END'
---from  Begin at this position [default: 0]
---rows  End after this many lines [default: no limit]
+--from        Begin at this position [default: 0]
+--to          End before this position [default: the last one is worked out]
+--part        Take part I of N, such as 1/4, in place of --from and --to
+--rows        End after this many lines [default: no limit]
+--header      Write a first line with the names of the cells
+--decimals    Round numbers to N places, 0 to 18 [default: exact]
+--format      Write lines as tsv, csv or jsonl
+--keep-going  Write the word of a fault in place of a value, and go on
+-h            Print help
+--help        Print help
+END
+      ;;
+    'size -')
+      _fisca_words <<'END'
 -h      Print help
 --help  Print help
 END
       ;;
     'axes -')
       _fisca_words <<'END'
---keep  List only where an axis meets a condition, such as "salary>=500"
---from  Begin at this position [default: 0]
---rows  End after this many lines [default: no limit]
--h      Print help
---help  Print help
+--keep      List only where an axis meets a condition, such as "salary>=500"
+--from      Begin at this position [default: 0]
+--to        End before this position [default: the last one is worked out]
+--part      Take part I of N, such as 1/4, in place of --from and --to
+--rows      End after this many lines [default: no limit]
+--header    Write a first line with the names of the cells
+--decimals  Round numbers to N places, 0 to 18 [default: exact]
+--format    Write lines as tsv, csv or jsonl
+-h          Print help
+--help      Print help
 END
       ;;
   esac

@@ -7,7 +7,7 @@ import subprocess
 import tempfile
 from contextlib import contextmanager
 from pathlib import Path
-from typing import Any, Collection, Generator, Iterator, Mapping, Optional, Sequence, Tuple, Union
+from typing import IO, Any, Collection, Generator, Iterator, Mapping, NamedTuple, Optional, Sequence, Union
 
 from ._errors import error_of
 from ._values import json_of
@@ -30,36 +30,61 @@ def program_of(named: Optional[PathLike]) -> str:
     return os.fspath(found)
 
 
-@contextmanager
-def path_of(said: Said) -> Iterator[Tuple[str, Optional[str]]]:
-    """The path of the file of a command, twice where it was written from Python data and is removed behind the call,
-    else once with None."""
+class File(NamedTuple):
+    """The file of a command, as its last word, and what is handed over as standard input in its place."""
+
+    word: str
+    data: Optional[bytes] = None
+
+    @property
+    def handed(self) -> Optional[str]:
+        """How the program names what was handed over, where it was."""
+        return None if self.data is None else self.word
+
+
+def file_of(said: Said) -> File:
+    """The file of a command: a path, or Python data, which the program reads as a line of JSON."""
     if isinstance(said, (str, os.PathLike)):
-        yield os.fspath(said), None
+        path = os.fspath(said)
+        # a file may be named so, and is no standard input
+        return File("./-" if path == "-" else path)
+    return File("-", f"{json_of(said)}\n".encode())
+
+
+@contextmanager
+def standard_input(data: Optional[bytes]) -> Iterator[Union[int, IO[bytes]]]:
+    """What a process gets as standard input: a file without a name with this data, or nothing."""
+    if data is None:
+        yield subprocess.DEVNULL
         return
-    line = json_of(said)
-    with tempfile.TemporaryDirectory(prefix="fisca-") as folder:
-        path = os.path.join(folder, "data.json")
-        with open(path, "w", encoding="utf-8", newline="\n") as file:
-            file.write(line + "\n")
-        yield path, path
+    # a pipe would have to be filled while the output is read
+    with tempfile.TemporaryFile() as file:
+        file.write(data)
+        file.seek(0)
+        yield file
 
 
-def output_of(words: Sequence[str], handed: Optional[str] = None, good: Collection[int] = (0,)) -> str:
-    """What the program prints on these words, of which the first one is the program. FiscaError where its status is
-    none of the good ones."""
-    ran = subprocess.run(words, stdin=subprocess.DEVNULL, capture_output=True, check=False)
+def output_of(words: Sequence[str], file: Optional[File] = None, good: Collection[int] = (0,)) -> str:
+    """What the program prints on these words, of which the first one is the program, and a file behind them.
+    FiscaError where its status is none of the good ones."""
+    with standard_input(file and file.data) as source:
+        call = [*words, *([file.word] if file else [])]
+        ran = subprocess.run(call, stdin=source, capture_output=True, check=False)
     if ran.returncode not in good:
-        raise error_of(ran.stderr, ran.returncode, handed)
+        raise error_of(ran.stderr, ran.returncode, file and file.handed)
     return ran.stdout.decode()
 
 
-def lines_of(words: Sequence[str], handed: Optional[str]) -> Generator[str, None, None]:
-    """The lines that the program prints on these words, as they come. FiscaError behind the last one where its status
-    is not 0. The program is ended where the iterator is closed or forgotten."""
+def lines_of(
+    words: Sequence[str], file: Optional[File] = None, good: Collection[int] = (0,)
+) -> Generator[str, None, str]:
+    """The lines that the program prints on these words and a file, as they come, and in the end what it told on
+    standard error. FiscaError behind the last line where its status is none of the good ones. The program is ended
+    where the iterator is closed or forgotten."""
+    call = [*words, *([file.word] if file else [])]
     # what is told goes to a file: a long line would fill a pipe that nobody reads
-    with tempfile.TemporaryFile() as told:
-        with subprocess.Popen(words, stdin=subprocess.DEVNULL, stdout=subprocess.PIPE, stderr=told) as ran:
+    with tempfile.TemporaryFile() as told, standard_input(file and file.data) as source:
+        with subprocess.Popen(call, stdin=source, stdout=subprocess.PIPE, stderr=told) as ran:
             assert ran.stdout is not None
             try:
                 for line in ran.stdout:
@@ -68,6 +93,8 @@ def lines_of(words: Sequence[str], handed: Optional[str]) -> Generator[str, None
             except BaseException:
                 ran.kill()
                 raise
-        if ran.returncode != 0:
-            told.seek(0)
-            raise error_of(told.read(), ran.returncode, handed)
+        told.seek(0)
+        text = told.read()
+    if ran.returncode not in good:
+        raise error_of(text, ran.returncode, file and file.handed)
+    return text.decode(errors="replace")

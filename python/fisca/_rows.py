@@ -2,20 +2,24 @@
 from __future__ import annotations
 
 import operator
-from fractions import Fraction
-from typing import Iterator, List, NamedTuple, Optional, Sequence, Tuple
+import re
+from typing import Generator, Iterator, List, NamedTuple, Optional, Sequence, Tuple
 
 from ._errors import FiscaError
-from ._files import axes_of, columns_of, map_of
-from ._program import PathLike, Said, lines_of, path_of, program_of
-from ._values import Value, number_of, value_of
+from ._files import count_of_axes, map_of
+from ._program import PathLike, Said, lines_of, program_of
+from ._values import Number, Value, rounded_value_of, value_of
+
+ENDED = re.compile(r"(?:end|more (\d+))\n")
+# the most decimals that the program writes
+DECIMALS = 18
 
 
 class Row(NamedTuple):
     """What stands at a position: the values of the axes there, and those of the columns, in the order of the file."""
 
     position: int
-    axes: Tuple[Fraction, ...]
+    axes: Tuple[Number, ...]
     columns: Tuple[Value, ...]
 
 
@@ -24,30 +28,30 @@ class Run(Iterator[Row]):
 
     `axes` and `columns` are the names of the values of a row: of an axis its variable, with `#INDEX` and `@PERIOD`
     where these are not those of the file; of a column the text of the file. `more` is known behind the last row: the
-    position at which a run goes on that `rows` ended, else None.
+    position at which a run goes on that `rows`, `to` or `part` ended, else None.
 
     What is refused is raised when the run begins. A fault of a value is raised behind the rows before it. `close`,
     also at the end of a `with`, ends the program.
     """
 
-    def __init__(self, words: Sequence[str], said: Optional[Said], axes: Tuple[str, ...] = ()) -> None:
+    def __init__(self, lines: Generator[str, None, str], is_rounded: bool) -> None:
+        """The rows of lines behind the first one, which has the names; the generator gives what was told in the end."""
         self.more: Optional[int] = None
-        self.axes = axes
+        self.axes: Tuple[str, ...] = ()
         self.columns: Tuple[str, ...] = ()
+        self._lines = lines
+        self._value_of = rounded_value_of if is_rounded else value_of
         self._is_over = False
-        if said is None:
-            self._begin(words, None)
-            return
-        with path_of(said) as (path, handed):
-            # the program has read its files when its first line is there
-            self._begin([*words, path], handed)
-        told = map_of(said)
-        self.axes, self.columns = axes_of(told), columns_of(told)
+        head = self._next_line()
+        self._names = tuple(head.split("\t")[1:]) if head is not None else ()
+        if head is None or not f"{head}\t".startswith("position\t"):
+            lines.close()
+            raise FiscaError(f"no line of names: {head}", 0)
 
-    def _begin(self, words: Sequence[str], handed: Optional[str]) -> None:
-        """Starts the program, and waits for its first line."""
-        self._lines = lines_of(words, handed)
-        self._first = next(self._lines, None)
+    def _has_axes(self, count: int) -> Run:
+        """Takes so many of the names for those of axes."""
+        self.axes, self.columns = self._names[:count], self._names[count:]
+        return self
 
     def __iter__(self) -> Run:
         return self
@@ -64,52 +68,95 @@ class Run(Iterator[Row]):
         self._lines.close()
 
     def __next__(self) -> Row:
-        if self._is_over:
+        texts = self._next_texts()
+        if texts is None:
             raise StopIteration
-        self._is_over = True
-        line, self._first = self._first, None
-        if line is None:
-            line = next(self._lines, None)
-        if line is None:
-            raise FiscaError("the program ended before its last line", 0)
-        if line == "end" or line.startswith("more "):
-            # where the output failed behind it, that is raised here
-            next(self._lines, None)
-            self.more = int(line[5:]) if line != "end" else None
-            raise StopIteration
-        self._is_over = False
-        return self._row(line)
-
-    def _row(self, line: str) -> Row:
-        """The row of a line."""
-        position, *texts = line.split("\t")
+        position, *cells = texts
+        values = tuple(map(self._value_of, cells))
         count = len(self.axes)
-        if len(texts) != count + len(self.columns):
-            raise FiscaError(f"no row of {count} axes and {len(self.columns)} columns: {line}", 0)
-        return Row(int(position), tuple(map(number_of, texts[:count])), tuple(map(value_of, texts[count:])))
+        # an axis is of a variable of numbers
+        return Row(int(position), values[:count], values[count:])  # type: ignore[arg-type]
+
+    def texts(self) -> Iterator[Tuple[str, ...]]:
+        """The rows that are left as the program writes them: a text for the position, each axis and each column."""
+        while True:
+            texts = self._next_texts()
+            if texts is None:
+                return
+            yield tuple(texts)
+
+    def _next_texts(self) -> Optional[List[str]]:
+        """The cells of the next row, or None behind the last one."""
+        line = self._next_line()
+        if line is None:
+            return None
+        texts = line.split("\t")
+        if len(texts) != 1 + len(self._names):
+            raise FiscaError(f"no row of {len(self.axes)} axes and {len(self.columns)} columns: {line}", 0)
+        return texts
+
+    def _next_line(self) -> Optional[str]:
+        """The next line, or None behind the last one."""
+        if self._is_over:
+            return None
+        self._is_over = True
+        try:
+            line = next(self._lines)
+        except StopIteration as ended:
+            found = ENDED.fullmatch(ended.value or "")
+            if not found:
+                raise FiscaError("the program ended before its last line", 0) from None
+            self.more = int(found[1]) if found[1] else None
+            return None
+        self._is_over = False
+        return line
 
 
-def options_of(start: int, rows: Optional[int]) -> List[str]:
-    """The options for the first position and the number of rows. ValueError where one is below 0."""
-    told = {"--from": start, **({} if rows is None else {"--rows": rows})}
-    options = [f"{name}={operator.index(it)}" for name, it in told.items()]
-    if min(told.values()) < 0:
-        raise ValueError("a start or a number of rows below 0")
-    return options
+def options_of(
+    start: int = 0,
+    to: Optional[int] = None,
+    rows: Optional[int] = None,
+    part: Optional[Tuple[int, int]] = None,
+    decimals: Optional[int] = None,
+    keep_going: bool = False,
+) -> List[str]:
+    """The options of a run, by which it is a table. ValueError where a number is below 0, `part` is none, or stands
+    beside `start` or `to`, or where there are more decimals than 18."""
+    numbers = {"from": start or None, "to": to, "rows": rows, "decimals": decimals}
+    told = {name: operator.index(it) for name, it in numbers.items() if it is not None}
+    if min(told.values(), default=0) < 0 or told.get("decimals", 0) > DECIMALS:
+        raise ValueError(f"a position or a number of rows below 0, or decimals that are none of 0 to {DECIMALS}")
+    options = ["--header", *(f"--{name}={it}" for name, it in told.items()), *["--keep-going"] * keep_going]
+    if part is None:
+        return options
+    at, count = map(operator.index, part)
+    if not 1 <= at <= count <= 1_000_000 or start or to is not None:
+        raise ValueError("a part is (I, N), I from 1 to N and N at most 1000000, and not beside start or to")
+    return [*options, f"--part={at}/{count}"]
+
+
+def run_of(lines: Generator[str, None, str], said: Said, is_rounded: bool) -> Run:
+    """The run of a file of `fisca run` whose lines these are."""
+    # the file was read when the first line was there
+    return Run(lines, is_rounded)._has_axes(count_of_axes(map_of(said)))
 
 
 def axes(
     *words: str,
     keep: Optional[str] = None,
     start: int = 0,
+    to: Optional[int] = None,
     rows: Optional[int] = None,
+    part: Optional[Tuple[int, int]] = None,
+    decimals: Optional[int] = None,
     program: Optional[PathLike] = None,
 ) -> Run:
     """The values of axes alone, as of `fisca axes`: rows without columns.
 
-    Each word is an axis, as `salary=0..2000/5`; `keep` is a condition, as `salary>=500`. `start` and `rows` are those
-    of `Rules.run`. Refused for an axis, a condition or a start past the last position.
+    Each word is an axis, as `salary=0..2000/5`; `keep` is a condition, as `salary>=500`. The others are those of
+    `Rules.run`. Refused for an axis, a condition, or a start or an end past the last position.
     """
     kept = [] if keep is None else [f"--keep={keep}"]
-    found = [program_of(program), "axes", *options_of(start, rows), *kept, "--", *words]
-    return Run(found, None, tuple(word.partition("=")[0] for word in words))
+    options = options_of(start, to, rows, part, decimals)
+    found = [program_of(program), "axes", *options, *kept, "--", *words]
+    return Run(lines_of(found), decimals is not None)._has_axes(len(words))

@@ -1,23 +1,22 @@
 """The rules of a folder, with a method for each command."""
 from __future__ import annotations
 
+import operator
 import os
 import re
-from fractions import Fraction
-from typing import TYPE_CHECKING, Any, List, NamedTuple, Optional, Tuple
+from typing import TYPE_CHECKING, Any, Iterator, List, NamedTuple, Optional, Tuple
 
 from ._errors import FiscaError
-from ._files import columns_of, map_of
-from ._program import PathLike, Said, output_of, path_of, program_of
-from ._rows import Run, options_of
-from ._values import Value, rounded, value_of
+from ._lines import Amount, Population, Situation, amount_of, situations_of
+from ._program import PathLike, Said, file_of, lines_of, output_of, program_of
+from ._rows import DECIMALS, Run, options_of, run_of
+from ._values import NUMBER, value_of
+from ._workers import lines_of_parts, parts_of
 
 if TYPE_CHECKING:
     import pandas
 
 COUNTS = re.compile(r"entities (\d+), variables (\d+), parameters (\d+)\n")
-# the most decimals that a number of a situation has
-DECIMALS = 18
 
 
 class Counts(NamedTuple):
@@ -26,15 +25,6 @@ class Counts(NamedTuple):
     entities: int
     variables: int
     parameters: int
-
-
-class Amount(NamedTuple):
-    """The value of a column: its variable, the name of the member, the period and the value."""
-
-    variable: str
-    member: str
-    period: str
-    value: Value
 
 
 class Verdict(NamedTuple):
@@ -78,54 +68,103 @@ class Rules:
             raise FiscaError(f"not what fisca check prints: {text}", 0)
         return Counts(*map(int, found.groups()))
 
-    def calc(self, said: Said) -> List[Amount]:
+    def calc(self, said: Said, decimals: Optional[int] = None) -> List[Amount]:
         """The values of the columns of a file of `fisca calc`, in the order of the columns.
 
-        NoValue where one of them cannot be worked out. ValueError where a member that is printed has a line break in
-        its name, since the lines cannot be told apart.
+        With `decimals`, from 0 to 18, numbers are Decimals with so many places, rounded with halves away from zero.
+        NoValue where one of them cannot be worked out.
         """
-        with path_of(said) as (path, handed):
-            text = output_of([*self._words("calc"), path], handed)
-            count = len(columns_of(map_of(said)))
-        lines = text.split("\n")[:-1]
-        if len(lines) != count:
-            raise ValueError(f"{count} columns, and {len(lines)} lines: the name of a member has a line break")
-        return [amount_of(line) for line in lines]
+        text = output_of(self._words("calc", "--format=jsonl", *places_of(decimals)), file_of(said))
+        return [amount_of(line, decimals is not None)[1] for line in text.split("\n")[:-1]]
 
-    def run(self, said: Said, start: int = 0, rows: Optional[int] = None) -> Run:
+    def calc_lines(self, population: Population, decimals: Optional[int] = None) -> Iterator[Situation]:
+        """The values of many situations, in their order, as they come: the rules are read once.
+
+        `population` is the path of a file of JSON Lines, each line of which is a file of `fisca calc`, or an iterable
+        of what would stand there as Python data, which is asked for the next one when it is needed. A situation that
+        is refused or has no value has its exception as `fault`, and the others go on. None is held but those that the
+        program has not written yet.
+
+        What is no fault of a situation is raised with the first one: rules that are refused, a file that cannot be
+        read. ValueError and TypeError for Python data that cannot be handed over are raised at once.
+        """
+        words = self._words("calc", "--lines", "--format=jsonl", *places_of(decimals))
+        return situations_of(words, population, decimals is not None)
+
+    def size(self, said: Said) -> int:
+        """The number of positions of a file of `fisca run`."""
+        text = output_of(self._words("size"), file_of(said))
+        if not re.fullmatch("[0-9]+\n", text):
+            raise FiscaError(f"not what fisca size prints: {text}", 0)
+        return int(text)
+
+    def run(
+        self,
+        said: Said,
+        start: int = 0,
+        rows: Optional[int] = None,
+        *,
+        to: Optional[int] = None,
+        part: Optional[Tuple[int, int]] = None,
+        decimals: Optional[int] = None,
+        keep_going: bool = False,
+        workers: int = 1,
+    ) -> Run:
         """The rows of a file of `fisca run`, as they come: the positions from `start` at which all conditions hold.
 
-        Where `rows` is given the run ends behind so many, and its `more` is the position to go on from: with that as
-        `start` come exactly the rest. Refused at once where the file or the start is; NoValue behind the rows before
-        the position at which a column or a condition cannot be worked out. ValueError for a number below 0.
+        It ends before the position `to`, or behind so many `rows`; its `more` is the position to go on from: with that
+        as `start` come exactly the rest. `part` is (I, N) for part I of N, which together are the run. With `decimals`,
+        from 0 to 18, numbers are Decimals with so many places, rounded with halves away from zero, and else Fractions.
+        With `keep_going` the word of a fault stands in place of a value, as a text.
+
+        With `workers` the run is worked out in parts by so many processes at a time. The rows and their order are the
+        same. A process that dies is tried again, twice. That pays where working out takes longer than reading rows.
+
+        Refused at once where the file, the start or the end is; NoValue behind the rows before the position at which a
+        column or a condition cannot be worked out. ValueError for a number below 0, for a part that is none or stands
+        beside `start` or `to`, and for workers beside `rows` or `part`.
         """
-        return Run([*self._words("run", *options_of(start, rows))], said)
+        file, good, is_rounded = file_of(said), (0, 4) if keep_going else (0,), decimals is not None
+        options = options_of(start, to, rows, part, decimals, keep_going)
+        if workers < 1 or workers > 1 and not (rows is None and part is None):
+            raise ValueError("workers are 1 or more, and take neither rows nor part")
+        size = self.size(said) if workers > 1 else 0
+        stop = size if to is None else max(start, to)
+        if max(start, stop) > size or workers == 1:
+            # past the end it is refused as a whole
+            return run_of(lines_of(self._words("run", *options), file, good), said, is_rounded)
+        words = [program_of(self.program), "run", *options_of(decimals=decimals, keep_going=keep_going)]
+        parts = parts_of(words, self.folder, size, start, stop, workers)
+        return run_of(lines_of_parts(parts, file, workers, good), said, is_rounded)
 
     def frame(
-        self, said: Said, start: int = 0, rows: Optional[int] = None, decimals: Optional[int] = None
+        self,
+        said: Said,
+        start: int = 0,
+        rows: Optional[int] = None,
+        decimals: Optional[int] = None,
+        *,
+        to: Optional[int] = None,
+        part: Optional[Tuple[int, int]] = None,
+        keep_going: bool = False,
+        workers: int = 1,
     ) -> pandas.DataFrame:
         """A pandas.DataFrame of the rows of a run: a column `position`, one for each axis and one for each column.
 
         Numbers are exact Fractions, on which pandas works slowly. With `decimals`, from 0 to 18, they are floats:
         that next to the number rounded to so many places, halves away from zero. `attrs["more"]` is the position to
-        go on from, or None. ImportError where there is no pandas; else the errors of `run`.
+        go on from, or None. ImportError where there is no pandas; else the arguments and errors of `run`.
         """
-        if decimals is not None and not 0 <= decimals <= DECIMALS:
-            raise ValueError(f"decimals are 0 to {DECIMALS}, and not {decimals}")
         try:
             import pandas
         except ImportError as error:
             raise ImportError("frame needs pandas, which is not installed; run gives the same rows") from error
 
-        with self.run(said, start, rows) as found:
+        how = {"to": to, "part": part, "decimals": decimals, "keep_going": keep_going, "workers": workers}
+        with self.run(said, start, rows, **how) as found:  # type: ignore[arg-type]
             names = ["position", *found.axes, *found.columns]
-            cells: List[List[Any]] = [[] for _ in names]
-            for row in found:
-                for cell, value in zip(cells, (row.position, *row.axes, *row.columns)):
-                    if decimals is not None and isinstance(value, Fraction):
-                        value = rounded(value, decimals)
-                    cell.append(value)
-        frame = pandas.DataFrame(dict(enumerate(cells)))
+            columns = cells_of(found, len(names), decimals is not None)
+        frame = pandas.DataFrame(dict(enumerate(columns)))
         # two columns may have one name, which a dict could not hold
         frame.columns = names
         frame.attrs["more"] = found.more
@@ -137,15 +176,35 @@ class Rules:
         A test that fails is no error. A value that cannot be worked out fails its test, and its detail says why.
         ValueError where names with line breaks look as other tests do.
         """
-        with path_of(said) as (path, handed):
-            text = output_of([*self._words("test"), path], handed, good=(0, 1))
-        return verdicts_of(text)
+        return verdicts_of(output_of(self._words("test"), file_of(said), good=(0, 1)))
 
 
-def amount_of(line: str) -> Amount:
-    """The value of a line of `fisca calc`. The name of a member may have tabs."""
-    variable, *member, period, value = line.split("\t")
-    return Amount(variable, "\t".join(member), period, value_of(value))
+def places_of(decimals: Optional[int]) -> List[str]:
+    """The option of so many decimals. ValueError where they are not 0 to 18."""
+    if decimals is None:
+        return []
+    if not 0 <= decimals <= DECIMALS:
+        raise ValueError(f"decimals are 0 to {DECIMALS}, and not {decimals}")
+    return [f"--decimals={operator.index(decimals)}"]
+
+
+def cells_of(run: Run, count: int, is_rounded: bool) -> List[List[Any]]:
+    """The cells of a run, column by column: numbers as Fractions, or as floats."""
+    columns: List[List[Any]] = [[] for _ in range(count)]
+    if not is_rounded:
+        for row in run:
+            for cells, value in zip(columns, (row.position, *row.axes, *row.columns)):
+                cells.append(value)
+        return columns
+    for texts in run.texts():
+        for cells, text in zip(columns, texts):
+            cells.append(text)
+    return [list(map(int, columns[0])), *([float_of(it) for it in cells] for cells in columns[1:])]
+
+
+def float_of(text: str) -> Any:
+    """The float next to a number that the program wrote, and other values as they are."""
+    return float(text) if NUMBER.fullmatch(text) else value_of(text)
 
 
 def verdicts_of(text: str) -> List[Verdict]:

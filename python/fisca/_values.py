@@ -2,28 +2,41 @@
 from __future__ import annotations
 
 import datetime
+import functools
 import json
 import re
 from decimal import Decimal
 from fractions import Fraction
 from numbers import Integral, Rational, Real
-from typing import Any, Mapping, Sequence, Union
+from typing import Any, Callable, Dict, Mapping, Sequence, Union
 
-Value = Union[Fraction, bool, str]
+Number = Union[Fraction, Decimal]
+Value = Union[Fraction, Decimal, bool, str]
 
 NUMBER = re.compile(r"-?[0-9]+(?:\.[0-9]+|/[0-9]+)?", re.ASCII)
 # escapes that JSON has, and the program has not
 ESCAPES = {"\\b": "\\u0008", "\\f": "\\u000c"}
 
 
+# the same texts come again and again in the rows of a grid, and these values never change
+@functools.lru_cache(maxsize=1 << 12)
 def value_of(text: str) -> Value:
     """The value that a text of the program is: a number as a Fraction, `true` and `false` as a bool, else a name.
 
     A member of an Enum with the name `true` or `false` is a bool too.
     """
-    if NUMBER.fullmatch(text):
-        return number_of(text)
-    return {"true": True, "false": False}.get(text, text)
+    return number_of(text) if NUMBER.fullmatch(text) else bool_or_name_of(text)
+
+
+@functools.lru_cache(maxsize=1 << 12)
+def rounded_value_of(text: str) -> Value:
+    """The same of a text that the program wrote with decimals: its numbers are Decimals."""
+    return Decimal(text) if NUMBER.fullmatch(text) else bool_or_name_of(text)
+
+
+def bool_or_name_of(text: str) -> Union[bool, str]:
+    """The condition or the name that a text of the program is."""
+    return text == "true" if text in ("true", "false") else text
 
 
 def number_of(text: str) -> Fraction:
@@ -34,6 +47,20 @@ def number_of(text: str) -> Fraction:
         return Fraction(int(above), int(below))
     whole, _, places = text.partition(".")
     return Fraction(int(whole + places), 10 ** len(places)) if places else Fraction(int(whole))
+
+
+def object_of(line: str, is_rounded: bool) -> Mapping[str, Any]:
+    """The object of a line of JSON that the program wrote, its numbers as Fractions, or as Decimals."""
+    number: Dict[bool, Callable[[str], Number]] = {True: Decimal, False: number_of}
+    found: Mapping[str, Any] = json.loads(line, parse_int=number[is_rounded], parse_float=number[is_rounded])
+    return found
+
+
+def value_of_json(value: Any) -> Value:
+    """The value that stands in such an object: a number that has no decimal is a text there, and is a Fraction."""
+    is_fraction = isinstance(value, str) and NUMBER.fullmatch(value)
+    found: Value = number_of(value) if is_fraction else value
+    return found
 
 
 def json_of(data: Any) -> str:
@@ -96,10 +123,3 @@ def decimal_of_fraction(number: Fraction) -> str:
         raise ValueError(f"{number} has no decimal, and a situation has no fractions")
     digits = str(abs(number.numerator) * (10**places // below)).rjust(places + 1, "0")
     return f"{'-' if number < 0 else ''}{digits[:-places]}.{digits[-places:]}" if places else str(number)
-
-
-def rounded(number: Fraction, decimals: int) -> float:
-    """The float next to the nearest multiple of 10^-decimals, halves away from zero."""
-    scaled = abs(number) * 10**decimals
-    whole = (2 * scaled.numerator + scaled.denominator) // (2 * scaled.denominator)
-    return float(Fraction(whole if number >= 0 else -whole, 10**decimals))

@@ -1,7 +1,7 @@
 """Reads a file that the program took, in the subset of YAML that docs/LANGUAGE.md describes.
 
 The program has refused whatever is none, so nothing is checked here, and of other texts anything may come out. It is
-needed for the names of axes and columns, which the program does not print.
+needed for the number of axes of a run, which the program does not print.
 """
 from __future__ import annotations
 

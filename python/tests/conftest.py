@@ -10,6 +10,8 @@ sys.path.insert(0, str(TOP / "python"))
 import fisca  # noqa: E402 (it stands beside this folder)
 
 ENTITIES = "Person = build_entity(key='person', plural='persons', is_person=True)\n"
+# the first line of a run over one axis with one column, by a shell
+HEAD = "printf 'position\\trent\\thousing_benefit\\n'"
 VARIABLES = """\
 class Choice(Enum):
     one = "One"

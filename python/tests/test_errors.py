@@ -2,7 +2,7 @@
 import pickle
 
 import pytest
-from conftest import TOP
+from conftest import HEAD, TOP
 
 import fisca
 
@@ -73,6 +73,7 @@ def test_no_value_of_a_column(small):
         small.calc(said)
     it = found.value
     assert str(it) == "fisca: ZeroDivisor share Ann B C 2017-01"
+    assert (it.key, it.path, it.line) == ("share Ann B C 2017-01", None, None)
     assert (it.position, it.word, it.variable, it.member, it.period, it.status) == (
         None, "ZeroDivisor", "share", "Ann B C", "2017-01", 4
     )
@@ -145,7 +146,7 @@ def test_want_of_memory(stand_in):
 
 
 def test_memory_that_ends_within_a_run(stand_in):
-    rules = stand_in("printf '0\\t2\\t1\\n1\\t1'; echo 'fisca: out of memory' >&2; exit 6")
+    rules = stand_in(f"{HEAD}; printf '0\\t2\\t1\\n1\\t1'; echo 'fisca: out of memory' >&2; exit 6")
     run = rules.run(GRID)
     assert next(run) == (0, (2,), (1,))
     with pytest.raises(fisca.OutOfMemory):
@@ -156,21 +157,40 @@ def test_a_program_that_is_killed_or_ends_too_early(stand_in):
     with pytest.raises(fisca.FiscaError) as found:
         stand_in("kill -9 $$").check()
     assert (type(found.value), found.value.status) == (fisca.FiscaError, -9)
-    run = stand_in("printf '0\\t2\\t1\\n'").run(GRID)
+    run = stand_in(f"{HEAD}; printf '0\\t2\\t1\\n'").run(GRID)
     next(run)
     with pytest.raises(fisca.FiscaError):
         next(run)
-    for call in (stand_in("echo hello").check, lambda: list(stand_in("printf '0\\t1\\n'").run(GRID))):
+    hello = stand_in("echo hello")
+    for call in (hello.check, lambda: hello.calc({}), lambda: hello.size(GRID), lambda: hello.run(GRID),
+                 lambda: list(hello.calc_lines([{}]))):
+        with pytest.raises(fisca.FiscaError):
+            call()
+    for call in (stand_in("exit 0").check, lambda: list(stand_in(f"{HEAD}; printf '0\\t1\\n'").run(GRID))):
         with pytest.raises(fisca.FiscaError):
             call()
 
 
-def test_numbers_below_zero_are_no_positions(small):
-    for options in ({"start": -1}, {"rows": -1}):
-        with pytest.raises(ValueError):
+NO_OPTIONS = [
+    {"start": -1}, {"rows": -1}, {"to": -1}, {"decimals": -1}, {"decimals": 19}, {"part": (0, 1)}, {"part": (3, 2)},
+    {"part": (1, 1_000_001)}, {"part": (1, 2), "start": 1}, {"part": (1, 2), "to": 1}, {"workers": 0},
+    {"workers": 2, "rows": 1}, {"workers": 2, "part": (1, 2)}, {"workers": 2, "to": -1},
+]
+
+
+@pytest.mark.parametrize("options", NO_OPTIONS, ids=str)
+def test_options_that_are_none(small, options):
+    with pytest.raises(ValueError):
+        small.run(GRID, **options)
+
+
+def test_numbers_that_are_not_whole(small):
+    for options in ({"start": 1.5}, {"to": "1"}, {"decimals": 1.0}, {"part": (1, 2.0)}):
+        with pytest.raises(TypeError):
             small.run(GRID, **options)
-    with pytest.raises(TypeError):
-        small.run(GRID, start=1.5)
+    for decimals in (-1, 19):
+        with pytest.raises(ValueError):
+            small.calc({}, decimals=decimals)
 
 
 def test_exceptions_can_be_passed_between_processes(small):

@@ -15,21 +15,37 @@ from conftest import TOP
 import fisca
 
 PYTHON = TOP / "python"
-PAGE = TOP / "docs" / "PYTHON.md"
 
 
-def test_the_page_is_true(monkeypatch):
+@pytest.mark.parametrize("page, least", [("PYTHON.md", 6), ("ANALYSTS.md", 0)])
+def test_the_page_is_true(page, least, monkeypatch, tmp_path):
+    (tmp_path / "fisca").symlink_to(os.path.abspath(fisca._program.program_of(None)))
+    monkeypatch.setenv("PATH", f"{tmp_path}:{os.environ['PATH']}")
     monkeypatch.chdir(TOP)
-    blocks = re.findall(r"^```(\w+)\n(.*?)^```$", PAGE.read_text(encoding="utf-8"), re.M | re.S)
+    blocks = re.findall(r"^```(\w+)\n(.*?)^```$", (TOP / "docs" / page).read_text(encoding="utf-8"), re.M | re.S)
     names, tried = {}, 0
     for (language, text), (following, wanted) in zip(blocks, [*blocks[1:], ("", "")]):
-        if language != "python" or ".frame(" in text and importlib.util.find_spec("pandas") is None:
+        needs_pandas = ".frame(" in text or "import pandas" in text
+        if language != "python" or needs_pandas and importlib.util.find_spec("pandas") is None:
             continue
         with contextlib.redirect_stdout(io.StringIO()) as printed:
-            exec(compile(text, str(PAGE), "exec"), names)
+            exec(compile(text, page, "exec"), names)
         assert following == "text" and printed.getvalue() == wanted
         tried += 1
-    assert tried >= 5
+    assert tried >= least
+
+
+@pytest.mark.skipif(importlib.util.find_spec("matplotlib") is None, reason="no matplotlib here: no picture was drawn")
+def test_pictures_are_drawn(tmp_path):
+    # what is printed beside a picture is compared by bin/documents
+    code = "import sys; sys.path.insert(0, 'docs/analysts')\nimport net_income, marginal_rates, reform\n"
+    for name in ("net_income", "marginal_rates", "reform"):
+        more = ["--families", "100"] * (name == "reform")
+        code += f"sys.argv = {[name, *more, str(tmp_path / f'{name}.png')]}\n{name}.main()\n"
+    environment = {**os.environ, "PYTHONPATH": str(PYTHON), "FISCA": fisca._program.program_of(None)}
+    subprocess.run([sys.executable, "-B", "-c", code], check=True, cwd=TOP, env=environment, capture_output=True)
+    found = [it.read_bytes() for it in sorted(tmp_path.iterdir())]
+    assert len(found) == 3 and all(it.startswith(b"\x89PNG") and len(it) > 10_000 for it in found)
 
 
 def test_it_is_read_by_python_3_9():
@@ -47,7 +63,7 @@ def test_it_has_the_version_of_the_program():
 def test_all_that_is_public_is_described():
     for name in fisca.__all__:
         it = getattr(fisca, name)
-        if name != "Value":
+        if name not in ("Number", "Value"):
             assert it.__doc__ and len(it.__doc__) > 20, name
             public = [key for key in vars(it) if not key.startswith("_")] if isinstance(it, type) else []
             assert all(getattr(it, key).__doc__ for key in public if callable(getattr(it, key))), name

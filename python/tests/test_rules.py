@@ -123,8 +123,21 @@ def test_names_of_members_come_back(small, name):
 def test_a_name_with_a_line_break_is_never_read_wrongly(small):
     name = "a\t2017-01\t1\nsalary\tb"
     said = {"period": "2017-01", "input": {"persons": {name: {"salary": 1}}}, "columns": ["salary"]}
-    with pytest.raises(ValueError):
-        small.calc(said)
+    assert small.calc(said) == [("salary", name, "2017-01", 1)]
+
+
+def test_calc_with_decimals(small):
+    said = {"period": "2017-01", "input": {"salary": 3}, "columns": ["share", "salary", "is_high", "choice"]}
+    values = [it.value for it in small.calc(said, decimals=2)]
+    assert values == [Decimal("0.33"), Decimal("3.00"), True, "one"]
+    assert [str(it) for it in values[:2]] == ["0.33", "3.00"]
+    assert {type(it) for it in values[:2]} == {Decimal}
+
+
+def test_size(housing):
+    assert housing.size(housing.folder + "/grid.yaml") == 28
+    axes = [[{"name": name, "count": 65536, "min": 0, "max": 1}] for name in ("rent", "salary")]
+    assert housing.size({"period": "2025-03", "axes": axes}) == 2**32
 
 
 def test_keys_may_be_years_and_days(housing):

@@ -9,7 +9,7 @@ import types
 from fractions import Fraction
 
 import pytest
-from conftest import TOP
+from conftest import HEAD, TOP
 
 import fisca
 
@@ -53,6 +53,33 @@ def test_a_run_is_continued(housing):
     assert list(housing.run(GRID, start=28)) == []
 
 
+def test_ranges_and_parts(housing):
+    whole = list(housing.run(GRID))
+    for cut in (0, 1, 5, 28):
+        before, behind = housing.run(GRID, to=cut), housing.run(GRID, start=cut)
+        assert [*before, *behind] == whole and before.more == (cut if cut < 28 else None)
+    for count in (1, 3, 40):
+        assert [row for at in range(count) for row in housing.run(GRID, part=(at + 1, count))] == whole
+    with pytest.raises(fisca.Refused, match="BadPosition"):
+        housing.run(GRID, to=29)
+
+
+def test_decimals(small):
+    said = {"period": "2017-01", "axes": [[{"name": "salary", "count": 3, "min": 1, "max": 3}]]}
+    rows = list(small.run({**said, "columns": ["share", "is_high"]}, decimals=3))
+    assert [str(it) for row in rows for it in row] == [
+        "0", "(Decimal('1.000'),)", "(Decimal('1.000'), False)", "1", "(Decimal('2.000'),)",
+        "(Decimal('0.500'), True)", "2", "(Decimal('3.000'),)", "(Decimal('0.333'), True)",
+    ]
+
+
+def test_keep_going(small):
+    said = {"period": "2017-01", "axes": [[{"name": "salary", "count": 3, "min": -1, "max": 1}]], "columns": "share"}
+    for workers in (1, 2):
+        run = small.run(said, keep_going=True, workers=workers)
+        assert list(run) == [(0, (-1,), (-1,)), (1, (0,), ("ZeroDivisor",)), (2, (1,), (1,))] and run.more is None
+
+
 def test_rows_of_a_dict(small):
     axes = [
         [
@@ -78,7 +105,7 @@ def test_rows_of_a_dict(small):
 
 
 def test_rows_are_not_held(housing):
-    count = 30_000
+    count = 10_000
     tracemalloc.start()
     try:
         found = sum(1 for _ in housing.run(rents(count)))
@@ -86,10 +113,11 @@ def test_rows_are_not_held(housing):
     finally:
         tracemalloc.stop()
     assert found == count
-    assert peak < 500_000
+    # so many rows are 5 MB; some values are kept to be given again
+    assert peak < 2_000_000
 
 
-ENDLESS = "echo $$ >{0}; printf '0\\t1\\t1\\n'; exec yes \"$(printf '1\\t1\\t1')\""
+ENDLESS = "echo $$ >{0}; " + HEAD + "; printf '0\\t1\\t1\\n'; exec yes \"$(printf '1\\t1\\t1')\""
 
 
 @pytest.mark.parametrize("end", ["close", "with", "forget"])
@@ -110,7 +138,7 @@ def test_a_run_that_is_left_ends_its_program(stand_in, tmp_path, end):
 
 def test_a_run_is_read_as_it_comes(stand_in):
     begin = time.monotonic()
-    with stand_in("printf '0\\t1\\t1\\n'; exec sleep 60").run(rents(2)) as run:
+    with stand_in(f"{HEAD}; printf '0\\t1\\t1\\n'; exec sleep 60").run(rents(2)) as run:
         assert next(run).position == 0
     assert time.monotonic() - begin < 30
 

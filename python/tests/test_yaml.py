@@ -1,10 +1,10 @@
-"""The names of axes and columns of a file, in all the forms that the program reads."""
+"""Files of runs, in all the forms that the program reads."""
 import json
 
 import pytest
 from conftest import TOP
 
-from fisca._files import axes_of, columns_of
+from fisca._files import count_of_axes
 from fisca._yaml import read
 
 BRACKETS = """\
@@ -61,20 +61,18 @@ FORMS = [BRACKETS, JSON, LINES, LINES.replace("\n", "\r\n"), QUOTES, TEXTS, LAST
 
 
 @pytest.mark.parametrize("text", FORMS)
-def test_names(text):
-    assert axes_of(read(text)) == ("salary", "rent")
-    assert columns_of(read(text)) == ("a", "b@2017-01")
+def test_forms(text):
+    found = read(text)
+    assert [[axis["name"] for axis in group] for group in found["axes"]] == [["salary"], ["rent"]]
+    assert found["columns"] == ["a", "b@2017-01"]
+    assert count_of_axes(found) == 2
 
 
-def test_one_column_and_none():
-    assert columns_of(read("columns: a#1@2017 # one\n")) == ("a#1@2017",)
-    assert columns_of(read("columns: []\n")) == columns_of(read("period: 2017\n")) == ()
-
-
-def test_an_axis_is_named_by_what_does_not_stand_by_default():
-    text = "period: 2017-01\naxes:\n- - {name: a, period: 2017-01, index: 0}\n"
-    text += "  - {name: a, index: 2}\n  - {name: b, period: 2017}\n"
-    assert axes_of(read(text)) == ("a", "a#2", "b@2017")
+def test_axes_that_move_together():
+    text = "axes:\n- - {name: a, period: 2017-01, index: 0}\n"
+    text += "  - {name: a, index: 2}\n  - {name: b, period: 2017}\n- - {name: c}\ncolumns: a#1@2017 # one\n"
+    assert count_of_axes(read(text)) == 4
+    assert read(text)["columns"] == "a#1@2017"
 
 
 def test_trees():

@@ -6,7 +6,7 @@ use Rattle.clap.specs.Matches.{ReadsOne, one_text}
 use Rattle.clap.specs.Walk.{Text, one_of, rows_of}
 use Rattle.clap.specs.declared.parser.matches.Found.{Found}
 use Rattle.clap.proofs.WalkLemmas.{one_text-rows}
-use Rattle.fisca.specs.CommandLine.{IsOptionalNumber}
+use Rattle.fisca.specs.Asked.{IsOptionalNumber}
 use denote.Ref.{Bor}
 
 -- the text of an option, or another

@@ -3,10 +3,10 @@
 ghost use Rattle.std.specs.Prelude.{◌≢◌, IfErr};
 ghost use Rattle.std.specs.IoError.{error_kind};
 
-use fisca_folder::{FolderEntry, RuleFolder};
+use fisca_folder::{FolderEntry, FolderFault, RuleFolder};
 use std::alloc::{AllocError, Global};
 use std::fs::{Files, OpenFile};
-use std::io::{ErrorKind, Read};
+use std::io::{ErrorKind, Input, Read};
 use std::path::Path;
 use std::{fs, io};
 
@@ -94,8 +94,30 @@ fn entry_at<R: Files>(rt: &R, path: Path<'_>, name: String) -> io::Result<Folder
     }
 }
 
+/// The first `most` bytes of a regular file at a path of this machine, or of standard input where the path is `-`; `None` where it cannot be read.
+/// Memory is its only error.
+pub fn read_named<R: Files + Input + AllocGlobal + Clone + Drop>(
+    rt: &R,
+    path: &str,
+    most: u64,
+) -> Result<Option<Vec<u8>>, AllocError> {
+    if path == "-" {
+        return read_input(rt, most);
+    }
+    read_bytes(rt, path, most)
+}
+
+/// The first `most` bytes of standard input; `None` where it cannot be read. Memory is its only error.
+fn read_input<R: Input + AllocGlobal>(rt: &R, most: u64) -> Result<Option<Vec<u8>>, AllocError> {
+    let mut bytes = Vec::new(rt.alloc());
+    match rt.reader().take(most).read_to_end(&mut bytes) {
+        Ok(_) => Ok(Some(bytes)),
+        Err(error) => none_for(error.kind()),
+    }
+}
+
 /// The first `most` bytes of a regular file at a path of this machine; `None` where it cannot be read. Memory is its only error.
-pub fn read_bytes<R: Files + AllocGlobal + Clone + Drop>(
+fn read_bytes<R: Files + AllocGlobal + Clone + Drop>(
     rt: &R,
     path: &str,
     most: u64,
@@ -106,13 +128,26 @@ pub fn read_bytes<R: Files + AllocGlobal + Clone + Drop>(
     }
 }
 
-/// The first `most` bytes of a file at a path of this machine; `None` where it is no regular file. An interrupted opening and
-/// an interrupted reading are tried again by the library.
+/// The first `most` bytes of a file at a path of this machine; `None` where it is no regular file. An interrupted reading is tried again by the
+/// library.
 fn regular_bytes<R: Files + AllocGlobal + Clone + Drop>(
     rt: &R,
     path: &str,
     most: u64,
 ) -> io::Result<Option<Vec<u8>>> {
+    let Some(file) = open_at(rt, path)? else {
+        return Ok(None);
+    };
+    let mut bytes = Vec::new(rt.alloc());
+    file.take(most).read_to_end(&mut bytes)?;
+    Ok(Some(bytes))
+}
+
+/// The file at a path of this machine, opened; `None` where it is no regular file. An interrupted opening is tried again by the library.
+fn open_at<R: Files + AllocGlobal + Clone + Drop>(
+    rt: &R,
+    path: &str,
+) -> io::Result<Option<R::File>> {
     // To open a pipe waits for one who writes into it, so what stands there is looked at before.
     if !retried(|| fs::metadata(rt, path))?.is_file() {
         return Ok(None);
@@ -122,9 +157,28 @@ fn regular_bytes<R: Files + AllocGlobal + Clone + Drop>(
     if !retried(|| file.metadata())?.is_file() {
         return Ok(None);
     }
-    let mut bytes = Vec::new(rt.alloc());
-    file.take(most).read_to_end(&mut bytes)?;
-    Ok(Some(bytes))
+    Ok(Some(file))
+}
+
+/// The regular file at a path of this machine, opened. `CannotRead` where it is none or cannot be opened.
+pub fn open_regular<R: Files + AllocGlobal + Clone + Drop>(
+    rt: &R,
+    path: &str,
+) -> Result<R::File, FolderFault> {
+    match open_at(rt, path) {
+        Ok(Some(file)) => Ok(file),
+        Ok(None) => Err(unread(rt, path)),
+        Err(error) if error.kind() == ErrorKind::OutOfMemory => Err(FolderFault::Memory),
+        Err(_) => Err(unread(rt, path)),
+    }
+}
+
+/// That the file at a path cannot be read.
+fn unread<R: AllocGlobal>(rt: &R, path: &str) -> FolderFault {
+    match String::from_str(rt.alloc(), path) {
+        Ok(path) => FolderFault::CannotRead { path },
+        Err(_) => FolderFault::Memory,
+    }
 }
 
 /// What is answered where the machine fails: an error for want of memory, else that it cannot.

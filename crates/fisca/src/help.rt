@@ -142,10 +142,10 @@ filter      conditions, such as salary >= 500, one or a list
 columns     what is worked out: NAME, NAME#INDEX, NAME@PERIOD or NAME#INDEX@PERIOD, one or a list
 neutralize  variables that always have their default, one or a list
 
-The last line is 'end' where no position is left, and 'more P' where --rows ended the run: the same
-command with --from P writes the rest. What is refused is told by one line on standard error, such
-as fisca: PATH:LINE: FAULT, and of a value that cannot be worked out fisca: position P: FAULT KEY,
-behind the lines before it.";
+The last line is 'end' where no position is left, and 'more P' where --rows or --to ended the run: the
+same command with --from P writes the rest. What is refused is told by one line on standard error,
+such as fisca: PATH:LINE: FAULT, and of a value that cannot be worked out fisca: position P: FAULT
+KEY, behind the lines before it.";
 
 pub const RUN_EXAMPLE: &str = "Example:
   fisca run examples/housing examples/housing/grid.yaml --rows 2";
@@ -163,7 +163,7 @@ FAULT is a word:
                        PeriodMismatch, AxisOverlap
   of a value           ZeroDivisor, TooWide, ParameterUndefined, BadScale, NoMember, PeriodOutOfRange,
                        PeriodMismatch, Cycle, TooDeep; KEY is the variable, the member and the period
-BadPosition, with no path, says that P of --from is above the number of positions.
+BadPosition, with no path, says that P of --from or --to is above the number of positions.
 
 Exit status:
   0  done
@@ -173,11 +173,35 @@ Exit status:
   5  a file could not be read, or the output could not be written
   6  out of memory";
 
-pub const TESTS_HELP: &str = "The file of the tests";
+pub const SIZE_ABOUT: &str = "Count the positions of a grid";
 
-pub const RUN_FILE_HELP: &str = "The file that says the grid and what is worked out";
+pub const SIZE_LONG: &str =
+    "Count the positions of the grid of a file of 'fisca run', and print their number.
 
-pub const FILE_HELP: &str = "The file that says what is worked out";
+It reads the rule files of the folder and the file as 'fisca run' does, and refuses what that does;
+nothing is worked out.";
+
+pub const SIZE_EXAMPLE: &str = "Example:
+  fisca size examples/housing examples/housing/grid.yaml";
+
+pub const SIZE_MORE: &str = "Example:
+  fisca size examples/housing examples/housing/grid.yaml
+
+FAULT is a word: see 'fisca run --help'
+
+Exit status:
+  0  done
+  2  the command line is wrong
+  3  a rule file or the file is refused
+  5  a file could not be read, or the output could not be written
+  6  out of memory";
+
+pub const TESTS_HELP: &str = "The file of the tests, or - for standard input";
+
+pub const RUN_FILE_HELP: &str =
+    "The file that says the grid and what is worked out, or - for standard input";
+
+pub const FILE_HELP: &str = "The file that says what is worked out, or - for standard input";
 
 pub const RULES_HELP: &str = "The folder of the rule set: entities.py, variables and parameters";
 
@@ -193,8 +217,8 @@ it has one, such as 0.5, and else as a fraction, such as 1/3.
 The positions of several axes are all tuples of places, counted from 0, of which the first turns
 fastest.
 
-The last line is 'end' where no position is left, and 'more P' where --rows ended the list: the
-same command with --from P lists the rest.";
+The last line is 'end' where no position is left, and 'more P' where --rows or --to ended the list:
+the same command with --from P lists the rest.";
 
 pub const AXES_EXAMPLE: &str = "Example:
   fisca axes salary=0..2000/5 --keep \"salary>=500\" --rows 2";
@@ -208,6 +232,10 @@ pub const AXES_EXAMPLES: &str = "Examples:
       lists 500 and 1000, and ends with 'more 3'
   fisca axes salary=0..2000/5 --keep \"salary>=500\" --from 3
       lists the rest, 1500 and 2000
+  fisca axes salary=0..2000/5 --from 1 --to 3
+      lists 500 and 1000, and ends with 'more 3'
+  fisca axes salary=0..2000/5 --part 2/2
+      lists 1000, 1500 and 2000
 
 Exit status:
   0  done
@@ -241,5 +269,60 @@ pub const FROM_HELP: &str = "Begin at this position [default: 0]";
 
 pub const FROM_LONG: &str =
     "Begin at this position, from 0 up to the number of positions [default: 0]";
+
+pub const TO_HELP: &str = "End before this position [default: the last one is worked out]";
+
+pub const TO_LONG: &str =
+    "End before this position, from 0 up to the number of positions [default: the last one is worked out]
+
+The lines from A to B and those from B to C are those from A to C.";
+
+pub const PART_HELP: &str = "Take part I of N, such as 1/4, in place of --from and --to";
+
+pub const PART_LONG: &str = "Take part I of N, such as 1/4, in place of --from and --to
+
+It begins at the position SIZE * (I-1) / N, cut to a whole number, and ends before SIZE * I / N, where
+SIZE is the number of positions: the parts 1/N to N/N are the run. N is at most 1000000.";
+
+pub const HEADER_HELP: &str = "Write a first line with the names of the cells";
+
+pub const HEADER_LONG: &str = "Write a first line with the names of the cells
+
+With it or --format standard output is a table: the last line of a run, 'end' or 'more P', goes to
+standard error.";
+
+pub const DECIMALS_HELP: &str = "Round numbers to N places, 0 to 18 [default: exact]";
+
+pub const DECIMALS_LONG: &str = "Round numbers to N places, 0 to 18 [default: exact]
+
+A number is the nearest multiple of 10^-N, halves away from zero, with just N places. Positions stay.";
+
+pub const FORMAT_HELP: &str = "Write lines as tsv, csv or jsonl";
+
+pub const FORMAT_LONG: &str = "Write lines as tsv, csv or jsonl
+
+tsv    cells with tabs between them
+csv    comma-separated values, as in RFC 4180
+jsonl  an object of JSON in each line, with the names of the cells as keys: numbers as numbers, but
+       fractions that have no decimal, such as 1/3, as texts; it takes no --header
+
+With it or --header standard output is a table: the last line of a run, 'end' or 'more P', goes to
+standard error.";
+
+pub const KEEP_GOING_HELP: &str = "Write the word of a fault in place of a value, and go on";
+
+pub const KEEP_GOING_LONG: &str = "Write the word of a fault in place of a value, and go on
+
+A column or a condition without a value does not end the run: its word, such as ZeroDivisor, stands
+in the cell, that of a condition in the first column, where the others are empty. The status is 4 at
+the end where a word stands somewhere.";
+
+pub const LINES_HELP: &str = "Take each line of FILE as a file of its own";
+
+pub const LINES_LONG: &str = "Take each line of FILE as a file of its own, such as a line of JSON
+
+The rule files are read once. Each line that is written begins with the number of the line that it is
+of. A line that is refused or has no value is told on standard error, such as fisca: FILE:NUMBER: FAULT,
+and the others go on; the status is the greatest of all lines.";
 
 pub const ROWS_HELP: &str = "End after this many lines [default: no limit]";

@@ -1,22 +1,28 @@
 //! The program `fisca`: reads the command line, runs the command, and tells how it ended by its exit status.
 #![tactic(auto)]
 
+mod arguments;
+mod asked;
 mod folder;
 mod help;
+mod lines;
+mod misuse;
 mod output;
+mod subcommands;
 mod task;
 
 use clap::error::ErrorKind;
-use fisca_commands::{Ending, Task, run_task};
+use fisca_commands::{Ending, LineSource, Task, calc_lines, run_task};
 use fisca_folder::{FolderFault, LONGEST, read_rules, text_of_file};
 use fisca_params::SourceFile;
 use fisca_writer::StreamSink;
-use folder::{DiskFolder, read_bytes};
-use output::{Output, Stream, fits};
-use std::io::{BufWriter, Write};
+use folder::{DiskFolder, open_regular, read_named};
+use lines::ReadLines;
+use output::{ErrorOutput, Output, Stream, fits};
+use std::io::{BufReader, BufWriter, Input, Write};
 use std::process::ExitCode;
 use std::{env, io};
-use task::read_task;
+use task::{LinesTask, Work, read_task};
 
 /// The status of a command line that `clap` refused.
 const USAGE: u8 = 2;
@@ -50,7 +56,8 @@ fn main(rt: HostRuntime) -> ExitCode {
 /// Runs what the words ask for, and answers the exit status.
 fn run_words(rt: &HostRuntime, words: &[String]) -> u8 {
     match read_task(rt.alloc(), words) {
-        Ok(task) => run_task_of(rt, &task),
+        Ok(Work::Task(task)) => run_task_of(rt, &task),
+        Ok(Work::Lines(lines)) => run_lines(rt, &lines),
         Err(error) => print_text(rt, &error),
     }
 }
@@ -79,9 +86,10 @@ fn print_text(rt: &HostRuntime, error: &clap::Error) -> u8 {
 fn run_task_of(rt: &HostRuntime, task: &Task<'_>) -> u8 {
     match task {
         Task::Check { rules } => run_in(rt, task, rules, None),
-        Task::Calc { rules, file } | Task::Test { rules, file } | Task::Run { rules, file, .. } => {
-            run_in(rt, task, rules, Some(*file))
-        }
+        Task::Calc { rules, file, .. }
+        | Task::Test { rules, file }
+        | Task::Run { rules, file, .. }
+        | Task::Size { rules, file } => run_in(rt, task, rules, Some(*file)),
         Task::Axes { .. } => run_over(rt, task, &[], ""),
     }
 }
@@ -102,10 +110,54 @@ fn read_all(
 ) -> Result<(Vec<SourceFile>, String), FolderFault> {
     let files = read_rules(rt.alloc(), &DiskFolder::new(rt, rules))?;
     let text = match file {
-        Some(path) => text_of_file(rt.alloc(), path, read_bytes(rt, path, LONGEST + 1)?)?,
+        Some(path) => text_of_file(rt.alloc(), path, read_named(rt, path, LONGEST + 1)?)?,
         None => String::new(rt.alloc()),
     };
     Ok((files, text))
+}
+
+/// Works out the lines of a file, and answers the exit status.
+fn run_lines(rt: &HostRuntime, lines: &LinesTask<'_>) -> u8 {
+    match read_rules(rt.alloc(), &DiskFolder::new(rt, lines.rules)) {
+        Ok(files) => run_lines_over(rt, lines, files.as_slice()),
+        Err(fault) => tell_folder(rt, lines.rules, fault),
+    }
+}
+
+/// Works out the lines of a file, or of standard input where it is `-`, over the files of a folder, and answers the exit status.
+fn run_lines_over(rt: &HostRuntime, lines: &LinesTask<'_>, files: &[SourceFile]) -> u8 {
+    if lines.file == "-" {
+        return match BufReader::new(rt.alloc(), rt.reader()) {
+            Ok(reader) => run_lines_of(rt, lines, files, &mut ReadLines::new(reader)),
+            Err(_) => tell(rt, OUT_OF_MEMORY, NO_MEMORY),
+        };
+    }
+    match open_regular(rt, lines.file) {
+        Ok(file) => match BufReader::new(rt.alloc(), file) {
+            Ok(reader) => run_lines_of(rt, lines, files, &mut ReadLines::new(reader)),
+            Err(_) => tell(rt, OUT_OF_MEMORY, NO_MEMORY),
+        },
+        Err(fault) => tell_folder(rt, lines.rules, fault),
+    }
+}
+
+/// Works out these lines, and answers the exit status.
+fn run_lines_of<L: LineSource>(
+    rt: &HostRuntime,
+    lines: &LinesTask<'_>,
+    files: &[SourceFile],
+    source: &mut L,
+) -> u8 {
+    let Ok(writer) = BufWriter::new(rt.alloc(), Output::new(rt)) else {
+        return tell(rt, OUT_OF_MEMORY, NO_MEMORY);
+    };
+    let (mut sink, mut told) = (
+        StreamSink::new(writer),
+        StreamSink::new(ErrorOutput::new(rt)),
+    );
+    let (path, form) = (lines.file, lines.form);
+    let ending = calc_lines(rt.alloc(), files, path, form, source, &mut sink, &mut told);
+    finish(rt, sink, &ending)
 }
 
 /// Runs a task over these files and this text, and answers the exit status.

@@ -1,7 +1,7 @@
 //! Standard output and standard error, up to the limit on the size of files.
 
 use std::fs::Files;
-use std::io::{ErrorKind, Print, Write};
+use std::io::{Eprint, ErrorKind, Print, Write};
 use std::{fs, io};
 
 /// The bit of an open file's flags by which each write goes to the file's end.
@@ -70,6 +70,36 @@ impl<R: Files + AllocGlobal + Print> Write for Output<'_, R> {
             return Err(io::Error::from(ErrorKind::FileTooLarge));
         }
         io::writer(self.rt).write(&bytes[..room.min(bytes.len())])
+    }
+
+    fn flush(&mut self) -> io::Result<()> {
+        Ok(())
+    }
+}
+
+/// Standard error, which fails where the limit on the size of files is reached.
+#[derive(Drop)]
+pub struct ErrorOutput<'a, R> {
+    rt: &'a R,
+}
+
+impl<'a, R: Files + AllocGlobal + Eprint> ErrorOutput<'a, R> {
+    /// Standard error.
+    pub fn new(rt: &'a R) -> ErrorOutput<'a, R> {
+        ErrorOutput { rt }
+    }
+}
+
+impl<R: Files + AllocGlobal + Eprint> Write for ErrorOutput<'_, R> {
+    fn write(&mut self, bytes: &[u8]) -> io::Result<usize> {
+        if !fits(self.rt, Stream::Error, bytes.len()) {
+            return Err(io::Error::from(ErrorKind::FileTooLarge));
+        }
+        let Ok(text) = str::from_utf8(bytes) else {
+            return Err(io::Error::from(ErrorKind::InvalidData));
+        };
+        eprint!(self.rt; "{text}")?;
+        Ok(bytes.len())
     }
 
     fn flush(&mut self) -> io::Result<()> {

@@ -1,211 +1,38 @@
-//! The command line, read by `clap`.
+//! The work that a command line asks for, read by `clap`.
 
-ghost use Rattle.std.specs.Prelude.{◌≡◌, false, IfOk, map, string_bytes, codes};
+ghost use Rattle.std.specs.Prelude.{◌≡◌, IfOk, map, string_bytes};
 ghost use Rattle.clap.specs.Matches.{found_of};
-ghost use Rattle.clap.specs.declared.builder.command.Command.TheViews.{out-Command};
-ghost use Rattle.clap.specs.Walk.{one_of, rows_of, rule_of};
-ghost use Rattle.clap.specs.Simple.{app_of, new_app, subcommand_of};
-ghost use Rattle.clap.specs.Faults.{fault_of};
+ghost use Rattle.clap.specs.Walk.{rows_of};
+ghost use Rattle.clap.specs.Simple.{subcommand_of};
 ghost use Rattle.clap.specs.Kinds.{FailsBy};
-ghost use Rattle.fisca.specs.CommandLine.{axis_rule, option_rule, number_rule, required_rule, axes_app, calc_app, check_app, fisca_app, run_app, test_app, text_of, top_app, IsAxesTask, IsCalcTask, IsCheckTask, IsOptionalNumber, IsRunTask, IsStart, IsTaskOf, IsTestTask};
+ghost use Rattle.fisca.specs.CommandLine.{fisca_app};
+ghost use Rattle.fisca.specs.Misuse.{misuse_kinds, options_misuse, usage_fault};
+ghost use Rattle.fisca.specs.Work.{IsAxesTask, IsCalcTask, IsCalcWork, IsCheckTask, IsLinesTask, IsRunTask, IsSizeTask, IsTask, IsTestTask, IsWorkOf};
 
-use crate::help::{
-    ABOUT, AXES_ABOUT, AXES_EXAMPLE, AXES_EXAMPLES, AXES_LONG, AXIS_HELP, AXIS_LONG, CALC_ABOUT,
-    CALC_EXAMPLE, CALC_LONG, CALC_MORE, CHECK_ABOUT, CHECK_EXAMPLE, CHECK_LONG, CHECK_MORE,
-    FILE_HELP, FROM_HELP, FROM_LONG, KEEP_HELP, KEEP_LONG, ROWS_HELP, RULES_HELP, RUN_ABOUT,
-    RUN_EXAMPLE, RUN_FILE_HELP, RUN_LONG, RUN_MORE, STATUSES, TEST_ABOUT, TEST_EXAMPLE, TEST_LONG,
-    TEST_MORE, TESTS_HELP,
-};
-use clap::{Arg, ArgAction, ArgMatches, Command, Error, value_parser};
-use fisca_commands::Task;
+use crate::asked::{flag, form_in, misuse_in, options, text_at, text_in};
+use crate::subcommands::{axes_command, calc_command, command, run_command};
+use clap::{ArgMatches, Error};
+use fisca_commands::{TableForm, Task};
 use std::alloc::{AllocError, Global};
 
-/// An option with a whole number from 0 to 2^64-1.
-fn number<'a>(alloc: Global, id: &'a str, value: &'a str, help: &'a str) -> Arg<'a>
-    ensures rule { rule_of result ≡ number_rule id.entry.now }
-    ensures local { result.global ≡ false }
-{
-    Arg::new(alloc, id)
-        .long(id)
-        .value_name(value)
-        .value_parser(value_parser!(u64))
-        .help(help)
+/// What the words ask for.
+#[derive(Debug, Drop)]
+pub enum Work<'a> {
+    /// A task over the files of a folder and the text of a file.
+    Task(Task<'a>),
+    /// A task over each line of a file.
+    Lines(LinesTask<'a>),
 }
 
-/// An argument that has to be given.
-fn required<'a>(alloc: Global, id: &'a str, help: &'a str) -> Arg<'a>
-    ensures rule { rule_of result ≡ required_rule id.entry.now }
-    ensures local { result.global ≡ false }
-{
-    Arg::new(alloc, id).required(true).help(help)
-}
-
-/// The axes of `axes`.
-fn axis_argument<'a>(alloc: Global) -> Arg<'a>
-    ensures rule { rule_of result ≡ axis_rule }
-    ensures local { result.global ≡ false }
-{
-    required(alloc, "AXIS", AXIS_HELP)
-        .action(ArgAction::Append)
-        .num_args(1..)
-        .long_help(AXIS_LONG)
-}
-
-/// The condition of `axes`.
-fn keep_option<'a>(alloc: Global) -> Arg<'a>
-    ensures rule { rule_of result ≡ option_rule (codes "keep") }
-    ensures local { result.global ≡ false }
-{
-    Arg::new(alloc, "keep")
-        .long("keep")
-        .value_name("COND")
-        .help(KEEP_HELP)
-        .long_help(KEEP_LONG)
-}
-
-/// The option `--from`.
-fn from_option<'a>(alloc: Global) -> Arg<'a>
-    ensures rule { rule_of result ≡ number_rule (codes "from") }
-    ensures local { result.global ≡ false }
-{
-    number(alloc, "from", "P", FROM_HELP).long_help(FROM_LONG)
-}
-
-/// The command `axes` with its help, and no arguments yet.
-fn axes_page<'a>(alloc: Global) -> Command<'a>
-    ensures app { app_of result ≡ new_app (codes "axes") }
-    ensures local { (out-Command result).has_globals ≡ false }
-{
-    Command::new(alloc, "axes")
-        .about(AXES_ABOUT)
-        .long_about(AXES_LONG)
-        .after_help(AXES_EXAMPLE)
-        .after_long_help(AXES_EXAMPLES)
-}
-
-/// The command `axes`.
-fn axes_command<'a>(alloc: Global) -> Result<Command<'a>, AllocError>
-    ensures app { IfOk result (λ command. app_of command ≡ axes_app) }
-    ensures local { IfOk result (λ command. (out-Command command).has_globals ≡ false) }
-{
-    let axis = axis_argument(alloc);
-    let keep = keep_option(alloc);
-    let from = from_option(alloc);
-    let rows = number(alloc, "rows", "N", ROWS_HELP);
-    axes_page(alloc).arg(axis)?.arg(keep)?.arg(from)?.arg(rows)
-}
-
-/// The command `check`.
-fn check_command<'a>(alloc: Global) -> Result<Command<'a>, AllocError>
-    ensures app { IfOk result (λ command. app_of command ≡ check_app) }
-    ensures local { IfOk result (λ command. (out-Command command).has_globals ≡ false) }
-{
-    let rules = required(alloc, "RULES", RULES_HELP);
-    Command::new(alloc, "check")
-        .about(CHECK_ABOUT)
-        .long_about(CHECK_LONG)
-        .after_help(CHECK_EXAMPLE)
-        .after_long_help(CHECK_MORE)
-        .arg(rules)
-}
-
-/// The command `calc` with its help, and no arguments yet.
-fn calc_page<'a>(alloc: Global) -> Command<'a>
-    ensures app { app_of result ≡ new_app (codes "calc") }
-    ensures local { (out-Command result).has_globals ≡ false }
-{
-    Command::new(alloc, "calc")
-        .about(CALC_ABOUT)
-        .long_about(CALC_LONG)
-        .after_help(CALC_EXAMPLE)
-        .after_long_help(CALC_MORE)
-}
-
-/// The command `calc`.
-fn calc_command<'a>(alloc: Global) -> Result<Command<'a>, AllocError>
-    ensures app { IfOk result (λ command. app_of command ≡ calc_app) }
-    ensures local { IfOk result (λ command. (out-Command command).has_globals ≡ false) }
-{
-    let rules = required(alloc, "RULES", RULES_HELP);
-    let file = required(alloc, "FILE", FILE_HELP);
-    calc_page(alloc).arg(rules)?.arg(file)
-}
-
-/// The command `test` with its help, and no arguments yet.
-fn test_page<'a>(alloc: Global) -> Command<'a>
-    ensures app { app_of result ≡ new_app (codes "test") }
-    ensures local { (out-Command result).has_globals ≡ false }
-{
-    Command::new(alloc, "test")
-        .about(TEST_ABOUT)
-        .long_about(TEST_LONG)
-        .after_help(TEST_EXAMPLE)
-        .after_long_help(TEST_MORE)
-}
-
-/// The command `test`.
-fn test_command<'a>(alloc: Global) -> Result<Command<'a>, AllocError>
-    ensures app { IfOk result (λ command. app_of command ≡ test_app) }
-    ensures local { IfOk result (λ command. (out-Command command).has_globals ≡ false) }
-{
-    let rules = required(alloc, "RULES", RULES_HELP);
-    let tests = required(alloc, "TESTS", TESTS_HELP);
-    test_page(alloc).arg(rules)?.arg(tests)
-}
-
-/// The command `run` with its help, and no arguments yet.
-fn run_page<'a>(alloc: Global) -> Command<'a>
-    ensures app { app_of result ≡ new_app (codes "run") }
-    ensures local { (out-Command result).has_globals ≡ false }
-{
-    Command::new(alloc, "run")
-        .about(RUN_ABOUT)
-        .long_about(RUN_LONG)
-        .after_help(RUN_EXAMPLE)
-        .after_long_help(RUN_MORE)
-}
-
-/// The command `run`.
-fn run_command<'a>(alloc: Global) -> Result<Command<'a>, AllocError>
-    ensures app { IfOk result (λ command. app_of command ≡ run_app) }
-    ensures local { IfOk result (λ command. (out-Command command).has_globals ≡ false) }
-{
-    let rules = required(alloc, "RULES", RULES_HELP);
-    let file = required(alloc, "FILE", RUN_FILE_HELP);
-    let from = from_option(alloc);
-    let rows = number(alloc, "rows", "N", ROWS_HELP);
-    run_page(alloc).arg(rules)?.arg(file)?.arg(from)?.arg(rows)
-}
-
-/// The program with its help, and no commands yet.
-fn program_page<'a>(alloc: Global) -> Command<'a>
-    ensures app { app_of result ≡ top_app }
-    ensures local { (out-Command result).has_globals ≡ false }
-{
-    Command::new(alloc, "fisca")
-        .about(ABOUT)
-        .version("0.2.0")
-        .after_help(STATUSES)
-        .subcommand_required(true)
-        .arg_required_else_help(true)
-}
-
-/// The whole command line.
-fn command<'a>(alloc: Global) -> Result<Command<'a>, AllocError>
-    ensures app { IfOk result (λ command. app_of command ≡ fisca_app) }
-    ensures local { IfOk result (λ command. (out-Command command).has_globals ≡ false) }
-{
-    let check = check_command(alloc)?;
-    let calc = calc_command(alloc)?;
-    let test = test_command(alloc)?;
-    let run = run_command(alloc)?;
-    let axes = axes_command(alloc)?;
-    program_page(alloc)
-        .subcommand(check)?
-        .subcommand(calc)?
-        .subcommand(test)?
-        .subcommand(run)?
-        .subcommand(axes)
+/// `calc --lines`: work out the columns of many files, one in each line of a file, under the rule files of a folder.
+#[derive(Debug, Drop)]
+pub struct LinesTask<'a> {
+    /// The folder of the rule files.
+    pub rules: &'a str,
+    /// The file of the lines.
+    pub file: &'a str,
+    /// The form of the lines that are written.
+    pub form: TableForm,
 }
 
 /// Copies of texts.
@@ -219,36 +46,14 @@ fn copies(alloc: Global, texts: &[&str]) -> Result<Vec<String>, AllocError>
     Ok(copies)
 }
 
-/// The text of an argument that has to be given.
-fn text_at<'a>(matches: &ArgMatches<'a>, id: &str) -> &'a str
-    ensures { result.now ≡ text_of id.now (rows_of (found_of matches.now)) }
-{
-    matches.get_str(id).unwrap_or("")
-}
-
-/// The position of `--from`.
-fn start(matches: &ArgMatches<'_>) -> u64
-    ensures { IsStart (one_of (codes "from") (rows_of (found_of matches.now))) result }
-{
-    matches.get_one::<u64>("from").unwrap_or(0)
-}
-
-/// The limit of `--rows`.
-fn limit(matches: &ArgMatches<'_>) -> Option<u64>
-    ensures { IsOptionalNumber (one_of (codes "rows") (rows_of (found_of matches.now))) result }
-{
-    matches.get_one::<u64>("rows")
-}
-
 /// The task of `axes`.
 fn axes_task<'a>(alloc: Global, matches: &ArgMatches<'a>) -> Result<Task<'a>, AllocError>
     ensures { IfOk result (λ task. IsAxesTask (rows_of (found_of matches.now)) task) }
 {
     Ok(Task::Axes {
         words: copies(alloc, matches.get_strs("AXIS").unwrap_or(&[]))?,
-        keep: matches.get_str("keep"),
-        from: start(matches),
-        rows: limit(matches),
+        keep: text_in(matches, "keep"),
+        options: options(matches),
     })
 }
 
@@ -268,6 +73,7 @@ fn calc_task<'a>(matches: &ArgMatches<'a>) -> Task<'a>
     Task::Calc {
         rules: text_at(matches, "RULES"),
         file: text_at(matches, "FILE"),
+        form: form_in(matches),
     }
 }
 
@@ -290,26 +96,91 @@ fn run_task<'a>(matches: &ArgMatches<'a>) -> Task<'a>
     Task::Run {
         rules,
         file,
-        from: start(matches),
-        rows: limit(matches),
+        options: options(matches),
     }
 }
 
-/// The task that the words ask for, of which the first is the program's own name: what `clap` finds in them by its own
-/// definition of matches, for the options above. An error has the kind of that definition's fault, or memory was refused;
-/// a request for help or for the version is one whose exit code is 0. Which options give which part of the task is this
-/// project's own rule.
-pub fn read_task<'a>(alloc: Global, words: &'a [String]) -> Result<Task<'a>, Error>
-    ensures task { IfOk result (λ task. IsTaskOf (subcommand_of fisca_app (map (λ word. string_bytes word) words.entry.now)) task) }
-    ensures fault { FailsBy (fault_of fisca_app (map (λ word. string_bytes word) words.entry.now)) result }
+/// The task of `size`.
+fn size_task<'a>(matches: &ArgMatches<'a>) -> Task<'a>
+    ensures { IsSizeTask (rows_of (found_of matches.now)) result }
+{
+    let (rules, file) = (text_at(matches, "RULES"), text_at(matches, "FILE"));
+    Task::Size { rules, file }
+}
+
+/// The task over lines of `calc`.
+fn lines_task<'a>(matches: &ArgMatches<'a>) -> LinesTask<'a>
+    ensures { IsLinesTask (rows_of (found_of matches.now)) result }
+{
+    let (rules, file) = (text_at(matches, "RULES"), text_at(matches, "FILE"));
+    LinesTask {
+        rules,
+        file,
+        form: form_in(matches),
+    }
+}
+
+/// The work of `calc`, or why its options mean nothing.
+fn used_calc<'a>(alloc: Global, matches: &ArgMatches<'a>) -> Result<Work<'a>, Error>
+    ensures work { IfOk result (λ work. IsCalcWork (rows_of (found_of matches.now)) work) }
+    ensures fault { FailsBy (misuse_kinds (options_misuse (rows_of (found_of matches.now)))) result }
+{
+    match misuse_in(matches) {
+        Some(misuse) => Err(misuse.error(calc_command(alloc)?, "fisca calc")),
+        None => Ok(calc_work(matches)),
+    }
+}
+
+/// The work of `calc`: over lines where `--lines` is set.
+fn calc_work<'a>(matches: &ArgMatches<'a>) -> Work<'a>
+    ensures { IsCalcWork (rows_of (found_of matches.now)) result }
+{
+    if flag(matches, "lines") {
+        Work::Lines(lines_task(matches))
+    } else {
+        Work::Task(calc_task(matches))
+    }
+}
+
+/// The task of `run`, or why its options mean nothing.
+fn used_run<'a>(alloc: Global, matches: &ArgMatches<'a>) -> Result<Work<'a>, Error>
+    ensures work { IfOk result (IsTask (IsRunTask (rows_of (found_of matches.now)))) }
+    ensures fault { FailsBy (misuse_kinds (options_misuse (rows_of (found_of matches.now)))) result }
+{
+    match misuse_in(matches) {
+        Some(misuse) => Err(misuse.error(run_command(alloc)?, "fisca run")),
+        None => Ok(Work::Task(run_task(matches))),
+    }
+}
+
+/// The task of `axes`, or why its options mean nothing.
+fn used_axes<'a>(alloc: Global, matches: &ArgMatches<'a>) -> Result<Work<'a>, Error>
+    ensures work { IfOk result (IsTask (IsAxesTask (rows_of (found_of matches.now)))) }
+    ensures fault { FailsBy (misuse_kinds (options_misuse (rows_of (found_of matches.now)))) result }
+{
+    match misuse_in(matches) {
+        Some(misuse) => Err(misuse.error(axes_command(alloc)?, "fisca axes")),
+        None => Ok(Work::Task(axes_task(alloc, matches)?)),
+    }
+}
+
+/// The work that the words ask for, of which the first is the program's own name: what `clap` finds in them by its own
+/// definition of matches, for the options above. An error has the kind of that definition's fault, or of the first misuse of
+/// options that it finds nothing wrong with, or memory was refused;
+/// a request for help or for the version is one whose exit code is 0. Which options give which part of the work, and which mean nothing together,
+/// is this project's own rule.
+pub fn read_task<'a>(alloc: Global, words: &'a [String]) -> Result<Work<'a>, Error>
+    ensures work { IfOk result (λ work. IsWorkOf (subcommand_of fisca_app (map (λ word. string_bytes word) words.entry.now)) work) }
+    ensures fault { FailsBy (usage_fault (map (λ word. string_bytes word) words.entry.now)) result }
 {
     let matches = command(alloc)?.try_get_matches_from(words)?;
     match matches.subcommand() {
-        Some(("check", inner)) => Ok(check_task(inner)),
-        Some(("calc", inner)) => Ok(calc_task(inner)),
-        Some(("test", inner)) => Ok(test_task(inner)),
-        Some(("run", inner)) => Ok(run_task(inner)),
-        Some(("axes", inner)) => Ok(axes_task(alloc, inner)?),
+        Some(("check", inner)) => Ok(Work::Task(check_task(inner))),
+        Some(("calc", inner)) => used_calc(alloc, inner),
+        Some(("test", inner)) => Ok(Work::Task(test_task(inner))),
+        Some(("run", inner)) => used_run(alloc, inner),
+        Some(("size", inner)) => Ok(Work::Task(size_task(inner))),
+        Some(("axes", inner)) => used_axes(alloc, inner),
         Some(_) => unreachable!(),
         None => unreachable!(),
     }

@@ -9,13 +9,12 @@ ghost use Rattle.fisca_simulation.specs.Sound.{InputsFit, IsSafeRules};
 use crate::params::{files_of, mixed};
 use crate::rules::rules_of;
 use crate::{Measurement, list, show};
-use fisca_columns::CalcFile;
-use fisca_commands::calc_inputs_fit;
-use fisca_evaluator::{IndexRecall, PlainEvaluator as Remembering, Recall};
+use fisca_columns::{columns_in, default_in};
+use fisca_evaluator::{Evaluator as Remembering, IndexRecall, Recall};
 use fisca_model::{EvalFault, Key, Value};
 use fisca_params::SourceFile;
 use fisca_rules::RuleSet;
-use fisca_simulation::PlainEvaluator;
+use fisca_simulation::{PlainEvaluator, inputs_fit};
 use fisca_situations::Situation;
 use fisca_yaml::Tree;
 use std::alloc::Global;
@@ -111,16 +110,35 @@ fn of_tree(
 ) -> io::Result<Option<Measurement>>
     requires { IsSafeRules (rule_set rules.now) }
 {
-    calc_inputs_fit();
-    match CalcFile::read(alloc, &rules.tables, tree) {
-        Ok(CalcFile { situation, columns }) => Ok(Some(measured(
-            rt,
-            alloc,
-            rules,
-            situation,
-            columns.as_slice(),
-            work,
-        )?)),
+    inputs_fit();
+    let default = default_in(tree);
+    let input = tree.get("input");
+    match Situation::read(
+        alloc,
+        &rules.tables,
+        default,
+        1,
+        input.unwrap_or(&Tree::Null),
+    ) {
+        Ok(situation) => of_situation(rt, alloc, rules, situation, tree, work),
+        Err(_) => Ok(None),
+    }
+}
+
+/// Measures the columns of a tree in a situation.
+fn of_situation(
+    rt: &impl Clock,
+    alloc: Global,
+    rules: &RuleSet<'_>,
+    situation: Situation,
+    tree: &Tree<'_>,
+    work: Work,
+) -> io::Result<Option<Measurement>>
+    requires safe { IsSafeRules (rule_set rules.now) }
+    requires fit { InputsFit (rule_set rules.now) (situation_view situation) }
+{
+    match columns_in(alloc, &rules.tables, &situation, tree) {
+        Ok(columns) => Ok(Some(measured(rt, alloc, rules, situation, columns.as_slice(), work)?)),
         Err(_) => Ok(None),
     }
 }

@@ -215,7 +215,15 @@ fn shown<A: Answers<Fault = EvalFault> + Drop>(
 {
     let mut shown = Written::new(alloc);
     let mut sink = MemorySink::new(alloc);
-    let (evaluator, end) = write_columns(alloc, &rules.tables, columns, evaluator, &mut sink);
+    let (evaluator, end) = write_columns(
+        alloc,
+        &rules.tables,
+        None,
+        None,
+        columns,
+        evaluator,
+        &mut sink,
+    );
     let Some(column) = stop_of(&end) else {
         push_answer(
             alloc,
@@ -232,7 +240,15 @@ fn shown<A: Answers<Fault = EvalFault> + Drop>(
     shown.push_number(column);
     shown.push("\n");
     let mut sink = MemorySink::new(alloc);
-    let (evaluator, end) = write_columns(alloc, &rules.tables, columns, evaluator, &mut sink);
+    let (evaluator, end) = write_columns(
+        alloc,
+        &rules.tables,
+        None,
+        None,
+        columns,
+        evaluator,
+        &mut sink,
+    );
     push_answer(
         alloc,
         &mut shown,

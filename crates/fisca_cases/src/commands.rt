@@ -3,10 +3,19 @@
 use crate::fault::{CaseFault, malformed};
 use crate::narrow::Narrow;
 use fisca_cases_base::{Written, limit, number};
-use fisca_commands::{Refusal, axes_words, calc_rules, check_rules, run_rules, test_rules};
+use fisca_commands::{
+    Refusal, RunOptions, TableForm, axes_words, calc_rules, check_rules, run_rules, test_rules,
+};
 use fisca_params::SourceFile;
-use fisca_writer::{MemorySink, RowSink, RunFault};
+use fisca_writer::{MemorySink, Range, RowSink, RunFault};
 use std::alloc::Global;
+
+/// Lines as they are without an option.
+const PLAIN: TableForm = TableForm {
+    header: false,
+    decimals: None,
+    format: None,
+};
 
 /// What a command writes into a sink in memory, and behind it how the call ends. Where memory was refused, the same below it of a second call, from the
 /// position where the first one stopped.
@@ -83,16 +92,34 @@ fn call<S: RowSink>(
     match words {
         [keep, rows, axes @ ..] if command == "axes" => {
             let rows = limit(rows.as_str())?;
-            Ok(axes_words(alloc, axes, Some(keep.as_str()), from, rows, sink).err())
+            let options = from_on(from, rows);
+            Ok(axes_words(alloc, axes, Some(keep.as_str()), &options, sink).err())
         }
         [rows, text] if command == "run" => {
             let rows = limit(rows.as_str())?;
-            Ok(run_rules(alloc, files, text.as_str(), from, rows, sink).err())
+            let options = from_on(from, rows);
+            Ok(run_rules(alloc, files, text.as_str(), &options, &mut false, sink).err())
         }
-        [text] if command == "calc" => Ok(calc_rules(alloc, files, text.as_str(), sink).err()),
+        [text] if command == "calc" => Ok(calc_rules(
+            alloc,
+            files,
+            text.as_str(),
+            PLAIN,
+            sink,
+        ).err()),
         [text] if command == "test" => Ok(test_rules(alloc, files, text.as_str(), sink).err()),
         [] if command == "check" => Ok(check_rules(alloc, files, sink).err()),
         _ => Err(malformed()),
+    }
+}
+
+/// A run from a position on, up to a limit of lines.
+fn from_on(from: u64, rows: Option<u64>) -> RunOptions {
+    RunOptions {
+        range: Range::Between { from, to: None },
+        rows,
+        form: PLAIN,
+        keeps_going: false,
     }
 }
 

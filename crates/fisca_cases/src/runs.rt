@@ -13,13 +13,13 @@ ghost use Rattle.fisca_situations.specs.Steps.Views.{situation as situation_view
 use crate::axes::are_put_in;
 use crate::fault::{CaseFault, malformed, no_memory};
 use fisca_cases_base::{Written, limit, number, three};
-use fisca_commands::{evaluator_of, run_anew, run_grid, run_with};
+use fisca_commands::{RowStyle, evaluator_of, run_anew, run_grid, run_with};
 use fisca_evaluator::{Counts, Evaluator, ListRecall, Recall};
 use fisca_model::EvalFault;
 use fisca_rules::RuleSet;
 use fisca_run_file::{RunFile, RunRequest, RunStart};
 use fisca_situations::Slot;
-use fisca_writer::{MemorySink, RunEnd, RunFault};
+use fisca_writer::{Limit, MemorySink, RunEnd, RunFault};
 use fisca_yaml::{Tree, read};
 use std::alloc::Global;
 
@@ -71,7 +71,17 @@ fn counts(
     let run = read_run(alloc, rules, tree)?;
     let mut sink = MemorySink::new(alloc);
     let mut shown = Written::new(alloc);
-    match run_grid(alloc, rules, run, from, rows, &mut sink) {
+    let limit = Limit { to: None, rows };
+    match run_grid(
+        alloc,
+        rules,
+        run,
+        RowStyle::Plain,
+        &mut false,
+        from,
+        limit,
+        &mut sink,
+    ) {
         Ok((end, counts)) => push_counts(&mut shown, end, counts),
         Err(RunFault::BadPosition) => shown.push("BadPosition"),
         Err(RunFault::Eval { position, fault }) => push_stop(&mut shown, position, fault),
@@ -126,9 +136,19 @@ fn are_the_same(
     let mut kept = MemorySink::new(alloc);
     let mut anew = MemorySink::new(alloc);
     let run = read_run(alloc, rules, tree)?;
-    let answer = run_grid(alloc, rules, run, from, rows, &mut kept);
+    let limit = Limit { to: None, rows };
+    let answer = run_grid(
+        alloc,
+        rules,
+        run,
+        RowStyle::Plain,
+        &mut false,
+        from,
+        limit,
+        &mut kept,
+    );
     let run = read_run(alloc, rules, tree)?;
-    let expected = run_anew(alloc, rules, run, from, rows, &mut anew);
+    let expected = run_anew(alloc, rules, run, RowStyle::Plain, from, limit, &mut anew);
     if without_counts(answer) != expected || kept.bytes() != anew.bytes() {
         return Ok(false);
     }
@@ -204,12 +224,31 @@ fn runs_twice<'t, R: Recall>(
 {
     let mut once = MemorySink::new(alloc);
     let mut twice = MemorySink::new(alloc);
+    let limit = Limit { to: None, rows };
     let first = run_with(
-        alloc, &*rules, evaluator, &*slots, &*request, from, rows, &mut once,
+        alloc,
+        &*rules,
+        evaluator,
+        &*slots,
+        &*request,
+        RowStyle::Plain,
+        &mut false,
+        from,
+        limit,
+        &mut once,
     );
     let free = evaluator.counts().free();
     let second = run_with(
-        alloc, &*rules, evaluator, &*slots, &*request, from, rows, &mut twice,
+        alloc,
+        &*rules,
+        evaluator,
+        &*slots,
+        &*request,
+        RowStyle::Plain,
+        &mut false,
+        from,
+        limit,
+        &mut twice,
     );
     first == *expected
         && second == *expected

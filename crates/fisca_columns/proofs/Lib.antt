@@ -1,7 +1,8 @@
 pub mod Backwards
+pub mod Cells
 pub mod Cuts
-pub mod Names
 pub mod Numerals
+pub mod Printed
 pub mod ReadBack
 pub mod Readings
 pub mod Worked

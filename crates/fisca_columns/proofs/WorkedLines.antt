@@ -1,6 +1,7 @@
 -- The definition of the lines of columns, worked out on small ones.
+use Rattle.std.specs.Fmt.{decimal}
 use Rattle.std.proofs.Common.{◌≡◌, ℕ, ◌*◌, List, [], ◌∷◌, ◌++◌, codes, refl}
-use Rattle.std.specs.Prelude.{true, Some, Result, Ok, Err, if◌then◌else◌, ◌==◌}
+use Rattle.std.specs.Prelude.{true, Some, None, Result, Ok, Err, if◌then◌else◌, ◌==◌}
 use Rattle.fisca_columns.specs.Shown.{shown}
 use Rattle.fisca_writer.specs.Row.{Row, Nothing, Line, Fault}
 use Rattle.fisca_inputs.specs.Entries.{key}
@@ -14,7 +15,7 @@ use Rattle.fisca_time.specs.declared.unit.Unit.TheVariants as unit
 use Rattle.fisca_model.specs.Tables.{Tables, Variable}
 use Rattle.fisca_model.specs.declared.value_type.ValueType.{ValueType}
 use Rattle.fisca_model.specs.declared.value_type.ValueType.TheVariants as type
-use Rattle.fisca_columns.specs.Lines.{column_row}
+use Rattle.fisca_columns.specs.Formed.{column_row_in}
 
 -- two persons, a bool and an Enum
 
@@ -43,7 +44,7 @@ abbrev columns : List Key
 columns = key 0 1 year ∷ key 1 0 year ∷ key 1 1 year ∷ []
 
 abbrev row : ℕ → Row ℕ
-row = column_row country persons answer columns
+row = column_row_in None None country persons answer columns
 
 a_bool : row 0 ≡ Line (((shown (codes "owns") ++ codes "\t") ++ ((shown (codes "Bob") ++ codes "\t") ++ period_text year)) ++ codes "\ttrue\n")
 a_bool = refl
@@ -56,3 +57,14 @@ no_value = refl
 
 no_column : row 3 ≡ Nothing
 no_column = refl
+
+-- Behind a number that leads each line, and in forms
+
+abbrev led : ℕ → Row ℕ
+led = column_row_in None (Some 3) country persons answer columns
+
+a_bool_behind_a_number : led 0 ≡ Line ((decimal 3 ++ codes "\t") ++ (((shown (codes "owns") ++ codes "\t") ++ ((shown (codes "Bob") ++ codes "\t") ++ period_text year)) ++ codes "\ttrue\n"))
+a_bool_behind_a_number = refl
+
+no_value_behind_a_number : led 2 ≡ Fault 7
+no_value_behind_a_number = refl

@@ -3,7 +3,9 @@ pub mod Calc
 pub mod ColumnViews
 pub mod Columns
 pub mod Faults
+pub mod Formed
 pub mod Lines
+pub mod Named
 pub mod Outcomes
 pub mod Shown
 pub mod Steps

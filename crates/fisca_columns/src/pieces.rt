@@ -8,7 +8,7 @@ use fisca_time::Period;
 use std::alloc::{AllocError, Global};
 
 /// Appends a name.
-#[tactic(auto, using(crate::proofs::Names::stays))]
+#[tactic(auto, using(crate::proofs::Printed::stays))]
 pub(crate) fn write_name(alloc: Global, name: &[u8], line: &mut String) -> Result<(), AllocError>
     ensures { OnOk result (string_bytes line.new ≡ string_bytes line.old ++ shown name.now) }
 {

@@ -35,6 +35,21 @@ fn member_of<'s>(situation: &'s Situation, member: u32, variable: Option<&Variab
     }
 }
 
+/// The names of a key's variable and of its member, and nothing where one is not there.
+pub(crate) fn names_of<'t>(
+    tables: &'t Tables<'_>,
+    situation: &'t Situation,
+    key: &Key,
+) -> (&'t [u8], &'t [u8])
+    ensures variable { result.0.now ≡ steps.name_of (slice_get (known tables.now).variables key.now.variable) }
+    ensures member { result.1.now ≡ steps.member_of (situation_view situation.now).members key.now.member (slice_get (known tables.now).variables key.now.variable) }
+{
+    let variable = tables.variables.as_slice().get(key.variable);
+    let name = name_of(variable);
+    let member = member_of(situation, key.member, variable);
+    (name, member)
+}
+
 /// Appends a name, and a text behind it.
 fn write_named(
     alloc: Global,
@@ -76,9 +91,7 @@ pub fn write_key(
 ) -> Result<(), AllocError>
     ensures { OnOk result (string_bytes line.new ≡ string_bytes line.old ++ spec.key_text between.now (known tables.now) (situation_view situation.now).members key.now) }
 {
-    let variable = tables.variables.as_slice().get(key.variable);
-    let name = name_of(variable);
-    let member = member_of(situation, key.member, variable);
+    let (name, member) = names_of(tables, situation, key);
     write_parts(alloc, name, member, key.period, between, line)
 }
 

@@ -1,13 +1,17 @@
 -- What is known of a file of `calc` once it is read, and what the run over its columns answers.
-use Rattle.std.proofs.Common.{◌≡◌, ◌<◌, ℕ, inl, inr, List, [], length, Option, Some, None, Result, Ok, Err, refl, sym, subst, arith}
+use Rattle.std.proofs.Common.{◌≡◌, ◌∙◌, ◌<◌, ◌≤◌, ℕ, max, nat_lt, cond, Bool, true, false, ap, ⊎_elim, inl, inr, List, [], length, Option, Some, None, Result, Ok, Err, refl, sym, subst, arith}
+use Rattle.std.proofs.lemmas.Bool.Decides.{nat_tests}
 use Rattle.std.proofs.lemmas.List.{append-nil}
 use Rattle.std.specs.Option.{option_map_or}
 use Rattle.fisca_columns.specs.Calc.{Calc, calc_of}
-use Rattle.fisca_columns.specs.Lines.{column_row}
+use Rattle.fisca_columns.specs.Formed.{column_row_in}
+use Rattle.fisca_forms.specs.LineForms.{Form}
 use Rattle.fisca_simulation.specs.Told.{IsReady, told_in}
 use Rattle.fisca_model.specs.declared.eval_fault.EvalFault.{EvalFault}
-use Rattle.fisca_writer.specs.Continued.{lines_before, limit_after}
-use Rattle.fisca_writer.specs.Lines.{AtEnd, FaultAt, first_fault, lines}
+use Rattle.fisca_writer.specs.Continued.{lines_before, rows_after}
+use Rattle.fisca_writer.specs.Lines as told
+use Rattle.fisca_writer.specs.Lines.{AtEnd, FaultAt, MoreFrom, first_fault, lines}
+use Rattle.fisca_writer.specs.Ranges.{end_within, no_limit}
 use Rattle.fisca_model.specs.declared.key.Key.{Key}
 use Rattle.fisca_writer.specs.Run.{IsRun, told_end}
 use Rattle.fisca_writer.specs.declared.fault.RunEnd.{RunEnd}
@@ -44,32 +48,44 @@ ready files text c safe fit accepted asked =
 
 -- The run
 
--- over an evaluator of what is asked for, and its columns
-pub columns_run : (c : Calculation) (m : Simulation) (columns : List Key) (old new : Option (List ℕ)) (answer : Result RunEnd (RunFault EvalFault)) → m ≡ simulation_of c → columns ≡ c.asked.columns
-    → IsRun (column_row (known c.rules.tables) m.situation.members (told_in m) columns) (length columns) 0 None old new answer → IsColumnsRun c old new answer
-columns_run c m columns old new answer same all is =
-    subst (λ (n : Simulation). IsRun (column_row (known c.rules.tables) n.situation.members (told_in n) c.asked.columns) (length c.asked.columns) 0 None old new answer) same
-    (subst (λ ks. IsRun (column_row (known c.rules.tables) m.situation.members (told_in m) ks) (length ks) 0 None old new answer) all is)
+-- over an evaluator of what is asked for, and its columns, in a form
+pub columns_run : (c : Calculation) (given form : Option Form) (lead : Option ℕ) (m : Simulation) (columns : List Key) (old new : Option (List ℕ)) (answer : Result RunEnd (RunFault EvalFault))
+    → given ≡ form → m ≡ simulation_of c → columns ≡ c.asked.columns
+    → IsRun (column_row_in given lead (known c.rules.tables) m.situation.members (told_in m) columns) (length columns) 0 no_limit old new answer
+    → IsColumnsRun c form lead old new answer
+columns_run c given form lead m columns old new answer shown same all is =
+    subst (λ o. IsColumnsRun c o lead old new answer) shown
+    (subst (λ (n : Simulation). IsRun (column_row_in given lead (known c.rules.tables) n.situation.members (told_in n) c.asked.columns) (length c.asked.columns) 0 no_limit old new answer) same
+    (subst (λ ks. IsRun (column_row_in given lead (known c.rules.tables) m.situation.members (told_in m) ks) (length ks) 0 no_limit old new answer) all is))
 
-no_more : (o : Option (ℕ × EvalFault)) (end : RunEnd) → option_map_or (λ fault. FaultAt fault.0 fault.1) o AtEnd ≡ told_end end → end ≡ End
-no_more None End e = refl
-no_more None (More position) e = absurd (cc)
-no_more (Some fault) End e = absurd (cc)
-no_more (Some fault) (More position) e = absurd (cc)
+-- a run that no position is behind is at its end
+stays : (b : Bool) (rest position : ℕ) → b ≡ false → ◌≡◌ {A = told.End EvalFault} (cond b (MoreFrom rest) AtEnd) (MoreFrom position) → ⊥
+stays true rest position none e = cc
+stays false rest position none e = cc
 
--- a run over all columns leaves none
-pub ended : (c : Calculation) (old new : Option (List ℕ)) (end : RunEnd) → IsColumnsRun c old new (Ok end) → IsColumnsRun c old new (Ok End)
-ended c old new end is = subst (λ e. IsColumnsRun c old new (Ok e)) (no_more (first_fault (row_of c) (length c.asked.columns) 0) end is.1) is
+no_more : (size rest : ℕ) (o : Option (ℕ × EvalFault)) (end : RunEnd) → size ≤ rest → end_within size rest (option_map_or (λ fault. FaultAt fault.0 fault.1) o AtEnd) ≡ told_end end → end ≡ End
+no_more size rest None End over e = refl
+no_more size rest None (More position) over e = absurd (stays (nat_lt rest size) rest position (grind (arith, nat_tests)) e)
+no_more size rest (Some fault) End over e = absurd (cc)
+no_more size rest (Some fault) (More position) over e = absurd (cc)
 
-pub starts : (c : Calculation) (old new : Option (List ℕ)) → IsColumnsRun c old new (Err run.BadPosition) → ⊥
-starts c old new is = let below : length c.asked.columns < 0 = is.0 in omega (arith, below)
+module _ (c : Calculation) (form : Option Form) (lead : Option ℕ) (old new : Option (List ℕ)) where
+  -- a run over all columns leaves none
+  pub ended : (end : RunEnd) → IsColumnsRun c form lead old new (Ok end) → IsColumnsRun c form lead old new (Ok End)
+  ended end is =
+      let size = length c.asked.columns in
+      subst (λ e. IsColumnsRun c form lead old new (Ok e)) (no_more size (max 0 size) (first_fault (row_of c form lead) size 0) end (omega arith) is.1) is
 
-pub out_of_memory : (c : Calculation) (old new : Option (List ℕ)) (position : ℕ) → IsColumnsRun c old new (Err (run.Memory position)) → WritesFirst (lines_of c) old new
-out_of_memory c old new position is =
-    let before = lines_before position (lines_of c) in
-    (before, (lines (row_of c) (length c.asked.columns) position (limit_after before None), is.0.lines_follow), is.1)
+  pub starts : IsColumnsRun c form lead old new (Err run.BadPosition) → ⊥
+  starts is =
+      ⊎_elim (λ (below : length c.asked.columns < 0). omega (arith, below)) (λ (below : length c.asked.columns < length c.asked.columns). omega (arith, below)) is.0
 
-pub without_value : (c : Calculation) (old new : Option (List ℕ)) (position : ℕ) (fault : EvalFault) (refusal : Refusal) → IsColumnsRun c old new (Err (run.Eval position fault))
-    → IsKeyTold c.rules c.asked.situation.members fault refusal → IsStopped c old new refusal
-without_value c old new position fault refusal is (inl e) = inr (inr (e, (lines_of c, ([], sym (append-nil (lines_of c))), is.1)))
-without_value c old new position fault refusal is (inr told) = inr (inl (fault, told.0, told.1, told.2, (position, is)))
+  pub out_of_memory : (position : ℕ) → IsColumnsRun c form lead old new (Err (run.Memory position)) → WritesFirst (lines_of c form lead) old new
+  out_of_memory position is =
+      let before = lines_before position (lines_of c form lead) in
+      (before, (lines (row_of c form lead) (length c.asked.columns) position (rows_after before None), is.0.lines_follow), is.1)
+
+  pub without_value : (position : ℕ) (fault : EvalFault) (refusal : Refusal) → IsColumnsRun c form lead old new (Err (run.Eval position fault))
+      → IsKeyTold c.rules c.asked.situation.members fault refusal → IsStopped c form lead old new refusal
+  without_value position fault refusal is (inl e) = inr (inr (e, (lines_of c form lead, ([], sym (append-nil (lines_of c form lead))), is.2)))
+  without_value position fault refusal is (inr told) = inr (inl (fault, told.0, told.1, told.2, (position, is)))

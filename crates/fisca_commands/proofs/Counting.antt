@@ -9,6 +9,7 @@ use Rattle.fisca_evaluator.specs.Evaluators.{marks_in}
 use Rattle.fisca_evaluator.specs.declared.evaluator.Evaluator.{Evaluator}
 use Rattle.fisca_evaluator.specs.Counted.{no_counts}
 use Rattle.fisca_evaluator.specs.declared.counts.Counts.{Counts}
+use Rattle.fisca_commands.specs.declared.style.RowStyle.{RowStyle}
 use Rattle.fisca_rules.specs.declared.rule_set.RuleSet.{RuleSet}
 use Rattle.fisca_commands.specs.Remembered.{AreCounts, HasRun, IsStillWorkIn, marks_of_run}
 use Rattle.fisca_run_file.specs.RunFiles.{RunFile}
@@ -25,20 +26,20 @@ none_free m free counts none k there = by counts.count counts.keys (sym counts.c
     by zero frees h = in_none frees.keys frees.counted ((frees.exact k).1 there)
     by (suc count) frees h = absurd (omega (arith, h))
 
-module _ (rules : RuleSet) (f : RunFile) where
+module _ (rules : RuleSet) (style : RowStyle) (f : RunFile) where
   module _ {R : Type 0} (find : R → Entries) (from stop : ℕ) (old new : Evaluator R) (none : old.store.counts ≡ no_counts)
-      (had : CountsFree (find old.store.recall) old.store.counts.free) (marks : marks_in old ≡ marks_of_run rules f) (ran : HasRun find rules f from stop old new) where
-    there : (k : Key) → IsFreeKey (find new.store.recall) k → IsStillWorkIn rules f (marks_of_run rules f) from stop k
+      (had : CountsFree (find old.store.recall) old.store.counts.free) (marks : marks_in old ≡ marks_of_run rules f) (ran : HasRun find rules style f from stop old new) where
+    there : (k : Key) → IsFreeKey (find new.store.recall) k → IsStillWorkIn rules style f (marks_of_run rules f) from stop k
     there k free = ⊎_elim
         (λ (was : IsFreeKey (find old.store.recall) k). absurd (none_free (find old.store.recall) old.store.counts.free had (ap (λ (c : Counts). c.free) none) k was))
-        (λ (work : IsStillWorkIn rules f (marks_in old) from stop k). subst (λ ms. IsStillWorkIn rules f ms from stop k) marks work)
+        (λ (work : IsStillWorkIn rules style f (marks_in old) from stop k). subst (λ ms. IsStillWorkIn rules style f ms from stop k) marks work)
         (ran.just.only k free)
 
-    back : (k : Key) → IsStillWorkIn rules f (marks_of_run rules f) from stop k → IsFreeKey (find new.store.recall) k
-    back k work = ran.just.all k (subst (λ ms. IsStillWorkIn rules f ms from stop k) (sym marks) work)
+    back : (k : Key) → IsStillWorkIn rules style f (marks_of_run rules f) from stop k → IsFreeKey (find new.store.recall) k
+    back k work = ran.just.all k (subst (λ ms. IsStillWorkIn rules style f ms from stop k) (sym marks) work)
 
     -- what began with nothing has counted them
-    pub run_counted : CountsFree (find new.store.recall) new.store.counts.free → AreCounts rules f from stop new.store.counts
+    pub run_counted : CountsFree (find new.store.recall) new.store.counts.free → AreCounts rules style f from stop new.store.counts
     run_counted frees =
         record {
           keys = frees.keys.keys;

@@ -12,7 +12,7 @@ use Rattle.fisca_grid.specs.NamedAxes.{specs_of, filter_from}
 use Rattle.fisca_grid.specs.Steps.NamedAxes.{name_of, own_groups}
 use Rattle.fisca_grid.specs.declared.condition.Filter.{Filter}
 use Rattle.fisca_commands.specs.AxesRun.{required_filter, optional_filter, filtered_axes, axes_within_limits, named_fault, required_axes, axes_of_words}
-use Rattle.fisca_commands.specs.Ending.{IsAnswered, IsJudged, IsRunEnding, IsTold, TaskOutcome}
+use Rattle.fisca_commands.specs.Ending.{IsAnswered, IsEndTold, IsJudged, IsRunEnding, IsTold, TaskOutcome, run_done, run_status}
 use Rattle.fisca_test_file.specs.declared.all.Verdict.{Verdict}
 use Rattle.fisca_rule_files.specs.Refusal.{is_failed_write, is_write, status_of}
 use Rattle.fisca_rule_files.specs.declared.refusal.Refusal.{Refusal}
@@ -91,15 +91,34 @@ told_write : (path : List ℕ) (refusal : Refusal) (outcome : TaskOutcome) → I
 told_write path refusal outcome (inl e) = ap (λ o. o.status == 5) e
 told_write path refusal outcome (inr h) = ap (λ o. o.status == 5) h.0 ∙ sym (ne_eqb (status_of refusal) 5 h.1)
 
+-- the status of a run that nothing stopped is that of no failed write
+run_unfailed : (lacks : Bool) → (run_status lacks == 5) ≡ false
+run_unfailed true = refl
+run_unfailed false = refl
+
+pub end_unfailed : (end : RunEnd) (lacks : Bool) (outcome : TaskOutcome) → IsEndTold end lacks outcome → (outcome.status == 5) ≡ false
+end_unfailed end lacks outcome (inl e) = ap (λ (o : TaskOutcome). o.status == 5) e ∙ run_unfailed lacks
+end_unfailed end lacks outcome (inr e) = ap (λ (o : TaskOutcome). o.status == 5) e
+
+pub done_unfailed : (lacks : Bool) (outcome : TaskOutcome) → outcome ≡ run_done lacks → (outcome.status == 5) ≡ false
+done_unfailed lacks outcome e = ap (λ (o : TaskOutcome). o.status == 5) e ∙ run_unfailed lacks
+
+-- how a run ends that was refused
+refused_so : (path : List ℕ) (lacks table : Bool) (refusal : Refusal) (old new : Option (List ℕ)) (outcome : TaskOutcome) → IsRunEnding path lacks table (Err refusal) old new outcome
+    → IsTold path refusal outcome
+refused_so path lacks true refusal old new outcome ending = ending.0
+refused_so path lacks false refusal old new outcome ending = ending.0
+
 -- the failures of a run and of what follows it
-pub counted : (path : List ℕ) (old new : Option (List ℕ)) (answer : Result RunEnd Refusal) (outcome : TaskOutcome) (before run_failures after : ℕ)
-    → IsRunEnding path answer old new outcome
+pub counted : (path : List ℕ) (lacks table : Bool) (old new : Option (List ℕ)) (answer : Result RunEnd Refusal) (outcome : TaskOutcome) (before run_failures after : ℕ)
+    → IsRunEnding path lacks table answer old new outcome
     → run_failures ≡ cond (is_write answer) (one_more before) before
     → after ≡ cond (is_ok answer && (outcome.status == 5)) (one_more run_failures) run_failures
     → after ≡ cond (outcome.status == 5) (one_more before) before
-counted path old new (Ok end) outcome before failures after ending first last = last ∙ ap (λ n. cond (outcome.status == 5) (one_more n) n) first
-counted path old new (Err refusal) outcome before failures after ending first last =
-    last ∙ first ∙ ap (λ failed. cond failed (one_more before) before) (sym (told_write path refusal outcome ending.0 ∙ failed_write refusal))
+counted path lacks table old new (Ok end) outcome before failures after ending first last = last ∙ ap (λ n. cond (outcome.status == 5) (one_more n) n) first
+counted path lacks table old new (Err refusal) outcome before failures after ending first last =
+    last ∙ first
+    ∙ ap (λ failed. cond failed (one_more before) before) (sym (told_write path refusal outcome (refused_so path lacks table refusal old new outcome ending) ∙ failed_write refusal))
 
 -- the failures of a command that writes no last line
 pub answered : (path : List ℕ) (answer : Result Unit Refusal) (outcome : TaskOutcome) (before after : ℕ)

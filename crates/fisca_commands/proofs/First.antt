@@ -1,11 +1,13 @@
 -- The fault that ends a run is the first from its start on.
-use Rattle.std.proofs.Common.{◌≡◌, ◌≤◌, ◌<◌, ◌-◌, ◌+◌, ◌∙◌, ℕ, zero, suc, Bool, true, false, cond, List, Option, Some, None, option_map, ap, sym, arith, nat_lt, refl, ⊎_elim}
+use Rattle.std.proofs.Common.{◌≡◌, ◌≤◌, ◌<◌, ◌-◌, ◌+◌, ◌∙◌, ℕ, zero, suc, Bool, true, false, cond, List, Option, Some, None, option_map, ap, sym, arith, nat_lt, refl, ⊎_elim, max}
 use Rattle.std.proofs.lemmas.Bool.{cases_lt}
 use Rattle.std.specs.List.{cons_option, filter_map, range_with_len}
 use Rattle.std.specs.Option.{option_map_or}
 use Rattle.std.specs.Prelude.{slice_get}
 use Rattle.fisca_writer.specs.Lines.{AtEnd, End, FaultAt, MoreFrom, all_lines, continued_from, fault_at, first_fault, run_end, unlimited_end}
+use Rattle.fisca_writer.specs.Ranges.{end_within, range_end, stop_of}
 use Rattle.fisca_writer.specs.Row.{Fault, Line, Nothing, Row, fault_of}
+use Rattle.fisca_writer.specs.declared.limit.Limit.{Limit}
 
 module _ {F : Type 0} (row : ℕ → Row F) where
   -- a fault at a position below `stop`, and none from `from` on before it
@@ -63,9 +65,18 @@ module _ {F : Type 0} (row : ℕ → Row F) where
   stops_there size from (Some (suc before)) position x e =
       end_of (first_fault row size from) position x (unlimited size (slice_get (all_lines row size from) before) (unlimited_end row size from) position x e)
 
-  pub first_stops : (size from : ℕ) (limit : Option ℕ) (position : ℕ) (x : F) → run_end row size from limit ≡ FaultAt position x → IsFirst from size position
-  first_stops size from limit position x e =
+  first_in : (size from : ℕ) (limit : Option ℕ) (position : ℕ) (x : F) → run_end row size from limit ≡ FaultAt position x → IsFirst from size position
+  first_in size from limit position x e =
       let first = first_from (size - from) from position x (stops_there size from limit position x e) in
       let low = first.0 in
       let high = first.1 in
       (low, omega (arith, low, high), first.2)
+
+  -- a fault that ends a range ends the grid up to where the range is to stop
+  fault_within : (size rest : ℕ) (end : End F) (position : ℕ) (x : F) → end_within size rest end ≡ FaultAt position x → end ≡ FaultAt position x
+  fault_within size rest AtEnd position x e = absurd (no_stop (nat_lt rest size) rest position x e)
+  fault_within size rest (MoreFrom there) position x e = absurd (cc)
+  fault_within size rest (FaultAt there y) position x e = e
+
+  pub first_stops : (size from : ℕ) (limit : Limit) (position : ℕ) (x : F) → range_end row size from limit ≡ FaultAt position x → IsFirst from (stop_of size limit) position
+  first_stops size from limit position x e = first_in (stop_of size limit) from limit.rows position x (fault_within size (max from (stop_of size limit)) (run_end row (stop_of size limit) from limit.rows) position x e)

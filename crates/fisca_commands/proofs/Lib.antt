@@ -9,15 +9,23 @@ mod Counting
 mod Endings
 mod First
 pub mod Fitting
-mod Going
+mod FormedCells
+mod GoingCells
 mod Gone
 mod Headline
+mod Lacking
+mod LineWritten
+mod LinesPassed
+mod LinesReady
 mod Named
 pub mod Numbers
 mod OnTheWay
 mod Parts
 mod Passing
 mod Placing
+mod PlainRuns
+mod Ranged
+mod Stepping
 mod Still
 mod Telling
 mod Tested

@@ -16,7 +16,8 @@ use Rattle.fisca_evaluator.specs.declared.counts.Counts.{Counts}
 use Rattle.fisca_rules.specs.declared.rule_set.RuleSet.{RuleSet}
 use Rattle.fisca_commands.proofs.Gone.{HaveAllWorked, HaveSomeWorked}
 use Rattle.fisca_commands.proofs.Still.{free_read, read_free}
-use Rattle.fisca_commands.specs.Asked.{keys_asked}
+use Rattle.fisca_commands.specs.Going.{keys_styled}
+use Rattle.fisca_commands.specs.declared.style.RowStyle.{RowStyle}
 use Rattle.fisca_commands.specs.Kept.{IsSituated}
 use Rattle.fisca_commands.specs.Remembered.{AreJust, AreRaised, IsStillWork, WorkOfOne}
 use Rattle.fisca_commands.specs.Runs.{simulation_in}
@@ -105,14 +106,14 @@ module _ (rules : RuleSet) (f : RunFile) (position : ℕ) where
       let situation : b.situation ≡ a.situation = cc in
       b.same ∙ (ap (simulation_in rules f) situation ∙ sym a.same)
 
-  module _ (marks : Key → ℕ) (m : Simulation) (there : IsSituated rules f (Some position) m) (keys : List inputs.Key)
-      (are : keys ≡ keys_asked (told_in m) f.conditions f.columns) where
-    pub work_to : (k : Key) → WorkOfOne m keys k × IsReads marks (sources m) k 0 → IsStillWork rules f marks position k
+  module _ (style : RowStyle) (marks : Key → ℕ) (m : Simulation) (there : IsSituated rules f (Some position) m) (keys : List inputs.Key)
+      (are : keys ≡ keys_styled style (told_in m) f.conditions f.columns) where
+    pub work_to : (k : Key) → WorkOfOne m keys k × IsReads marks (sources m) k 0 → IsStillWork rules style f marks position k
     work_to k w = record { simulation = m; situated = there; work = subst (λ keys. WorkOfOne m keys k) are w.0; still = w.1 }
 
-    pub work_back : (k : Key) → IsStillWork rules f marks position k → WorkOfOne m keys k × IsReads marks (sources m) k 0
+    pub work_back : (k : Key) → IsStillWork rules style f marks position k → WorkOfOne m keys k × IsReads marks (sources m) k 0
     work_back k w =
         let same = same_situated m w.simulation there w.situated in (
-          subst (λ ks. WorkOfOne m ks k) (sym are) (subst (λ m. WorkOfOne m (keys_asked (told_in m) f.conditions f.columns) k) same w.work),
+          subst (λ ks. WorkOfOne m ks k) (sym are) (subst (λ m. WorkOfOne m (keys_styled style (told_in m) f.conditions f.columns) k) same w.work),
           subst (λ m. IsReads marks (sources m) k 0) same w.still,
         )

@@ -1,18 +1,23 @@
 -- How a command ends: what it answers, tells and writes.
-use Rattle.std.specs.Prelude.{◌≡◌, ◌≢◌, ◌⊎◌, ℕ, ◌==◌, if◌then◌else◌, List, [], map, Option, Some, None, option_map, Result, Ok, Err, string_bytes}
+use Rattle.std.specs.Prelude.{◌≡◌, ◌≢◌, ◌⊎◌, ℕ, ◌==◌, if◌then◌else◌, Bool, true, false, List, [], map, Option, Some, None, option_map, Result, Ok, Err, IfOk, string_bytes}
 use Rattle.std.specs.Io.KnownBytes.{Appends, Keeps}
 use Rattle.fisca_writer.specs.Run.{AppendsPart}
 use Rattle.fisca_writer.specs.declared.fault.RunEnd.{RunEnd}
+use Rattle.fisca_evaluator.specs.declared.counts.Counts.{Counts}
 use Rattle.fisca_params.specs.Source.{Source}
 use Rattle.fisca_rule_files.specs.declared.refusal.Refusal.{Refusal}
 use Rattle.fisca_rule_files.specs.declared.refusal.Refusal.TheVariants.{Write, Memory}
 use Rattle.fisca_commands.specs.declared.task.Task.{Task}
-use Rattle.fisca_commands.specs.declared.task.Task.TheVariants.{Check, Calc, Test, Run, Axes}
+use Rattle.fisca_commands.specs.declared.task.Task.TheVariants.{Check, Calc, Test, Run, Size, Axes}
 use Rattle.fisca_commands.specs.AxesRun.{IsAxesAnswer}
 use Rattle.fisca_commands.specs.Calc.{IsCalc}
 use Rattle.fisca_rule_files.specs.Check.{IsCheck}
-use Rattle.fisca_commands.specs.LastLine.{last_line}
-use Rattle.fisca_commands.specs.Run.{IsRunAnswer}
+use Rattle.fisca_commands.specs.Forms.{is_table}
+use Rattle.fisca_commands.specs.LastLine.{end_text, last_line}
+use Rattle.fisca_commands.specs.Run.{IsCounted, IsRunAnswer}
+use Rattle.fisca_commands.specs.Size.{IsSize}
+use Rattle.fisca_commands.specs.declared.options.RunOptions.{RunOptions}
+use Rattle.fisca_commands.specs.declared.options.TableForm.{TableForm}
 use Rattle.fisca_commands.specs.Test.{IsTest}
 use Rattle.fisca_test_file.specs.declared.all.Verdict.{Verdict}
 use Rattle.fisca_rule_files.specs.Refusal.{status_of, line_of}
@@ -33,27 +38,41 @@ told_of path refusal = record { status = status_of refusal; told = Some (line_of
 abbrev pub IsTold : List ℕ → Refusal → TaskOutcome → Type 0
 IsTold path refusal outcome = (outcome ≡ told_of path refusal) ⊎ ((outcome ≡ told_of path Memory) × (status_of refusal ≢ 5))
 
--- how a run over the file at this path, if there is one, ends that gave this answer: it is done with its last line, or the sink fails in that line; a
--- refusal is told, and no more is written
-abbrev pub IsRunEnding : List ℕ → Result RunEnd Refusal → Option (List ℕ) → Option (List ℕ) → TaskOutcome → Type 0
-IsRunEnding path (Ok end) old new outcome =
-    ((outcome ≡ done) × Appends old new (last_line end))
+-- the status of a run that nothing stopped says whether a word stands in the place of a value
+abbrev pub run_status : Bool → ℕ
+run_status lacks = if lacks then 4 else 0
+
+abbrev pub run_done : Bool → TaskOutcome
+run_done lacks = record { status = run_status lacks; told = None }
+
+-- the last line of a run is told, or that there is no memory for it
+abbrev pub IsEndTold : RunEnd → Bool → TaskOutcome → Type 0
+IsEndTold end lacks outcome = (outcome ≡ record { status = run_status lacks; told = Some (end_text end) }) ⊎ (outcome ≡ told_of [] Memory)
+
+-- how a run over the file at this path, if there is one, ends that gave this answer: it is done with its last line, or the sink fails in that line;
+-- behind a table the last line is told, and no more is written; so is a refusal
+abbrev pub IsRunEnding : List ℕ → Bool → Bool → Result RunEnd Refusal → Option (List ℕ) → Option (List ℕ) → TaskOutcome → Type 0
+IsRunEnding path lacks true (Ok end) old new outcome = IsEndTold end lacks outcome × Keeps old new
+IsRunEnding path lacks false (Ok end) old new outcome =
+    ((outcome ≡ run_done lacks) × Appends old new (last_line end))
     ⊎ ((outcome ≡ told_of path Write) × AppendsPart (last_line end) old new)
-IsRunEnding path (Err refusal) old new outcome = IsTold path refusal outcome × Keeps old new
+IsRunEnding path lacks table (Err refusal) old new outcome = IsTold path refusal outcome × Keeps old new
 
 -- how `axes` ends: the run writes its lines, and then ends
-pub record IsAxesEnding (words : List (List ℕ)) (keep : Option (List ℕ)) (from : ℕ) (limit : Option ℕ) (old new : Option (List ℕ)) (outcome : TaskOutcome) : Type 0 where
+pub record IsAxesEnding (words : List (List ℕ)) (keep : Option (List ℕ)) (options : RunOptions) (old new : Option (List ℕ)) (outcome : TaskOutcome) : Type 0 where
   pub answer : Result RunEnd Refusal
   pub between : Option (List ℕ)
-  pub run : IsAxesAnswer words keep from limit old between answer
-  pub end : IsRunEnding [] answer between new outcome
+  pub run : IsAxesAnswer words keep options old between answer
+  pub end : IsRunEnding [] false (is_table options.form) answer between new outcome
 
 -- how `run` ends over the file at this path: the run writes its lines, and then ends
-pub record IsGridEnding (files : List Source) (path text : List ℕ) (from : ℕ) (limit : Option ℕ) (old new : Option (List ℕ)) (outcome : TaskOutcome) : Type 0 where
+pub record IsGridEnding (files : List Source) (path text : List ℕ) (options : RunOptions) (old new : Option (List ℕ)) (outcome : TaskOutcome) : Type 0 where
   pub answer : Result RunEnd Refusal
   pub between : Option (List ℕ)
-  pub run : IsRunAnswer files text from limit old between answer
-  pub end : IsRunEnding path answer between new outcome
+  pub run : IsRunAnswer files text options old between answer
+  pub lacks : Bool
+  pub lacking : IfOk answer (λ end. (counts : Counts) × IsCounted files text options old between false lacks end counts)
+  pub end : IsRunEnding path lacks (is_table options.form) answer between new outcome
 
 -- a command that writes no last line is done, or its refusal is told
 abbrev pub IsAnswered : List ℕ → Result Unit Refusal → TaskOutcome → Type 0
@@ -65,8 +84,12 @@ abbrev pub IsCheckEnding : List Source → Option (List ℕ) → Option (List �
 IsCheckEnding files old new outcome = (answer : Result Unit Refusal) × IsCheck files old new answer × IsAnswered [] answer outcome
 
 -- how `calc` ends over the file at this path
-abbrev pub IsCalcEnding : List Source → List ℕ → List ℕ → Option (List ℕ) → Option (List ℕ) → TaskOutcome → Type 0
-IsCalcEnding files path text old new outcome = (answer : Result Unit Refusal) × IsCalc files text old new answer × IsAnswered path answer outcome
+abbrev pub IsCalcEnding : List Source → List ℕ → List ℕ → TableForm → Option (List ℕ) → Option (List ℕ) → TaskOutcome → Type 0
+IsCalcEnding files path text form old new outcome = (answer : Result Unit Refusal) × IsCalc files text form old new answer × IsAnswered path answer outcome
+
+-- how `size` ends over the file at this path
+abbrev pub IsSizeEnding : List Source → List ℕ → List ℕ → Option (List ℕ) → Option (List ℕ) → TaskOutcome → Type 0
+IsSizeEnding files path text old new outcome = (answer : Result Unit Refusal) × IsSize files text old new answer × IsAnswered path answer outcome
 
 -- the status says whether a test failed
 abbrev pub judged : Verdict → TaskOutcome
@@ -84,7 +107,8 @@ IsTestEnding files path text old new outcome = (answer : Result Verdict Refusal)
 -- how a task ends over the files of its folder and the text of its own file, where a sink held `old` and then holds `new`
 abbrev pub IsTaskEnding : Task → List Source → List ℕ → Option (List ℕ) → Option (List ℕ) → TaskOutcome → Type 0
 IsTaskEnding (Check rules) files text old new outcome = IsCheckEnding files old new outcome
-IsTaskEnding (Calc rules file) files text old new outcome = IsCalcEnding files file.now text old new outcome
+IsTaskEnding (Calc rules file form) files text old new outcome = IsCalcEnding files file.now text form old new outcome
 IsTaskEnding (Test rules file) files text old new outcome = IsTestEnding files file.now text old new outcome
-IsTaskEnding (Run rules file from limit) files text old new outcome = IsGridEnding files file.now text from limit old new outcome
-IsTaskEnding (Axes words keep from limit) files text old new outcome = IsAxesEnding (map (λ word. string_bytes word) words.items) (option_map (λ text. text.now) keep) from limit old new outcome
+IsTaskEnding (Run rules file options) files text old new outcome = IsGridEnding files file.now text options old new outcome
+IsTaskEnding (Size rules file) files text old new outcome = IsSizeEnding files file.now text old new outcome
+IsTaskEnding (Axes words keep options) files text old new outcome = IsAxesEnding (map (λ word. string_bytes word) words.items) (option_map (λ text. text.now) keep) options old new outcome

@@ -2,9 +2,13 @@ pub mod Asked
 pub mod AxesRun
 pub mod Begun
 pub mod Calc
+pub mod CalcLines
 pub mod Conditions
 pub mod Ending
 pub mod Ends
+pub mod FormedLines
+pub mod Forms
+pub mod Going
 pub mod Headline
 pub mod Kept
 pub mod LastLine
@@ -13,6 +17,8 @@ pub mod Outcomes
 pub mod Remembered
 pub mod Run
 pub mod Runs
+pub mod Size
+pub mod Steps
 pub mod Test
 pub mod Unanswered
 pub mod Yaml

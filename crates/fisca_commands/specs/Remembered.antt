@@ -22,9 +22,10 @@ use Rattle.fisca_evaluator.specs.declared.evaluator.Evaluator.{Evaluator}
 use Rattle.fisca_evaluator.specs.Counted.{one_more}
 use Rattle.fisca_evaluator.specs.declared.counts.Counts.{Counts}
 use Rattle.fisca_rules.specs.declared.rule_set.RuleSet.{RuleSet}
-use Rattle.fisca_commands.specs.Asked.{keys_asked}
+use Rattle.fisca_commands.specs.Going.{keys_styled}
 use Rattle.fisca_commands.specs.Kept.{IsSituated}
 use Rattle.fisca_commands.specs.Runs.{positions}
+use Rattle.fisca_commands.specs.declared.style.RowStyle.{RowStyle}
 use Rattle.fisca_run_file.specs.RunFiles.{RunFile}
 use Rattle.fisca_run_file.specs.Steps.Marks.{wheels_of}
 use Rattle.fisca_run_file.specs.Steps.Slots.{slots_of}
@@ -44,10 +45,10 @@ abbrev pub WorkOfOne : Simulation → List inputs.Key → Key → Type 0
 WorkOfOne m keys k = (key : inputs.Key) × IsOneOf keys key × work_of m key k
 
 -- A key is of the work at a position, and reads no wheel there: some key for which the row there asks has it in its work.
-pub record IsStillWork (rules : RuleSet) (f : RunFile) (marks : Key → ℕ) (position : ℕ) (k : Key) : Type 0 where
+pub record IsStillWork (rules : RuleSet) (style : RowStyle) (f : RunFile) (marks : Key → ℕ) (position : ℕ) (k : Key) : Type 0 where
   pub simulation : Simulation
   pub situated : IsSituated rules f (Some position) simulation
-  pub work : WorkOfOne simulation (keys_asked (told_in simulation) f.conditions f.columns) k
+  pub work : WorkOfOne simulation (keys_styled style (told_in simulation) f.conditions f.columns) k
   pub still : IsReads marks (sources simulation) k 0
 
 -- Of the keys of which something is remembered that reads no wheel, none is forgotten, and those that are new are just these.
@@ -66,9 +67,9 @@ pub record AreRaised (old new : Counts) : Type 0 where
 -- Rows
 
 -- the row at a position was worked out
-pub record IsPassed {R : Type 0} (find : R → Entries) (rules : RuleSet) (f : RunFile) (old : Evaluator R) (position : ℕ) (new : Evaluator R) : Type 0 where
+pub record IsPassed {R : Type 0} (find : R → Entries) (rules : RuleSet) (style : RowStyle) (f : RunFile) (old : Evaluator R) (position : ℕ) (new : Evaluator R) : Type 0 where
   pub marks : marks_in new ≡ marks_in old
-  pub just : AreJust (find old.store.recall) (find new.store.recall) (IsStillWork rules f (marks_in old) position)
+  pub just : AreJust (find old.store.recall) (find new.store.recall) (IsStillWork rules style f (marks_in old) position)
   pub raised : AreRaised old.store.counts new.store.counts
   pub lost : new.store.counts.lost ≡ old.store.counts.lost
 
@@ -82,28 +83,28 @@ pub record IsRefused {R : Type 0} (find : R → Entries) (old new : Evaluator R)
 -- Runs
 
 -- a key is of the work at one of these positions, and reads no wheel there
-pub record IsStillWorkIn (rules : RuleSet) (f : RunFile) (marks : Key → ℕ) (from stop : ℕ) (k : Key) : Type 0 where
+pub record IsStillWorkIn (rules : RuleSet) (style : RowStyle) (f : RunFile) (marks : Key → ℕ) (from stop : ℕ) (k : Key) : Type 0 where
   pub position : ℕ
   pub begun : from ≤ position
   pub ended : position < stop
-  pub work : IsStillWork rules f marks position k
+  pub work : IsStillWork rules style f marks position k
 
 -- the rows at the positions from `from` on below `stop` were worked out
-pub record HasRun {R : Type 0} (find : R → Entries) (rules : RuleSet) (f : RunFile) (from stop : ℕ) (old new : Evaluator R) : Type 0 where
+pub record HasRun {R : Type 0} (find : R → Entries) (rules : RuleSet) (style : RowStyle) (f : RunFile) (from stop : ℕ) (old new : Evaluator R) : Type 0 where
   pub within : from ≤ stop
   pub marks : marks_in new ≡ marks_in old
-  pub just : AreJust (find old.store.recall) (find new.store.recall) (IsStillWorkIn rules f (marks_in old) from stop)
+  pub just : AreJust (find old.store.recall) (find new.store.recall) (IsStillWorkIn rules style f (marks_in old) from stop)
   pub raised : AreRaised old.store.counts new.store.counts
   pub lost : new.store.counts.lost ≡ old.store.counts.lost
 
 -- what a run leaves behind, by what it answers: the rows up to the one that ended it were worked out
-abbrev pub HasEnded : {R : Type 0} → (R → Entries) → RuleSet → RunFile → ℕ → Evaluator R → Evaluator R → Result RunEnd (RunFault EvalFault) → Type 0
-HasEnded find rules f from old new (Ok end.End) = HasRun find rules f from (positions f) old new
-HasEnded find rules f from old new (Ok (end.More position)) = HasRun find rules f from position old new
-HasEnded find rules f from old new (Err fault.BadPosition) = new ≡ old
-HasEnded find rules f from old new (Err (fault.Eval position x)) = HasRun find rules f from (position + 1) old new
-HasEnded find rules f from old new (Err (fault.Write position)) = HasRun find rules f from (position + 1) old new
-HasEnded find rules f from old new (Err (fault.Memory position)) = IsRefused find old new
+abbrev pub HasEnded : {R : Type 0} → (R → Entries) → RuleSet → RowStyle → RunFile → ℕ → Evaluator R → Evaluator R → Result RunEnd (RunFault EvalFault) → Type 0
+HasEnded find rules style f from old new (Ok end.End) = HasRun find rules style f from (positions f) old new
+HasEnded find rules style f from old new (Ok (end.More position)) = HasRun find rules style f from position old new
+HasEnded find rules style f from old new (Err fault.BadPosition) = new ≡ old
+HasEnded find rules style f from old new (Err (fault.Eval position x)) = HasRun find rules style f from (position + 1) old new
+HasEnded find rules style f from old new (Err (fault.Write position)) = HasRun find rules style f from (position + 1) old new
+HasEnded find rules style f from old new (Err (fault.Memory position)) = IsRefused find old new
 
 -- Counts of a whole run
 
@@ -112,9 +113,9 @@ abbrev pub marks_of_run : RuleSet → RunFile → Key → ℕ
 marks_of_run rules f = marks_of (wheels_of (length rules.tables.variables) (slots_of rules.tables f))
 
 -- As many different keys as `free` says are of the work at these positions and read no wheel there, as far as the count goes, and no value was lost.
-pub record AreCounts (rules : RuleSet) (f : RunFile) (from stop : ℕ) (counts : Counts) : Type 0 where
+pub record AreCounts (rules : RuleSet) (style : RowStyle) (f : RunFile) (from stop : ℕ) (counts : Counts) : Type 0 where
   pub keys : List Key
   pub different : AreDifferent keys
-  pub exact : (k : Key) → In k keys ↔ IsStillWorkIn rules f (marks_of_run rules f) from stop k
+  pub exact : (k : Key) → In k keys ↔ IsStillWorkIn rules style f (marks_of_run rules f) from stop k
   pub free : counts.free ≡ raised 0 (length keys)
   pub lost : counts.lost ≡ 0

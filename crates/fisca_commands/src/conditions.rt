@@ -79,6 +79,7 @@ pub fn meets(condition: &Condition, value: Value) -> bool
 /// Whether all conditions hold. They are worked out in order, each once, up to the first that does not hold.
 ///
 /// `Eval` where the key of one that is worked out has no value: its fault. `Memory` only where memory was refused. This project's own rule.
+#[inline(always)]
 pub fn all_met<A: Answers>(
     answers: &mut A,
     conditions: &[Condition],

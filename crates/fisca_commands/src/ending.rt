@@ -1,12 +1,15 @@
 //! How a command ends.
 
-ghost use Rattle.std.specs.Prelude.{◌≡◌, option_map};
-ghost use Rattle.fisca_commands.specs.Ending.{done, judged, told_of, IsTold};
+ghost use Rattle.std.specs.Prelude.{◌≡◌, None, option_map, IfOk, string_bytes};
+ghost use Rattle.fisca_commands.specs.CalcLines.{IsUnreadTold, unread_text};
+ghost use Rattle.fisca_commands.specs.Ending.{done, judged, run_done, run_status, told_of, IsEndTold, IsTold};
+ghost use Rattle.fisca_commands.specs.LastLine.{end_text};
 
+use fisca_folder::write_shown;
 use fisca_rule_files::Refusal;
 use fisca_test_file::Verdict;
-use fisca_writer::RunFault;
-use std::alloc::Global;
+use fisca_writer::{RunEnd, RunFault};
+use std::alloc::{AllocError, Global};
 use std::borrow::CowStr;
 use std::marker::Model;
 
@@ -35,6 +38,50 @@ impl Ending {
         Ending {
             status: 0,
             told: None,
+        }
+    }
+
+    /// The ending of a run that wrote its last line: 4 where a word stands in the place of a value, else 0.
+    pub fn run(lacks: bool) -> Self
+        ensures { result ≡ run_done lacks }
+    {
+        Ending {
+            status: run_status(lacks),
+            told: None,
+        }
+    }
+
+    /// The ending of a run whose lines are a table: its last line is told, or that there is no memory for it.
+    pub fn ended(alloc: Global, end: RunEnd, lacks: bool) -> Self
+        ensures { IsEndTold end lacks result }
+    {
+        match end_line(alloc, end) {
+            Ok(line) => Ending {
+                status: run_status(lacks),
+                told: Some(CowStr::Owned(line)),
+            },
+            Err(_) => Ending::told(6, "fisca: out of memory"),
+        }
+    }
+
+    /// The ending with this status, of which nothing more is told.
+    pub(crate) fn of_status(status: u8) -> Self
+        ensures { result ≡ record { status = status; told = None } }
+    {
+        Ending { status, told: None }
+    }
+
+    /// The ending of a command whose own file, at this path, cannot be read further: the status 5 and the line of a file that cannot be read, or those
+    /// for want of memory.
+    pub(crate) fn unread(alloc: Global, path: &str) -> Self
+        ensures { IsUnreadTold path.now result }
+    {
+        match unread_line(alloc, path) {
+            Ok(line) => Ending {
+                status: 5,
+                told: Some(CowStr::Owned(line)),
+            },
+            Err(_) => Ending::told(6, "fisca: out of memory"),
         }
     }
 
@@ -92,4 +139,35 @@ impl Ending {
             None => None,
         }
     }
+}
+
+/// The status of a run that nothing stopped.
+fn run_status(lacks: bool) -> u8
+    ensures { result ≡ run_status lacks }
+{
+    if lacks { 4 } else { 0 }
+}
+
+/// The last line of a run, without its line feed.
+fn end_line(alloc: Global, end: RunEnd) -> Result<String, AllocError>
+    ensures { IfOk result (λ line. string_bytes line ≡ end_text end) }
+{
+    match end {
+        RunEnd::End => String::from_str(alloc, "end"),
+        RunEnd::More(position) => {
+            let mut line = String::from_str(alloc, "more ")?;
+            line.push_str(itoa::Buffer::new().format(position))?;
+            Ok(line)
+        }
+    }
+}
+
+/// `fisca: PATH: cannot read`.
+fn unread_line(alloc: Global, path: &str) -> Result<String, AllocError>
+    ensures { IfOk result (λ line. string_bytes line ≡ unread_text path.now) }
+{
+    let mut line = String::from_str(alloc, "fisca: ")?;
+    write_shown(path, &mut line)?;
+    line.push_str(": cannot read")?;
+    Ok(line)
 }

@@ -2,14 +2,17 @@
 
 ghost use Rattle.std.specs.Prelude.{◌≡◌, ◌==◌, ◌&&◌, is_ok, map, option_map, string_bytes};
 ghost use Rattle.fisca_writer.specs.Sink.{CountsFailure};
-ghost use Rattle.fisca_commands.specs.Ending.{IsAnswered, IsAxesEnding, IsCalcEnding, IsCheckEnding, IsGridEnding, IsJudged, IsRunEnding, IsTaskEnding, IsTestEnding};
+ghost use Rattle.fisca_commands.specs.Ending.{IsAnswered, IsAxesEnding, IsCalcEnding, IsCheckEnding, IsGridEnding, IsJudged, IsRunEnding, IsSizeEnding, IsTaskEnding, IsTestEnding};
 ghost use Rattle.fisca_commands.specs.Ends.{end_of};
+ghost use Rattle.fisca_commands.specs.Forms.{is_table};
 
 use super::axes::axes_words;
 use super::calc::calc_rules;
 use super::ending::Ending;
 use super::last_line::write_end;
+use super::options::{RunOptions, TableForm};
 use super::run::run_rules;
+use super::size::size_rules;
 use super::test::test_rules;
 use fisca_evaluator::Counts;
 use fisca_params::SourceFile;
@@ -29,6 +32,7 @@ pub enum Task<'a> {
     Calc {
         rules: &'a str,
         file: &'a str,
+        form: TableForm,
     },
     /// `test`: work out the tests of a file under the rule files of a folder.
     Test {
@@ -39,15 +43,18 @@ pub enum Task<'a> {
     Run {
         rules: &'a str,
         file: &'a str,
-        from: u64,
-        rows: Option<u64>,
+        options: RunOptions,
+    },
+    /// `size`: write the number of positions of a run file under the rule files of a folder.
+    Size {
+        rules: &'a str,
+        file: &'a str,
     },
     /// `axes`: list the values of axes.
     Axes {
         words: Vec<String>,
         keep: Option<&'a str>,
-        from: u64,
-        rows: Option<u64>,
+        options: RunOptions,
     },
 }
 
@@ -59,8 +66,11 @@ pub enum Task<'a> {
 /// - `calc`: what [`calc_rules`] writes of the files and the text. A refusal of the text is told with the path of its file.
 /// - `test`: what [`test_rules`] writes of the files and the text; the status is 1 where a test failed. A refusal of the text is told with the path
 ///   of its file.
-/// - `run`: the lines of [`run_rules`], and after a run that nothing stopped its last line, as by [`write_end`]. A refusal of the text is told with
+/// - `run`: the lines of [`run_rules`], and after a run that nothing stopped its last line, as by [`write_end`]; where the lines are a table, by
+///   their first line or their form, the last line is told on standard error. The status is 4 where the run
+///   was to keep going and a word stands in the place of a value. A refusal of the text is told with
 ///   the path of its file.
+/// - `size`: what [`size_rules`] writes of the files and the text. A refusal of the text is told with the path of its file.
 /// - `axes`: the lines of [`axes_words`], and after a run that nothing stopped its last line, as by [`write_end`].
 ///
 /// A refusal ends with its own status and line, and one whose line finds no memory with those for want of memory, but a
@@ -77,20 +87,23 @@ pub fn run_task<S: RowSink>(
 {
     match task {
         Task::Check { rules: _ } => run_check(alloc, files, sink),
-        Task::Calc { rules: _, file } => run_calc(alloc, files, file, text, sink),
+        Task::Calc {
+            rules: _,
+            file,
+            form,
+        } => run_calc(alloc, files, file, text, *form, sink),
         Task::Test { rules: _, file } => run_test(alloc, files, file, text, sink),
         Task::Run {
             rules: _,
             file,
-            from,
-            rows,
-        } => run_file(alloc, files, file, text, *from, *rows, sink),
+            options,
+        } => run_file(alloc, files, file, text, options, sink),
+        Task::Size { rules: _, file } => run_size(alloc, files, file, text, sink),
         Task::Axes {
             words,
             keep,
-            from,
-            rows,
-        } => run_axes(alloc, words.as_slice(), *keep, *from, *rows, sink),
+            options,
+        } => run_axes(alloc, words.as_slice(), *keep, options, sink),
     }
 }
 
@@ -109,12 +122,13 @@ fn run_calc<S: RowSink>(
     files: &[SourceFile],
     path: &str,
     text: &str,
+    form: TableForm,
     sink: &mut S,
 ) -> Ending
-    ensures ending { IsCalcEnding files.now path.now text.now (S.taken sink.old) (S.taken sink.new) result }
+    ensures ending { IsCalcEnding files.now path.now text.now form (S.taken sink.old) (S.taken sink.new) result }
     ensures failures { CountsFailure (result.status == 5) (S.failures sink.old) (S.failures sink.new) }
 {
-    let answer = calc_rules(alloc, files, text, sink);
+    let answer = calc_rules(alloc, files, text, form, sink);
     ending_of(alloc, answer, path)
 }
 
@@ -159,15 +173,31 @@ fn run_file<S: RowSink>(
     files: &[SourceFile],
     path: &str,
     text: &str,
-    from: u64,
-    rows: Option<u64>,
+    options: &RunOptions,
     sink: &mut S,
 ) -> Ending
-    ensures ending { IsGridEnding files.now path.now text.now from rows (S.taken sink.old) (S.taken sink.new) result }
+    ensures ending { IsGridEnding files.now path.now text.now options.now (S.taken sink.old) (S.taken sink.new) result }
     ensures failures { CountsFailure (result.status == 5) (S.failures sink.old) (S.failures sink.new) }
 {
-    let answer = run_rules(alloc, files, text, from, rows, sink);
-    end_run(alloc, without_counts(answer), path, sink)
+    let mut lacks = false;
+    let answer = run_rules(alloc, files, text, options, &mut lacks, sink);
+    let (end, form) = (without_counts(answer), options.form);
+    end_run(alloc, end, lacks, path, form, sink)
+}
+
+/// Tells the number of positions of a run file of this path and this text, and answers how that ended.
+fn run_size<S: RowSink>(
+    alloc: Global,
+    files: &[SourceFile],
+    path: &str,
+    text: &str,
+    sink: &mut S,
+) -> Ending
+    ensures ending { IsSizeEnding files.now path.now text.now (S.taken sink.old) (S.taken sink.new) result }
+    ensures failures { CountsFailure (result.status == 5) (S.failures sink.old) (S.failures sink.new) }
+{
+    let answer = size_rules(alloc, files, text, sink);
+    ending_of(alloc, answer, path)
 }
 
 /// How a run ends, without its counts.
@@ -185,30 +215,35 @@ fn run_axes<S: RowSink>(
     alloc: Global,
     words: &[String],
     keep: Option<&str>,
-    from: u64,
-    rows: Option<u64>,
+    options: &RunOptions,
     sink: &mut S,
 ) -> Ending
-    ensures ending { IsAxesEnding (map (λ word. string_bytes word) words.now) (option_map (λ text. text.now) keep.entry) from rows (S.taken sink.old) (S.taken sink.new) result }
+    ensures ending { IsAxesEnding (map (λ word. string_bytes word) words.now) (option_map (λ text. text.now) keep.entry) options.now (S.taken sink.old) (S.taken sink.new) result }
     ensures failures { CountsFailure (result.status == 5) (S.failures sink.old) (S.failures sink.new) }
 {
-    let answer = axes_words(alloc, words, keep, from, rows, sink);
-    end_run(alloc, answer, "", sink)
+    let answer = axes_words(alloc, words, keep, options, sink);
+    let form = options.form;
+    end_run(alloc, answer, false, "", form, sink)
 }
 
-/// Writes the last line of a run that nothing stopped, and answers how the run ended. `path` names the command's own file, if it has one.
+/// Writes the last line of a run that nothing stopped, or tells it behind a table, and answers how the run ended; the status says whether a word
+/// stands in the place of a value. `path` names the command's own
+/// file, if it has one.
 fn end_run<S: RowSink>(
     alloc: Global,
     answer: Result<RunEnd, Refusal>,
+    lacks: bool,
     path: &str,
+    form: TableForm,
     sink: &mut S,
 ) -> Ending
-    ensures ending { IsRunEnding path.now answer (S.taken sink.old) (S.taken sink.new) result }
+    ensures ending { IsRunEnding path.now lacks (is_table form) answer (S.taken sink.old) (S.taken sink.new) result }
     ensures failures { CountsFailure (is_ok answer && (result.status == 5)) (S.failures sink.old) (S.failures sink.new) }
 {
     match answer {
+        Ok(end) if form.is_table() => Ending::ended(alloc, end, lacks),
         Ok(end) => match write_end(end, sink) {
-            Ok(()) => Ending::done(),
+            Ok(()) => Ending::run(lacks),
             Err(_) => Ending::refused(alloc, &Refusal::Write, path),
         },
         Err(refusal) => Ending::refused(alloc, &refusal, path),

@@ -5,6 +5,7 @@ pub mod Kept
 pub mod Described
 pub mod Values
 pub mod Rest
+pub mod Formed
 pub mod Orders
 pub mod Tuples
 mod Prefixes

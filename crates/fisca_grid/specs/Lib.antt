@@ -1,4 +1,5 @@
 pub mod Axes
+pub mod FormedRow
 pub mod Grid
 pub mod Steps
 pub mod Turning

@@ -8,6 +8,7 @@ use Rattle.fisca_num.specs.Number.{Number}
 use Rattle.fisca_num.specs.Literal.{number_of_literal}
 use Rattle.fisca_grid.specs.declared.axes.AxisSpec.{AxisSpec}
 use Rattle.fisca_grid.specs.Steps.Words.{is_identifier, around_first, around_last}
+use Rattle.fisca_writer.specs.Parts.{part_in}
 
 -- the number that decimal digits say, where there is at least one and the number is below 2^64
 abbrev pub count_of : List ℕ → Option ℕ
@@ -33,3 +34,7 @@ spec_of text = option_and_then (λ parts. option_and_then (λ bounds. option_map
 -- the name and the axis that a word `NAME=MIN..MAX/COUNT` says
 abbrev pub axis_of : List ℕ → Option (List ℕ × AxisSpec)
 axis_of word = option_and_then (λ parts. option_and_then (λ spec. if is_identifier parts.0 then Some (parts.0, spec) else None) (spec_of parts.1)) (around_first (codes "=") word)
+
+-- the number of a part and the count of parts that `I/N` says
+abbrev pub part_of : List ℕ → Option (ℕ × ℕ)
+part_of word = option_and_then (λ parts. option_and_then (λ number. option_and_then (λ count. part_in number count) (count_of parts.1)) (count_of parts.0)) (around_first (codes "/") word)

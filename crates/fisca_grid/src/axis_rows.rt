@@ -7,7 +7,9 @@ ghost use Rattle.fisca_grid.specs.Grid.{size_of, axes_in, axes_at};
 ghost use Rattle.fisca_grid.specs.AxesRow.{values_of, cells, tab, line_of, IsMetBy, IsInside, rest_of};
 
 use super::condition::Filter;
+use super::formed_rows::FormedAxisRows;
 use super::grid::Axes;
+use fisca_forms::LineForm;
 use fisca_num::Fraction;
 use fisca_writer::{GroupLengths, RowFault, Rows, Selection};
 use std::alloc::{AllocError, Global};
@@ -85,6 +87,22 @@ impl AxisRows {
             rest: String::new(alloc),
             is_known: false,
         }
+    }
+
+    /// The same rows in a form of lines.
+    pub fn in_form(self, alloc: Global, form: LineForm) -> FormedAxisRows
+        ensures axes { result.axes ≡ self.axes }
+        ensures keep { result.keep ≡ self.keep }
+        ensures form { result.form ≡ form }
+    {
+        let AxisRows {
+            axes,
+            keep,
+            here: _,
+            rest: _,
+            is_known: _,
+        } = self;
+        FormedAxisRows::new(alloc, axes, keep, form)
     }
 
     /// Whether the value of the condition's axis meets it at a position, if there is one. The value is not worked out for that.

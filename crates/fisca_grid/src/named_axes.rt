@@ -1,6 +1,6 @@
 //! The axes that words describe, and their names.
 
-ghost use Rattle.std.specs.Prelude.{◌≡◌, map, option_map, IfOk, string_bytes};
+ghost use Rattle.std.specs.Prelude.{◌≡◌, ◌++◌, map, option_map, IfOk, string_bytes};
 ghost use Rattle.std.specs.List.{list_any};
 ghost use Rattle.std.specs.Str.{bytes_eq};
 ghost use Rattle.fisca_grid.specs.NamedAxes.{specs_of, filter_from};
@@ -34,6 +34,21 @@ pub fn read_axes(alloc: Global, words: &[String]) -> Result<Option<Vec<AxisSpec>
         }
     }
     Ok(Some(specs))
+}
+
+/// Names, and behind them those of the axes that the words describe. Memory is its only error.
+pub fn axis_names(
+    alloc: Global,
+    names: Vec<String>,
+    words: &[String],
+) -> Result<Vec<String>, AllocError>
+    ensures { IfOk result (λ all. map (λ name. string_bytes name) all.items ≡ map (λ name. string_bytes name) names.items ++ map name_of (map (λ word. string_bytes word) words.now)) }
+{
+    let mut all = names;
+    for word in words {
+        all.push(String::from_str(alloc, name_of(word.as_str()))?)?;
+    }
+    Ok(all)
 }
 
 /// The lengths of groups, where each axis is a group of its own.

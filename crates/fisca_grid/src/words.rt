@@ -3,11 +3,12 @@
 ghost use Rattle.std.specs.Prelude.{◌≡◌, ℕ, ◌<◌, MatchOption, Some, None, length, option_map};
 ghost use Rattle.std.specs.List.{list_all};
 ghost use Rattle.std.specs.Char.{is_ascii_digit};
-ghost use Rattle.fisca_grid.specs.Words.{count_of, bounds_of, spec_of, axis_of};
+ghost use Rattle.fisca_grid.specs.Words.{count_of, bounds_of, spec_of, axis_of, part_of};
 ghost use Rattle.fisca_grid.specs.Steps.Words.{around_first, around_last, is_word_byte, is_identifier};
 
 use super::axes::AxisSpec;
 use fisca_num::Fraction;
+use fisca_writer::Part;
 
 /// Whether the text is an ASCII identifier: letters, digits and `_`, of which the first is no digit.
 fn is_identifier(text: &str) -> bool
@@ -94,4 +95,15 @@ pub fn read_axis(word: &str) -> Option<(&str, AxisSpec)>
     } else {
         None
     }
+}
+
+/// The part of a grid that a word `I/N` says: I and N are decimal digits, I from 1 to N and N at most 1,000,000. `None` where the word has not
+/// this form. This project's own rule.
+pub fn read_part(word: &str) -> Option<Part>
+    ensures { option_map (λ part. (part.number, part.count)) result ≡ part_of word.now }
+{
+    let (number, count) = around_first(word, "/")?;
+    let number = read_count(number)?;
+    let count = read_count(count)?;
+    Part::new(number, count)
 }

@@ -1,2 +1,4 @@
+pub mod Alike
 pub mod Axes
 pub mod Eternal
+pub mod Members

@@ -1,9 +1,17 @@
-//! What the public calls of situations promise together: laws over the definitions that their contracts cite, each as the contract of a function that does nothing.
+//! What public calls promise together, those of the commands and those of situations: laws over the definitions that their contracts cite, each as the contract of a function that does nothing.
 #![tactic(auto)]
 
+mod answer_laws;
 mod axis_laws;
 mod eternal_laws;
+mod member_laws;
+mod position_laws;
 
+pub use answer_laws::{
+    accepted_calculations_are_told, accepted_lines_are_told, accepted_runs_are_told,
+    accepted_sizes_are_told, accepted_tests_are_told, rule_sets_give_the_same_rows,
+    rule_sets_read_files_alike, texts_determine_lines_and_reports, texts_determine_runs,
+};
 pub use axis_laws::{
     axes_are_put_in, inputs_are_given, slots_have_numbers, turning_shares_anew,
     with_axes_inputs_fit,
@@ -12,3 +20,5 @@ pub use eternal_laws::{
     eternal_inputs_never_overlap, eternal_inputs_stand_at_each_period,
     eternal_inputs_stand_when_shared_anew,
 };
+pub use member_laws::{members_asked_for_are_there, persons_have_groups};
+pub use position_laws::values_at_positions_are_never_stuck;

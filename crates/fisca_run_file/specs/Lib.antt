@@ -3,6 +3,7 @@ pub mod Groups
 pub mod Keys
 pub mod Marks
 pub mod Moved
+pub mod Named
 pub mod Positions
 pub mod RunFiles
 pub mod SaidAxes

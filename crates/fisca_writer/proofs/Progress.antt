@@ -1,21 +1,24 @@
 -- A run on its way: what is written, and what is left.
 use Rattle.std.specs.Option.{option_eq}
-use Rattle.std.proofs.Common.{length-append, Bool, nat_eq, ◌≡◌, ℕ, zero, suc, ◌+◌, ◌-◌, ◌<◌, ◌≤◌, true, false, List, [], ◌∷◌, ◌++◌, Option, Some, None, Ok, Err, take, refl, sym, ap, ◌∙◌, arith, nat_lt, cond, option_map, subst, append_assoc, Contains}
+use Rattle.std.proofs.Common.{length-append, Bool, nat_eq, ◌≡◌, ℕ, zero, suc, ◌+◌, ◌-◌, ◌<◌, ◌≤◌, true, false, List, [], ◌∷◌, ◌++◌, Option, Some, None, Ok, Err, take, refl, sym, ap, ◌∙◌, arith, nat_lt, cond, option_map, subst, append_assoc, Contains, max, ⊎_elim}
 use Rattle.std.specs.List.{filter_map, range_with_len, cons_option}
 use Rattle.std.specs.Io.KnownBytes.{Appends, Keeps}
+use Rattle.std.proofs.lemmas.Bool.{cases_lt}
 use Rattle.std.proofs.lemmas.Bool.Decides.{nat_tests}
 use Rattle.std.proofs.lemmas.List.{append-nil}
 use Rattle.std.proofs.lemmas.List.Elements.{filter-append, Contains-append_right}
 use Rattle.fisca_writer.specs.Row.{Row, Nothing, Line, Fault, text_of}
-use Rattle.fisca_writer.specs.Lines.{line_at, lines, FaultAt, run_end}
+use Rattle.fisca_writer.specs.Lines.{line_at, lines, End, AtEnd, MoreFrom, FaultAt, continued_from, run_end}
 use Rattle.fisca_writer.specs.Run.{texts, IsProperPrefix, IsBrokenOff, IsRun, IsRowWritten}
-use Rattle.fisca_writer.specs.Continued.{lines_before, limit_after, IsResumable}
+use Rattle.fisca_writer.specs.Continued.{lines_before, rows_after, IsResumable}
+use Rattle.fisca_writer.specs.Ranges.{end_within, range_end, range_lines, stop_of}
+use Rattle.fisca_writer.specs.declared.limit.Limit.{Limit}
 use Rattle.fisca_writer.specs.declared.rows.Selection.{Selection}
 use Rattle.fisca_writer.specs.declared.rows.Selection.TheVariants.{Kept, Dropped}
 use Rattle.fisca_writer.specs.declared.fault.RunFault.{RunFault}
 use Rattle.fisca_writer.specs.declared.fault.RunFault.TheVariants as fault
 use Rattle.fisca_writer.proofs.Grown.{trans, grown_then_kept}
-use Rattle.fisca_writer.proofs.Walk.{one_less, lines-dropped, lines-kept, lines-fault, run_end-dropped, run_end-kept, run_end-fault}
+use Rattle.fisca_writer.proofs.Walk.{one_less, lines-dropped, lines-kept, lines-fault, lines-over, run_end-dropped, run_end-kept, run_end-fault, run_end-past, run_end-stopped}
 
 -- all lines stand before the position, or none does
 abbrev pub IsBelow : ℕ → List (ℕ × List ℕ) → Type 0
@@ -82,7 +85,7 @@ pub record IsWritten {F : Type 0} (row : ℕ → Row F) (size from : ℕ) (limit
   pub below : IsBelow position done
   pub split : lines row size from limit ≡ done ++ lines row size position left
   pub ends : run_end row size from limit ≡ run_end row size position left
-  pub rest : left ≡ limit_after done limit
+  pub rest : left ≡ rows_after done limit
   pub written : Appends old new (texts done)
 
 -- what a limit leaves after a row
@@ -100,11 +103,11 @@ one_less-is None some = refl
 one_less-is (Some zero) some = absurd (some refl)
 one_less-is (Some (suc before)) some = ap Some (omega arith)
 
-none_done : (limit : Option ℕ) → limit ≡ limit_after [] limit
+none_done : (limit : Option ℕ) → limit ≡ rows_after [] limit
 none_done None = refl
 none_done (Some limit) = ap Some (omega arith)
 
-one_done : (limit left : Option ℕ) (before : List (ℕ × List ℕ)) (line : ℕ × List ℕ) → ¬ (left ≡ Some 0) → left ≡ limit_after before limit → one_less left ≡ limit_after (before ++ line ∷ []) limit
+one_done : (limit left : Option ℕ) (before : List (ℕ × List ℕ)) (line : ℕ × List ℕ) → ¬ (left ≡ Some 0) → left ≡ rows_after before limit → one_less left ≡ rows_after (before ++ line ∷ []) limit
 one_done None left before line some is = ap one_less is
 one_done (Some limit) left before line some is =
     one_less-is left some ∙ (ap (option_map (λ lines. lines - 1)) is ∙ ap Some (omega (arith, length-append before (line ∷ []))))
@@ -164,33 +167,79 @@ module _ {F : Type 0} (row : ℕ → Row F) (size from : ℕ) (limit : Option �
         written = subst (λ (xs : List (ℕ × List ℕ)). Appends old after (texts xs ++ part)) (sym (before_here w)) (trans old new after (texts w.done) part w.written more);
       }
 
-  stopped_by_memory : IsWritten row size from limit old new position left → from ≤ position → position < size → ¬ (left ≡ Some 0) → IsResumable row size from limit (lines_before position (lines row size from limit)) position × Appends old new (texts (lines_before position (lines row size from limit)))
-  stopped_by_memory w above within some =
-      let come : IsResumable row size from limit w.done position = record {
-        lines_follow = w.split ∙ ap (λ left. w.done ++ lines row size position left) w.rest;
-        same_end = w.ends ∙ ap (run_end row size position) w.rest;
-        behind = above;
-        within = within;
-        unlimited = λ e. some (w.rest ∙ e);
-      } in
-      subst (λ (before : List (ℕ × List ℕ)). IsResumable row size from limit before position × Appends old new (texts before)) (sym (before_here w)) (come, w.written)
-
   -- the row at the position is written, or there is none
   pub past_row : (after : Option (List ℕ)) (selection : Selection) → IsWritten row size from limit old new position left → position < size → ¬ (left ≡ Some 0) → IsRowWritten (row position) position new after (Ok selection) → IsWritten row size from limit old after (position + 1) (left_after selection left)
   past_row after Kept w within some is = past_kept after is.0 w within some is.1 is.2
   past_row after Dropped w within some is = past_dropped after w within some is.0 is.1
 
+-- A run that a limit may end
+module _ {F : Type 0} (row : ℕ → Row F) (size from : ℕ) (limit : Limit) (old new : Option (List ℕ)) (position : ℕ) (left : Option ℕ)
+    (w : IsWritten row (stop_of size limit) from limit.rows old new position left) (above : from ≤ position) where
+  stopped_by_memory : position < stop_of size limit → ¬ (left ≡ Some 0)
+      → IsResumable row size from limit (lines_before position (range_lines row size from limit)) position × Appends old new (texts (lines_before position (range_lines row size from limit)))
+  stopped_by_memory within some =
+      let rest : max from (stop_of size limit) ≡ max position (stop_of size limit) = omega arith in
+      let come : IsResumable row size from limit w.done position = record {
+        lines_follow = w.split ∙ ap (λ left. w.done ++ lines row (stop_of size limit) position left) w.rest;
+        same_end = ap (λ p. end_within size p (run_end row (stop_of size limit) from limit.rows)) rest
+            ∙ ap (end_within size (max position (stop_of size limit))) (w.ends ∙ ap (run_end row (stop_of size limit) position) w.rest);
+        behind = above;
+        within = within;
+        unlimited = λ e. some (w.rest ∙ e);
+      } in
+      subst (λ (before : List (ℕ × List ℕ)). IsResumable row size from limit before position × Appends old new (texts before))
+      (sym (before_here row (stop_of size limit) from limit.rows old new position left w)) (come, w.written)
+
   -- the row at the position stops the run
-  pub stopped_at_row : (after : Option (List ℕ)) (stop : RunFault F) → IsWritten row size from limit old new position left → from ≤ position → position < size → ¬ (left ≡ Some 0) → IsRowWritten (row position) position new after (Err stop) → IsRun row size from limit old after (Err stop)
-  stopped_at_row after fault.BadPosition w above within some is = absurd is
-  stopped_at_row after (fault.Eval there x) w above within some is =
-      let end = stopped_at_fault x w within some is.1 in
-      (end.0 ∙ ap (λ p. FaultAt p x) (sym is.0), grown_then_kept old new after _ end.1 is.2)
-  stopped_at_row after (fault.Write there) w above within some is =
-      subst (λ (p : ℕ). IsBrokenOff p (lines row size from limit) old after) (sym is.0) (stopped_in_line after is.1.0 is.1.1 w within some is.1.2 is.1.3 is.1.4)
-  stopped_at_row after (fault.Memory there) w above within some is =
-      let stop = stopped_by_memory w above within some in
-      subst (λ (p : ℕ). IsResumable row size from limit (lines_before p (lines row size from limit)) p × Appends old after (texts (lines_before p (lines row size from limit)))) (sym is.0) (stop.0, grown_then_kept old new after _ stop.1 is.1)
+  pub stopped_at_row : (after : Option (List ℕ)) (stop : RunFault F) → stop_of size limit ≤ size → position < stop_of size limit → ¬ (left ≡ Some 0) → IsRowWritten (row position) position new after (Err stop) → IsRun row size from limit old after (Err stop)
+  stopped_at_row after fault.BadPosition room within some is = absurd is
+  stopped_at_row after (fault.Eval there x) room within some is =
+      let end = stopped_at_fault row (stop_of size limit) from limit.rows old new position left x w within some is.1 in
+      ((omega (arith, above), room), ap (end_within size (max from (stop_of size limit))) (end.0 ∙ ap (λ p. FaultAt p x) (sym is.0)), grown_then_kept old new after _ end.1 is.2)
+  stopped_at_row after (fault.Write there) room within some is =
+      subst (λ (p : ℕ). IsBrokenOff p (range_lines row size from limit) old after) (sym is.0)
+      (stopped_in_line row (stop_of size limit) from limit.rows old new position left after is.1.0 is.1.1 w within some is.1.2 is.1.3 is.1.4)
+  stopped_at_row after (fault.Memory there) room within some is =
+      let stop = stopped_by_memory within some in
+      subst (λ (p : ℕ). IsResumable row size from limit (lines_before p (range_lines row size from limit)) p × Appends old after (texts (lines_before p (range_lines row size from limit)))) (sym is.0) (stop.0, grown_then_kept old new after _ stop.1 is.1)
+
+  -- what an end tells of a run, and what is written then
+  abbrev HasEnd : End F → Type 0
+  HasEnd end = (range_end row size from limit ≡ end) × Appends old new (texts (range_lines row size from limit))
+
+  -- no position of the range is left
+  past_stop : stop_of size limit ≤ position → position ≤ max from (stop_of size limit) → HasEnd (continued_from size position)
+  past_stop over low =
+      let here : max from (stop_of size limit) ≡ position = omega (arith, above) in
+      let end = w.ends ∙ run_end-past row (stop_of size limit) position left over in (
+        ap (end_within size (max from (stop_of size limit))) end ∙ ap (continued_from size) here,
+        all_written row (stop_of size limit) from limit.rows old new position left w (lines-over row (stop_of size limit) position left over),
+      )
+
+  -- the limit of lines is reached, and a position of the range is left
+  no_more : position < stop_of size limit → left ≡ Some 0 → HasEnd (MoreFrom position)
+  no_more within none =
+      let end : run_end row (stop_of size limit) position left ≡ MoreFrom position = ap (run_end row (stop_of size limit) position) none ∙ run_end-stopped row (stop_of size limit) position within in (
+        ap (end_within size (max from (stop_of size limit))) (w.ends ∙ end),
+        all_written row (stop_of size limit) from limit.rows old new position left w (ap (lines row (stop_of size limit) position) none),
+      )
+
+  -- a position is left that the limit leaves out
+  pub left_out : position < size → stop_of size limit ≤ position → position ≤ max from (stop_of size limit) → HasEnd (MoreFrom position)
+  left_out within over low =
+      let go : nat_lt position size ≡ true = grind (arith, nat_tests) in
+      let end = past_stop over low in
+      (end.0 ∙ ap (λ b. cond b (MoreFrom position) AtEnd) go, end.1)
+
+  pub limit_reached : position < size → position ≤ max from (stop_of size limit) → left ≡ Some 0 → HasEnd (MoreFrom position)
+  limit_reached within low none = ⊎_elim (λ (inside : position < stop_of size limit). no_more inside none) (λ (over : stop_of size limit ≤ position). left_out within over low) (cases_lt position (stop_of size limit))
+
+  -- no position is left
+  pub at_end : size ≤ position → stop_of size limit ≤ size → position ≤ max from (stop_of size limit) → HasEnd AtEnd
+  at_end over room low =
+      let none : nat_lt position size ≡ false = grind (arith, nat_tests) in
+      let end = past_stop (omega arith) low in
+      (end.0 ∙ ap (λ b. cond b (MoreFrom position) AtEnd) none, end.1)
 
 -- the answer of a test for `Some 0` was no
 pub some_left : (left : Option ℕ) (test : Bool) → test ≡ option_eq nat_eq left (Some 0) → test ≡ false → ¬ (left ≡ Some 0)

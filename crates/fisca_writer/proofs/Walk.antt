@@ -191,17 +191,17 @@ end_fault size from end (Some (suc before)) some = refl
 pub run_end-fault : {F : Type 0} (row : ℕ → Row F) (size from : ℕ) (limit : Option ℕ) (x : F) → from < size → ¬ (limit ≡ Some 0) → row from ≡ Fault x → run_end row size from limit ≡ FaultAt from x
 run_end-fault row size from limit x within some is = limited_step row size from limit (Fault x) within is ∙ end_fault size from (FaultAt from x) limit some
 
--- at the size the run is over, whatever the limit
-end_over : {F : Type 0} (size : ℕ) (limit : Option ℕ) → limited_end {F = F} size size [] AtEnd limit ≡ AtEnd
-end_over size None = refl
-end_over size (Some zero) = grind (arith, nat_tests)
-end_over size (Some (suc before)) = refl
+-- from the size on the run is over, whatever the limit
+end_over : {F : Type 0} (size from : ℕ) (limit : Option ℕ) → size ≤ from → limited_end {F = F} size from [] AtEnd limit ≡ AtEnd
+end_over size from None over = refl
+end_over size from (Some zero) over = grind (arith, nat_tests)
+end_over size from (Some (suc before)) over = refl
 
-pub run_end-over : {F : Type 0} (row : ℕ → Row F) (size : ℕ) (limit : Option ℕ) → run_end row size size limit ≡ AtEnd
-run_end-over row size limit =
-    run_end-limited row size size limit
-    ∙ (ap (λ all. limited_end size size all (unlimited_end row size size) limit) (all_lines-over row size size (omega arith))
-    ∙ (ap (λ fault. limited_end size size [] (option_map_or (λ fault. FaultAt fault.0 fault.1) fault AtEnd) limit) (first_fault-over row size size (omega arith)) ∙ end_over size limit))
+pub run_end-past : {F : Type 0} (row : ℕ → Row F) (size from : ℕ) (limit : Option ℕ) → size ≤ from → run_end row size from limit ≡ AtEnd
+run_end-past row size from limit over =
+    run_end-limited row size from limit
+    ∙ (ap (λ all. limited_end size from all (unlimited_end row size from) limit) (all_lines-over row size from over)
+    ∙ (ap (λ fault. limited_end size from [] (option_map_or (λ fault. FaultAt fault.0 fault.1) fault AtEnd) limit) (first_fault-over row size from over) ∙ end_over size from limit over))
 
 -- nothing more is asked for, and a position is there
 pub run_end-stopped : {F : Type 0} (row : ℕ → Row F) (size from : ℕ) → from < size → run_end row size from (Some 0) ≡ MoreFrom from

@@ -2,6 +2,7 @@
 use Rattle.std.proofs.Common.{◌≡◌, ℕ, ◌+◌, ◌*◌, nat_lt, cond, [], ◌∷◌, Some, None, refl}
 use Rattle.fisca_writer.specs.Row.{Row, Nothing, Line, Fault}
 use Rattle.fisca_writer.specs.Lines.{lines, run_end, AtEnd, MoreFrom, FaultAt}
+use Rattle.fisca_writer.specs.Ranges.{before, range_end, range_lines}
 
 -- five positions, whose values are 0, 500, 1000, 1500, 2000; kept from 500 on, with the value as the text
 kept : ℕ → Row ℕ
@@ -78,3 +79,33 @@ limit_before_fault = refl
 fault_at_start : run_end broken 5 3 (Some 4) ≡ FaultAt 3 73
 unfolding broken
 fault_at_start = refl
+
+-- ranges
+to_three : range_lines kept 5 0 (before 3) ≡ (1, 500 ∷ []) ∷ (2, 1000 ∷ []) ∷ []
+unfolding kept
+to_three = refl
+
+more_from_three : range_end kept 5 0 (before 3) ≡ MoreFrom 3
+unfolding kept
+more_from_three = refl
+
+-- a range that ends at the last position ends the run
+to_the_size : range_end full 5 2 (before 5) ≡ AtEnd
+unfolding full
+to_the_size = refl
+
+-- one that ends before its start has no lines, and is continued from its start
+behind_its_end : range_lines full 5 3 (before 2) ≡ []
+behind_its_end = refl
+
+more_from_its_start : range_end full 5 3 (before 2) ≡ MoreFrom 3
+more_from_its_start = refl
+
+-- a range may end before a fault
+before_the_fault : range_end broken 5 0 (before 3) ≡ MoreFrom 3
+unfolding broken
+before_the_fault = refl
+
+at_the_fault : range_end broken 5 0 (before 4) ≡ FaultAt 3 73
+unfolding broken
+at_the_fault = refl

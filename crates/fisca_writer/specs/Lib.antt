@@ -6,5 +6,7 @@ pub mod Continued
 pub mod Fault
 pub mod Came
 pub mod Odometer
+pub mod Parts
+pub mod Ranges
 pub mod Steps
 pub mod Turning

@@ -1,12 +1,14 @@
 -- What a run answers, and what it has written then.
-use Rattle.std.specs.Prelude.{◌≡◌, ℕ, ◌<◌, ◌≤◌, ◌++◌, Bool, true, false, List, take, length, Contains, Option, Result, Ok, Err}
+use Rattle.std.specs.Prelude.{◌≡◌, ℕ, ◌<◌, ◌++◌, Bool, true, false, List, take, length, Contains, Option, Result, Ok, Err}
 use Rattle.std.specs.List.{flat_map}
 use Rattle.std.specs.Io.KnownBytes.{Appends, Keeps}
 use Rattle.fisca_writer.specs.Row.{Row, Nothing, Line, Fault}
 use Rattle.fisca_writer.specs.Continued.{lines_before, IsResumable}
 use Rattle.fisca_writer.specs.declared.rows.Selection.{Selection}
 use Rattle.fisca_writer.specs.declared.rows.Selection.TheVariants.{Kept, Dropped}
-use Rattle.fisca_writer.specs.Lines.{lines, End, AtEnd, MoreFrom, FaultAt, run_end}
+use Rattle.fisca_writer.specs.Lines.{End, AtEnd, MoreFrom, FaultAt}
+use Rattle.fisca_writer.specs.Ranges.{IsBeyond, IsInside, range_end, range_lines}
+use Rattle.fisca_writer.specs.declared.limit.Limit.{Limit}
 use Rattle.fisca_writer.specs.declared.fault.RunEnd.{RunEnd}
 use Rattle.fisca_writer.specs.declared.fault.RunEnd.TheVariants as answer
 use Rattle.fisca_writer.specs.declared.fault.RunFault.{RunFault}
@@ -38,13 +40,14 @@ pub record IsBrokenOff (position : ℕ) (all : List (ℕ × List ℕ)) (old new 
   pub prefix : IsProperPrefix part text
   pub written : Appends old new (texts (lines_before position all) ++ part)
 
--- what a run answers, where a sink held `old` and then holds `new`. It ends only where its start is a position or the size
-abbrev pub IsRun : {F : Type 0} → (ℕ → Row F) → ℕ → ℕ → Option ℕ → Option (List ℕ) → Option (List ℕ) → Result RunEnd (RunFault F) → Type 0
-IsRun row size from limit old new (Ok end) = (from ≤ size) × (run_end row size from limit ≡ told_end end) × Appends old new (texts (lines row size from limit))
-IsRun row size from limit old new (Err fault.BadPosition) = (size < from) × Keeps old new
-IsRun row size from limit old new (Err (fault.Eval position x)) = (run_end row size from limit ≡ FaultAt position x) × Appends old new (texts (lines row size from limit))
-IsRun row size from limit old new (Err (fault.Write position)) = IsBrokenOff position (lines row size from limit) old new
-IsRun row size from limit old new (Err (fault.Memory position)) = let before = lines_before position (lines row size from limit) in
+-- what a run answers, where a sink held `old` and then holds `new`. It ends only where the grid has its start and its stop
+abbrev pub IsRun : {F : Type 0} → (ℕ → Row F) → ℕ → ℕ → Limit → Option (List ℕ) → Option (List ℕ) → Result RunEnd (RunFault F) → Type 0
+IsRun row size from limit old new (Ok end) = IsInside size from limit × (range_end row size from limit ≡ told_end end) × Appends old new (texts (range_lines row size from limit))
+IsRun row size from limit old new (Err fault.BadPosition) = IsBeyond size from limit × Keeps old new
+IsRun row size from limit old new (Err (fault.Eval position x)) =
+    IsInside size from limit × (range_end row size from limit ≡ FaultAt position x) × Appends old new (texts (range_lines row size from limit))
+IsRun row size from limit old new (Err (fault.Write position)) = IsBrokenOff position (range_lines row size from limit) old new
+IsRun row size from limit old new (Err (fault.Memory position)) = let before = lines_before position (range_lines row size from limit) in
     IsResumable row size from limit before position × Appends old new (texts before)
 
 -- the answer is that the sink failed

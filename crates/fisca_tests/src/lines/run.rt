@@ -5,10 +5,16 @@ ghost use Rattle.std.specs.Fmt.{decimal};
 ghost use Rattle.fisca_writer.specs.Row.{Nothing, Line, Fault};
 
 use fisca_writer::{
-    GroupLengths, MemorySink, Odometer, RowFault, RowSink, Rows, RunEnd, RunFault, Selection,
-    SinkFault, StreamSink, write_lines,
+    GroupLengths, Limit, MemorySink, Odometer, RowFault, RowSink, Rows, RunEnd, RunFault,
+    Selection, SinkFault, StreamSink, write_lines,
 };
 use std::alloc::Global;
+
+/// A limit of two lines.
+const TWO_LINES: Limit = Limit {
+    to: None,
+    rows: Some(2),
+};
 
 /// The value at a position is 500 times the position. The positions from `first` on are kept, and at
 /// `broken` stands a fault.
@@ -123,7 +129,7 @@ fn each_row_is_worked_out_once_in_order_and_told_what_turned(rt: HostRuntime) {
         here: None,
     };
     let mut sink = MemorySink::new(rt.alloc());
-    let end = write_lines(rt.alloc(), &mut rows, 1, None, &mut sink);
+    let end = write_lines(rt.alloc(), &mut rows, 1, Limit::none(), &mut sink);
     let asked = [(1, 3), (2, 1), (3, 3), (4, 1), (5, 1)];
     assert_eq!(rt; end, Ok(RunEnd::End));
     assert_eq!(rt; rows.asked.as_slice(), asked.as_slice());
@@ -233,6 +239,10 @@ fn writes(
     written: &[u8],
 ) -> bool {
     let mut sink = MemorySink::new(alloc);
+    let limit = Limit {
+        to: None,
+        rows: limit,
+    };
     let answer = write_lines(alloc, &mut salaries, from, limit, &mut sink);
     answer == wanted && sink.bytes() == written && sink.failures() == 0
 }
@@ -299,7 +309,13 @@ fn a_sink_that_takes_three_bytes_breaks_the_first_line(rt: HostRuntime) {
         answers_zero: false,
         failed: 0,
     };
-    let answer = write_lines(rt.alloc(), &mut make_salaries(1, 9), 0, Some(2), &mut sink);
+    let answer = write_lines(
+        rt.alloc(),
+        &mut make_salaries(1, 9),
+        0,
+        TWO_LINES,
+        &mut sink,
+    );
     assert_eq!(rt; answer, Err(RunFault::Write { position: 1 }));
     assert_eq!(rt; sink.held.as_slice(), b"1\t5".as_slice());
     assert_eq!(rt; sink.failed, 1);
@@ -308,7 +324,7 @@ fn a_sink_that_takes_three_bytes_breaks_the_first_line(rt: HostRuntime) {
 /// Whether a run over this sink fails where its room ends, with the text up to there.
 fn is_broken(alloc: Global, mut sink: Narrow) -> bool {
     let room = sink.room;
-    let answer = write_lines(alloc, &mut make_salaries(0, 9), 0, None, &mut sink);
+    let answer = write_lines(alloc, &mut make_salaries(0, 9), 0, Limit::none(), &mut sink);
     let position = count_whole(room);
     let is_told = answer == Err(RunFault::Write { position });
     is_told && ALL.get(..room) == Some(sink.held.as_slice()) && sink.failed == 1
@@ -334,7 +350,13 @@ fn a_sink_that_fails_at_any_call_has_the_text_up_to_it(rt: HostRuntime) {
 fn is_right(alloc: Global, answer: Result<RunEnd, RunFault<u64>>, sink: &mut MemorySink) -> bool {
     match answer {
         Err(RunFault::Memory { position }) => {
-            let rest = write_lines(alloc, &mut make_salaries(0, 9), position, None, sink);
+            let rest = write_lines(
+                alloc,
+                &mut make_salaries(0, 9),
+                position,
+                Limit::none(),
+                sink,
+            );
             rest == Ok(RunEnd::End) && sink.bytes() == ALL
         }
         Err(RunFault::Write { position }) => {
@@ -347,14 +369,26 @@ fn is_right(alloc: Global, answer: Result<RunEnd, RunFault<u64>>, sink: &mut Mem
 #[test]
 fn a_refused_growth_leaves_a_run_that_can_be_resumed(rt: HostRuntime) {
     let mut sink = MemorySink::new(rt.alloc());
-    let answer = write_lines(rt.alloc(), &mut make_salaries(0, 9), 0, None, &mut sink);
+    let answer = write_lines(
+        rt.alloc(),
+        &mut make_salaries(0, 9),
+        0,
+        Limit::none(),
+        &mut sink,
+    );
     assert!(rt; is_right(rt.alloc(), answer, &mut sink));
 }
 
 #[test]
 fn lines_pass_through_a_stream(rt: HostRuntime) {
     let mut sink = StreamSink::new(Vec::new(rt.alloc()));
-    let answer = write_lines(rt.alloc(), &mut make_salaries(0, 9), 0, Some(2), &mut sink);
+    let answer = write_lines(
+        rt.alloc(),
+        &mut make_salaries(0, 9),
+        0,
+        TWO_LINES,
+        &mut sink,
+    );
     assert_eq!(rt; answer, Ok(RunEnd::More(2)));
     assert_eq!(rt; sink.writer().as_slice(), b"0\t0\n1\t500\n".as_slice());
 }

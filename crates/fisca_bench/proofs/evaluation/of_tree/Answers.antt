@@ -1,6 +1,4 @@
-use Rattle.fisca_columns.specs.Views.{calc}
-use Rattle.fisca_yaml.specs.Views.{node}
 use Rattle.fisca_bench.proofs.evaluation.of_tree.Goals as goal
 
-pub measured-requires-clause-fit : goal.measured-requires-clause-fit
-measured-requires-clause-fit g c = c.calc_inputs_fit.ensures c.args.rules.now c.requires (node c.args.tree.now) (calc c.in-Ok.field-0) c.in-Ok.ensures
+pub of_situation-requires-clause-fit : goal.of_situation-requires-clause-fit
+of_situation-requires-clause-fit g c = c.inputs_fit.ensures c.args.rules.now c.requires _ _ _ _ c.in-Ok.ensures

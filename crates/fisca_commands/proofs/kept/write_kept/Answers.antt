@@ -7,15 +7,19 @@ use Rattle.fisca_commands.proofs.kept.write_kept.Goals as goal
 
 pub returns-clause-ended : goal.returns-clause-ended
 returns-clause-ended g c =
-    (came_same g.R.Recall.find c.args.rows.now c.write_lines.new.rows c.args.from c.write_lines.result c.write_lines.ensures.came).1
+    (came_same g.R.Recall.find c.args.rows.now c.write_lines.new.rows c.args.from c.write_lines.result c.write_lines.ensures.came).ended
 
 pub returns-clause-same_reference : goal.returns-clause-same_reference
 returns-clause-same_reference g c =
-    (came_same g.R.Recall.find c.args.rows.now c.write_lines.new.rows c.args.from c.write_lines.result c.write_lines.ensures.came).0.3
+    (came_same g.R.Recall.find c.args.rows.now c.write_lines.new.rows c.args.from c.write_lines.result c.write_lines.ensures.came).same.3
+
+pub returns-clause-lacks : goal.returns-clause-lacks
+returns-clause-lacks g c =
+    (came_same g.R.Recall.find c.args.rows.now c.write_lines.new.rows c.args.from c.write_lines.result c.write_lines.ensures.came).lacks
 
 pub returns-clause-same_members : goal.returns-clause-same_members
 returns-clause-same_members g c =
-    (came_same g.R.Recall.find c.args.rows.now c.write_lines.new.rows c.args.from c.write_lines.result c.write_lines.ensures.came).0.4
+    (came_same g.R.Recall.find c.args.rows.now c.write_lines.new.rows c.args.from c.write_lines.result c.write_lines.ensures.came).same.4
 
 pub returns-clause-ready : goal.returns-clause-ready
 returns-clause-ready g c =
@@ -23,7 +27,7 @@ returns-clause-ready g c =
     let old = c.args.rows.now in
     let new = c.write_lines.new.rows in
     let e = new.evaluator.now in
-    let same = (came_same find old new c.args.from c.write_lines.result c.write_lines.ensures.came).0 in
+    let same = (came_same find old new c.args.from c.write_lines.result c.write_lines.ensures.came).same in
     let file = file_in (simulation_of e) new.request.now in
     let kept = kept_anywhere new.rules.now file new.slots.now new.here (marks_in e) (simulation_of e) (find e.store.recall) e.store.counts.free
     c.write_lines.ensures.ready in

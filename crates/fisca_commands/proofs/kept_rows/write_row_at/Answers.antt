@@ -1,20 +1,21 @@
-use Rattle.std.proofs.Common.{Bool, Err, Ok, ap, sym, subst, ◌∙◌}
-use Rattle.std.proofs.lemmas.Result.{err_from_is_err_and}
-use Rattle.fisca_situations.proofs.Asking.{some_all, some_first}
+use Rattle.std.proofs.Common.{◌≡◌, ◌||◌, false, sym, subst, string_bytes}
+use Rattle.std.specs.Prelude.{⊤}
 use Rattle.fisca_situations.specs.Asked.{HaveAsked}
 use Rattle.fisca_simulation.specs.Told.{IsReady, told_in}
 use Rattle.fisca_evaluator.specs.Asked.{HasRefused, HasWorked}
 use Rattle.fisca_evaluator.specs.Evaluators.{simulation_of}
-use Rattle.fisca_commands.proofs.Asking.{handed_on, row_fault, row_written}
+use Rattle.fisca_writer.specs.Came.{IsStep}
+use Rattle.fisca_writer.specs.Row.{IsWorkedOut}
 use Rattle.fisca_commands.proofs.Fitting.{ready_at}
-use Rattle.fisca_commands.specs.Asked.{keys_if_met, keys_met, keys_written}
-use Rattle.fisca_commands.specs.Conditions.{all_met as are_met}
-use Rattle.fisca_commands.specs.Outcomes.{IsOutcome}
+use Rattle.fisca_commands.proofs.Lacking.{or_none, row_there, step_always}
 use Rattle.fisca_commands.specs.Begun.{file_in}
+use Rattle.fisca_commands.specs.Going.{keys_styled, lacks_in}
+use Rattle.fisca_commands.specs.Runs.{run_row}
+use Rattle.fisca_commands.specs.declared.style.RowStyle.TheVariants.{Plain, Formed, Going}
 use Rattle.fisca_commands.proofs.kept_rows.write_row_at.Goals as goal
 
-pub all_met-requires : goal.all_met-requires
-all_met-requires g c =
+pub write_met_row-requires-clause-ready : goal.write_met_row-requires-clause-ready
+write_met_row-requires-clause-ready g c =
     let s = c.requires.situated in
     let a = c.requires.accepted in
     record {
@@ -22,28 +23,95 @@ all_met-requires g c =
       memory = c.requires.memory;
     }
 
-pub returns-in_err-all_met-clause-asked : goal.returns-in_err-all_met-clause-asked
-returns-in_err-all_met-clause-asked g c =
-    let find = g.R.Recall.find in
-    let f = file_in (simulation_of c.args.evaluator.now) c.args.request.now in
-    let answer = told_in (simulation_of c.args.evaluator.now) in
-    let p = err_from_is_err_and c.from_residual.result c.from_residual.ensures.1 in
-    handed_on (HasWorked find) (HasRefused find) _ _ _ c.from_residual.result p.0 c.in_err-all_met.field-0.0 p.1 p.2
-    (row_fault (HasWorked find) (HasRefused find) answer f.conditions f.columns c.in_err-all_met.field-0.0 _ _
-    (subst (λ xs. IsOutcome {X = Bool} (are_met answer xs) (Err c.in_err-all_met.field-0.0)) c.as_slice.ensures c.in_err-all_met.ensures.met)
-    (subst (λ xs. HaveAsked {X = Bool} (HasWorked find) (HasRefused find) (keys_met answer xs) c.args.evaluator.now c.all_met.new.answers (Err c.in_err-all_met.field-0.0)) c.as_slice.ensures c.in_err-all_met.ensures.asked))
+pub write_met_row-requires-in-Formed-clause-ready : goal.write_met_row-requires-in-Formed-clause-ready
+write_met_row-requires-in-Formed-clause-ready g c =
+    let s = c.requires.situated in
+    let a = c.requires.accepted in
+    record {
+      ready = subst IsReady (sym s.same) (ready_at c.args.rules.now a.tree (file_in (simulation_of c.args.evaluator.now) c.args.request.now) a.asked c.args.position s.moved s.situation s.moves.1 s.is);
+      memory = c.requires.memory;
+    }
 
-pub returns-in-Ok-clause-asked : goal.returns-in-Ok-clause-asked
-returns-in-Ok-clause-asked g c =
-    let find = g.R.Recall.find in
-    let f = file_in (simulation_of c.args.evaluator.now) c.args.request.now in
-    row_written (HasWorked find) (HasRefused find) (told_in (simulation_of c.args.evaluator.now)) f.conditions f.columns c.write_line.result (told_in (simulation_of c.all_met.new.answers)) _ c.all_met.new.answers _
-    (rw c.as_slice.ensures at c.in_ok-all_met.ensures.met ∙ ap Ok c.if-not-branch.false) c.all_met.ensures.same_answers (rw c.as_slice.ensures at c.in_ok-all_met.ensures.asked) (rw c.as_slice-in-Ok-3.ensures at c.write_line.ensures.asked)
+pub write_told_row-requires-clause-ready : goal.write_told_row-requires-clause-ready
+write_told_row-requires-clause-ready g c =
+    let s = c.requires.situated in
+    let a = c.requires.accepted in
+    record {
+      ready = subst IsReady (sym s.same) (ready_at c.args.rules.now a.tree (file_in (simulation_of c.args.evaluator.now) c.args.request.now) a.asked c.args.position s.moved s.situation s.moves.1 s.is);
+      memory = c.requires.memory;
+    }
 
-pub returns-in-Err-clause-asked : goal.returns-in-Err-clause-asked
-returns-in-Err-clause-asked g c =
+pub returns-in-Plain-clause-row : goal.returns-in-Plain-clause-row
+returns-in-Plain-clause-row g c =
+    let rules = c.args.rules.now in
+    let m = simulation_of c.args.evaluator.now in
+    let f = file_in m c.args.request.now in
+    let s = c.requires.situated in
+    let text = string_bytes c.write_met_row.new.line in
+    subst (λ style. IsWorkedOut (run_row rules style f c.args.position) c.write_met_row.result text) (sym c.in-Plain.is)
+    (subst (λ row. IsWorkedOut row c.write_met_row.result text) (sym (row_there rules Plain f c.args.position m s)) (c.write_met_row.ensures.row s.moved s.moves.1))
+
+pub returns-in-Plain-clause-asked : goal.returns-in-Plain-clause-asked
+returns-in-Plain-clause-asked g c =
     let find = g.R.Recall.find in
-    let f = file_in (simulation_of c.args.evaluator.now) c.args.request.now in
-    let answer = told_in (simulation_of c.args.evaluator.now) in
-    some_first (HasWorked find) (HasRefused find) c.args.evaluator.now c.all_met.new.answers (keys_met answer f.conditions) (keys_if_met (are_met answer f.conditions) (keys_written answer f.columns))
-    (some_all (HasWorked find) (HasRefused find) c.args.evaluator.now c.all_met.new.answers (keys_met answer f.conditions) (rw c.as_slice.ensures at c.in_ok-all_met.ensures.asked))
+    let m = simulation_of c.args.evaluator.now in
+    let r = c.args.request.now in
+    subst (λ style. HaveAsked (HasWorked find) (HasRefused find) (keys_styled style (told_in m) r.conditions r.columns) c.args.evaluator.now c.write_met_row.new.answers c.write_met_row.result)
+    (sym c.in-Plain.is) c.write_met_row.ensures.asked
+
+pub returns-in-Plain-clause-lacks : goal.returns-in-Plain-clause-lacks
+returns-in-Plain-clause-lacks g c =
+    let m = simulation_of c.args.evaluator.now in
+    let r = c.args.request.now in
+    subst (λ style. IsStep (c.args.lacks.now ≡ (c.args.lacks.now || lacks_in style (told_in m) r.conditions r.columns)) ⊤ c.write_met_row.result)
+    (sym c.in-Plain.is) (step_always (c.args.lacks.now ≡ (c.args.lacks.now || false)) c.write_met_row.result (or_none c.args.lacks.now))
+
+pub returns-in-Formed-clause-row : goal.returns-in-Formed-clause-row
+returns-in-Formed-clause-row g c =
+    let rules = c.args.rules.now in
+    let m = simulation_of c.args.evaluator.now in
+    let f = file_in m c.args.request.now in
+    let s = c.requires.situated in
+    let text = string_bytes c.write_met_row-in-Formed.new.line in
+    subst (λ style. IsWorkedOut (run_row rules style f c.args.position) c.write_met_row-in-Formed.result text) (sym c.in-Formed.is)
+    (subst (λ row. IsWorkedOut row c.write_met_row-in-Formed.result text) (sym (row_there rules (Formed c.in-Formed.form) f c.args.position m s)) (c.write_met_row-in-Formed.ensures.row s.moved s.moves.1))
+
+pub returns-in-Formed-clause-asked : goal.returns-in-Formed-clause-asked
+returns-in-Formed-clause-asked g c =
+    let find = g.R.Recall.find in
+    let m = simulation_of c.args.evaluator.now in
+    let r = c.args.request.now in
+    subst (λ style. HaveAsked (HasWorked find) (HasRefused find) (keys_styled style (told_in m) r.conditions r.columns) c.args.evaluator.now c.write_met_row-in-Formed.new.answers c.write_met_row-in-Formed.result)
+    (sym c.in-Formed.is) c.write_met_row-in-Formed.ensures.asked
+
+pub returns-in-Formed-clause-lacks : goal.returns-in-Formed-clause-lacks
+returns-in-Formed-clause-lacks g c =
+    let m = simulation_of c.args.evaluator.now in
+    let r = c.args.request.now in
+    subst (λ style. IsStep (c.args.lacks.now ≡ (c.args.lacks.now || lacks_in style (told_in m) r.conditions r.columns)) ⊤ c.write_met_row-in-Formed.result)
+    (sym c.in-Formed.is) (step_always (c.args.lacks.now ≡ (c.args.lacks.now || false)) c.write_met_row-in-Formed.result (or_none c.args.lacks.now))
+
+pub returns-in-Going-clause-row : goal.returns-in-Going-clause-row
+returns-in-Going-clause-row g c =
+    let rules = c.args.rules.now in
+    let m = simulation_of c.args.evaluator.now in
+    let f = file_in m c.args.request.now in
+    let s = c.requires.situated in
+    let text = string_bytes c.write_told_row.new.line in
+    subst (λ style. IsWorkedOut (run_row rules style f c.args.position) c.write_told_row.result text) (sym c.in-Going.is)
+    (subst (λ row. IsWorkedOut row c.write_told_row.result text) (sym (row_there rules (Going c.in-Going.form) f c.args.position m s)) (c.write_told_row.ensures.row s.moved s.moves.1))
+
+pub returns-in-Going-clause-asked : goal.returns-in-Going-clause-asked
+returns-in-Going-clause-asked g c =
+    let find = g.R.Recall.find in
+    let m = simulation_of c.args.evaluator.now in
+    let r = c.args.request.now in
+    subst (λ style. HaveAsked (HasWorked find) (HasRefused find) (keys_styled style (told_in m) r.conditions r.columns) c.args.evaluator.now c.write_told_row.new.answers c.write_told_row.result)
+    (sym c.in-Going.is) c.write_told_row.ensures.asked
+
+pub returns-in-Going-clause-lacks : goal.returns-in-Going-clause-lacks
+returns-in-Going-clause-lacks g c =
+    let m = simulation_of c.args.evaluator.now in
+    let r = c.args.request.now in
+    subst (λ style. IsStep (c.write_told_row.new.lacks ≡ (c.args.lacks.now || lacks_in style (told_in m) r.conditions r.columns)) ⊤ c.write_told_row.result)
+    (sym c.in-Going.is) c.write_told_row.ensures.lacks

@@ -13,4 +13,4 @@ returns-in_err-all_met-clause-asked g c =
 pub returns-clause-asked : goal.returns-clause-asked
 returns-clause-asked g c =
     row_written g.A.Answers.worked g.A.Answers.refused (g.A.Answers.answer c.args.answers.now) c.args.asked.now.conditions.now c.args.asked.now.columns.now _ (g.A.Answers.answer c.all_met.new.answers) _ _ _
-    (c.in_ok-all_met.ensures.met ∙ ap Ok c.if-not-branch.false) c.all_met.ensures.same_answers c.in_ok-all_met.ensures.asked c.write_line.ensures.asked
+    (c.in_ok-all_met.ensures.met ∙ ap Ok c.if-not-branch.false) c.all_met.ensures.same_answers c.in_ok-all_met.ensures.asked c.write_line_in.ensures.asked

@@ -18,5 +18,5 @@ pub returns-in-Ok-clause-row : goal.returns-in-Ok-clause-row
 returns-in-Ok-clause-row c =
     let members = c.args.members in
     let is = ap (λ r. and_then r (λ es. Ok (record { members = members; inputs = es }))) c.in-Ok.ensures in
-    subst (λ r. IsWorkedOut (row_in c.args.rules.now (file_with members c.args.request.now) c.args.position c.args.moved.now r) c.work_out_in.result.0 (string_bytes c.work_out_in.new.line)) (sym is)
+    subst (λ r. IsWorkedOut (row_in c.args.rules.now c.args.style (file_with members c.args.request.now) c.args.position c.args.moved.now r) c.work_out_in.result.0 (string_bytes c.work_out_in.new.line)) (sym is)
     c.work_out_in.ensures.row

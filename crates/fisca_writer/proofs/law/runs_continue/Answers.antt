@@ -1,4 +1,4 @@
-use Rattle.fisca_writer.proofs.Remaining.{more_law, end_law, fault_law}
+use Rattle.fisca_writer.proofs.Ranged.{more_law, end_law, fault_law}
 use Rattle.fisca_writer.proofs.law.runs_continue.Goals as goal
 
 pub returns : goal.returns

@@ -1,10 +1,11 @@
-use Rattle.std.proofs.Common.{◌≡◌, ◌<◌, ◌≤◌, ◌+◌, ◌-◌, ◌∙◌, ℕ, length, Option, Some, Ok, Err, arith, sym, refl, ap, subst}
+use Rattle.std.proofs.Common.{◌≡◌, ◌<◌, ◌≤◌, ◌+◌, ◌-◌, ◌∙◌, ℕ, length, Option, Some, Ok, Err, arith, sym, refl, ap, subst, unwrap_or}
 use Rattle.std.proofs.lemmas.Result.{err_from_is_err_and}
 use Rattle.fisca_writer.specs.Came.{HasPassed}
 use Rattle.fisca_writer.specs.Row.{Row}
 use Rattle.fisca_writer.specs.Run.{IsRowWritten}
 use Rattle.fisca_writer.specs.Odometer.{product_of}
-use Rattle.fisca_writer.proofs.Progress.{IsWritten, started, past_row, stopped_at_row, left_after, one_less-is, some_left}
+use Rattle.fisca_writer.specs.Ranges.{stop_of}
+use Rattle.fisca_writer.proofs.Progress.{IsWritten, at_end, started, past_row, stopped_at_row, left_after, one_less-is, some_left}
 use Rattle.fisca_writer.proofs.Coming.{near, moved_on, come_none, come_row, stopped}
 use Rattle.fisca_writer.proofs.Walk.{length-positions_from}
 use Rattle.fisca_writer.proofs.run.write_lines.Goals as goal
@@ -12,13 +13,14 @@ use Rattle.fisca_writer.proofs.run.write_lines.Goals as goal
 pub loop-position-init : goal.loop-position-init
 loop-position-init g c =
     let at : c.new-odometer.result.next ≡ c.args.from = ap (λ r. r.next) c.new-odometer.ensures in
-    let size : c.size.result ≡ product_of (g.R.Rows.counts c.args.rows.now) = c.size.ensures ∙ ap product_of c.groups-groups.ensures in
+    let size : c.size-size.result ≡ product_of (g.R.Rows.counts c.args.rows.now) = c.size-size.ensures ∙ ap product_of c.groups-groups.ensures in
     record {
       written = rw at (started _ _ _ _ _);
       came = rw at (come_none g.R.Rows.worked g.R.Rows.refused _ _);
       here = λ less. absurd (omega arith);
       begun = ap (λ r. r.start) c.new-odometer.ensures;
       within = omega arith;
+      stops = omega (arith, at);
       grid = ap (λ r. r.counts) c.new-odometer.ensures ∙ c.groups-groups.ensures;
       ready = c.requires;
       same_row = refl;
@@ -47,10 +49,13 @@ returns-in_err-write_row-clause-run g c =
     let i = c.loop-position.invariant in
     let given = c.in-Some.ensures.given in
     let position = c.in-Some.position in
-    let within : position < product_of (g.R.Rows.counts c.args.rows.now) = rw (sym i.grid) given.1 in
+    let size : c.size-size.result ≡ product_of (g.R.Rows.counts c.args.rows.now) = c.size-size.ensures ∙ ap product_of c.groups-groups.ensures in
+    let stop : c.unwrap_or-stop.result ≡ stop_of (product_of (g.R.Rows.counts c.args.rows.now)) c.args.limit = c.unwrap_or-stop.ensures ∙ ap (unwrap_or c.args.limit.to) size in
+    let room : stop_of (product_of (g.R.Rows.counts c.args.rows.now)) c.args.limit ≤ product_of (g.R.Rows.counts c.args.rows.now) = omega (arith, size, stop) in
+    let within : position < stop_of (product_of (g.R.Rows.counts c.args.rows.now)) c.args.limit = omega (arith, stop) in
     let so_far = rw (sym given.0) at i.written in
     let written = subst (λ (row : ℕ → Row g.row.R-Fault.Denot). IsRowWritten (row position) position (g.S.RowSink.taken c.loop-position.sink) (g.S.RowSink.taken c.write_row.new.sink) (Err c.in_err-write_row.field-0.0)) i.same_row c.in_err-write_row.ensures.written in
-    rw (p.1, p.2) (stopped_at_row _ _ _ _ _ _ _ _ _ _ so_far (omega (arith, given.0, i.came.0)) within (some_left _ _ c.eq.ensures c.if-eq.false) written)
+    rw (p.1, p.2) (stopped_at_row (g.R.Rows.row_at c.args.rows.now) (product_of (g.R.Rows.counts c.args.rows.now)) c.args.from c.args.limit _ _ _ _ so_far (omega (arith, given.0, i.came.0)) _ _ room within (some_left _ _ c.eq.ensures c.if-eq.false) written)
 
 pub returns-in_err-write_row-clause-came : goal.returns-in_err-write_row-clause-came
 returns-in_err-write_row-clause-came g c =
@@ -67,6 +72,9 @@ loop-position-preserved-in-Kept g c =
     let position = c.in-Some.position in
     let on = moved_on c.loop-position.odometer c.next.new.self position c.in-Some.ensures.moved given in
     let within : position < product_of (g.R.Rows.counts c.args.rows.now) = rw (sym i.grid) given.1 in
+    let size : c.size-size.result ≡ product_of (g.R.Rows.counts c.args.rows.now) = c.size-size.ensures ∙ ap product_of c.groups-groups.ensures in
+    let stop : c.unwrap_or-stop.result ≡ stop_of (product_of (g.R.Rows.counts c.args.rows.now)) c.args.limit = c.unwrap_or-stop.ensures ∙ ap (unwrap_or c.args.limit.to) size in
+    let inside : position < stop_of (product_of (g.R.Rows.counts c.args.rows.now)) c.args.limit = omega (arith, stop) in
     let some = some_left _ _ c.eq.ensures c.if-eq.false in
     let so_far = rw (sym given.0) at i.written in
     let here = rw (sym given.0) at i.came in
@@ -75,12 +83,13 @@ loop-position-preserved-in-Kept g c =
     let unfailed : g.S.RowSink.failures c.write_row.new.sink ≡ g.S.RowSink.failures c.loop-position.sink = c.in_ok-write_row.ensures.failures in
     let next : c.next.new.self.next ≡ position + 1 = on.0 in
     record {
-      written = rw next (subst (λ (left : Option ℕ). IsWritten (g.R.Rows.row_at c.args.rows.now) (product_of (g.R.Rows.counts c.args.rows.now)) c.args.from c.args.limit (g.S.RowSink.taken c.args.sink.now) (g.S.RowSink.taken c.write_row.new.sink) (position + 1) left) left
-          (past_row _ _ _ _ _ _ _ _ _ _ so_far within some written));
+      written = rw next (subst (λ (left : Option ℕ). IsWritten (g.R.Rows.row_at c.args.rows.now) (stop_of (product_of (g.R.Rows.counts c.args.rows.now)) c.args.limit) c.args.from c.args.limit.rows (g.S.RowSink.taken c.args.sink.now) (g.S.RowSink.taken c.write_row.new.sink) (position + 1) left) left
+          (past_row _ _ _ _ _ _ _ _ _ _ so_far inside some written));
       came = rw next (come_row g.R.Rows.worked g.R.Rows.refused _ _ _ c.args.from position here c.in_ok-write_row.ensures.step);
       here = λ less. c.write_row.ensures.here ∙ ap Some (omega (arith, next));
       begun = on.1 ∙ i.begun;
       within = omega (arith, next, within);
+      stops = omega (arith, next, inside);
       grid = on.2 ∙ i.grid;
       ready = c.write_row.ensures.ready;
       same_row = c.write_row.ensures.same_row ∙ i.same_row;
@@ -95,6 +104,9 @@ loop-position-preserved g c =
     let position = c.in-Some.position in
     let on = moved_on c.loop-position.odometer c.next.new.self position c.in-Some.ensures.moved given in
     let within : position < product_of (g.R.Rows.counts c.args.rows.now) = rw (sym i.grid) given.1 in
+    let size : c.size-size.result ≡ product_of (g.R.Rows.counts c.args.rows.now) = c.size-size.ensures ∙ ap product_of c.groups-groups.ensures in
+    let stop : c.unwrap_or-stop.result ≡ stop_of (product_of (g.R.Rows.counts c.args.rows.now)) c.args.limit = c.unwrap_or-stop.ensures ∙ ap (unwrap_or c.args.limit.to) size in
+    let inside : position < stop_of (product_of (g.R.Rows.counts c.args.rows.now)) c.args.limit = omega (arith, stop) in
     let some = some_left _ _ c.eq.ensures c.if-eq.false in
     let so_far = rw (sym given.0) at i.written in
     let here = rw (sym given.0) at i.came in
@@ -103,12 +115,13 @@ loop-position-preserved g c =
     let unfailed : g.S.RowSink.failures c.write_row.new.sink ≡ g.S.RowSink.failures c.loop-position.sink = c.in_ok-write_row.ensures.failures in
     let next : c.next.new.self.next ≡ position + 1 = on.0 in
     record {
-      written = rw next (subst (λ (left : Option ℕ). IsWritten (g.R.Rows.row_at c.args.rows.now) (product_of (g.R.Rows.counts c.args.rows.now)) c.args.from c.args.limit (g.S.RowSink.taken c.args.sink.now) (g.S.RowSink.taken c.write_row.new.sink) (position + 1) left) left
-          (past_row _ _ _ _ _ _ _ _ _ _ so_far within some written));
+      written = rw next (subst (λ (left : Option ℕ). IsWritten (g.R.Rows.row_at c.args.rows.now) (stop_of (product_of (g.R.Rows.counts c.args.rows.now)) c.args.limit) c.args.from c.args.limit.rows (g.S.RowSink.taken c.args.sink.now) (g.S.RowSink.taken c.write_row.new.sink) (position + 1) left) left
+          (past_row _ _ _ _ _ _ _ _ _ _ so_far inside some written));
       came = rw next (come_row g.R.Rows.worked g.R.Rows.refused _ _ _ c.args.from position here c.in_ok-write_row.ensures.step);
       here = λ less. c.write_row.ensures.here ∙ ap Some (omega (arith, next));
       begun = on.1 ∙ i.begun;
       within = omega (arith, next, within);
+      stops = omega (arith, next, inside);
       grid = on.2 ∙ i.grid;
       ready = c.write_row.ensures.ready;
       same_row = c.write_row.ensures.same_row ∙ i.same_row;
@@ -125,3 +138,17 @@ returns-clause-came g c =
     let over : size ≤ next = omega (arith, none) in
     let end : next ≡ product_of (g.R.Rows.counts c.args.rows.now) = omega (arith, i.within, over, ap product_of i.grid) in
     subst (λ (stop : ℕ). HasPassed g.R.Rows.worked c.args.from stop c.args.rows.now c.loop-position.rows) end i.came
+
+-- the ends, where the run stops before a position or behind a line, or no position is left
+pub returns-clause-run : goal.returns-clause-run
+returns-clause-run g c =
+    let i = c.loop-position.invariant in
+    let next = c.loop-position.odometer.next in
+    let size : c.size-size.result ≡ product_of (g.R.Rows.counts c.args.rows.now) = c.size-size.ensures ∙ ap product_of c.groups-groups.ensures in
+    let stop : c.unwrap_or-stop.result ≡ stop_of (product_of (g.R.Rows.counts c.args.rows.now)) c.args.limit = c.unwrap_or-stop.ensures ∙ ap (unwrap_or c.args.limit.to) size in
+    let none : product_of c.loop-position.odometer.counts - next ≡ 0 = sym (length-positions_from (product_of c.loop-position.odometer.counts) next) ∙ ap length c.in_default.ensures.gives.0 in
+    let over : product_of (g.R.Rows.counts c.args.rows.now) ≤ next = omega (arith, none, ap product_of i.grid) in
+    let room : stop_of (product_of (g.R.Rows.counts c.args.rows.now)) c.args.limit ≤ product_of (g.R.Rows.counts c.args.rows.now) = omega (arith, size, stop) in
+    let inside : c.args.from ≤ product_of (g.R.Rows.counts c.args.rows.now) = omega (arith, size) in
+    let end = at_end (g.R.Rows.row_at c.args.rows.now) (product_of (g.R.Rows.counts c.args.rows.now)) c.args.from c.args.limit _ _ _ _ i.written i.came.0 over room i.stops in
+    ((inside, room), end.0, end.1)

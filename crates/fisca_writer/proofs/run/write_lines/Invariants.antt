@@ -1,6 +1,7 @@
-use Rattle.std.proofs.Common.{◌≡◌, ◌-◌, ◌<◌, ◌≤◌, Some}
+use Rattle.std.proofs.Common.{◌≡◌, ◌-◌, ◌<◌, ◌≤◌, Some, max}
 use Rattle.fisca_writer.specs.Odometer.{product_of}
 use Rattle.fisca_writer.specs.Came.{HasPassed}
+use Rattle.fisca_writer.specs.Ranges.{stop_of}
 use Rattle.fisca_writer.proofs.Progress.{IsWritten}
 use Rattle.fisca_writer.proofs.run.write_lines.Given as goal
 
@@ -8,11 +9,12 @@ use Rattle.fisca_writer.proofs.run.write_lines.Given as goal
 abbrev pub invariant-loop-position : goal.invariant-loop-position
 invariant-loop-position g l =
     record {
-      written : IsWritten (g.R.Rows.row_at l.initial.rows) (product_of (g.R.Rows.counts l.initial.rows)) l.fn.from l.fn.limit (g.S.RowSink.taken l.initial.sink) (g.S.RowSink.taken l.sink) l.odometer.next l.left;
+      written : IsWritten (g.R.Rows.row_at l.initial.rows) (stop_of (product_of (g.R.Rows.counts l.initial.rows)) l.fn.limit) l.fn.from l.fn.limit.rows (g.S.RowSink.taken l.initial.sink) (g.S.RowSink.taken l.sink) l.odometer.next l.left;
       came : HasPassed g.R.Rows.worked l.fn.from l.odometer.next l.initial.rows l.rows;
       here : l.fn.from < l.odometer.next → g.R.Rows.here l.rows ≡ Some (l.odometer.next - 1);
       begun : l.odometer.start ≡ l.fn.from;
       within : l.odometer.next ≤ product_of (g.R.Rows.counts l.initial.rows);
+      stops : l.odometer.next ≤ max l.fn.from (stop_of (product_of (g.R.Rows.counts l.initial.rows)) l.fn.limit);
       grid : l.odometer.counts ≡ g.R.Rows.counts l.initial.rows;
       ready : g.R.Rows.ready l.rows;
       same_row : g.R.Rows.row_at l.rows ≡ g.R.Rows.row_at l.initial.rows;

@@ -1,15 +1,18 @@
-use Rattle.std.proofs.Common.{◌≡◌, Some, refl, sym, ap, subst, ◌∙◌, string_bytes}
+use Rattle.std.proofs.Common.{◌≡◌, ◌||◌, Some, refl, sym, ap, subst, ◌∙◌, string_bytes}
+use Rattle.std.specs.Prelude.{⊤}
 use Rattle.fisca_groups.specs.declared.entity_members.EntityMembers.{EntityMembers}
 use Rattle.fisca_simulation.specs.Simulations.{Simulation}
 use Rattle.fisca_simulation.specs.Told.{told_in}
 use Rattle.fisca_evaluator.specs.Evaluators.{marks_in, simulation_of}
+use Rattle.fisca_writer.specs.Came.{IsStep}
 use Rattle.fisca_writer.specs.Row.{IsWorkedOut}
-use Rattle.fisca_commands.proofs.Going.{kept_there, many_slots, row_step, situated_there, stays, with_same}
+use Rattle.fisca_commands.proofs.Stepping.{kept_there, many_slots, row_step, situated_there, stays, with_same}
+use Rattle.fisca_commands.proofs.Lacking.{lacks_there, step_for}
 use Rattle.fisca_commands.proofs.Placing.{situated_members}
-use Rattle.fisca_commands.specs.Asked.{keys_asked}
+use Rattle.fisca_commands.specs.Going.{keys_styled, lacks_in}
 use Rattle.fisca_commands.specs.Kept.{IsKept, IsRunFile, IsSituated}
 use Rattle.fisca_commands.specs.Remembered.{IsPassed, IsRefused}
-use Rattle.fisca_commands.specs.Runs.{run_row}
+use Rattle.fisca_commands.specs.Runs.{lacks_at, run_row}
 use Rattle.fisca_run_file.specs.Views.{file_with}
 use Rattle.fisca_commands.specs.Begun.{file_in}
 use Rattle.fisca_commands.proofs.kept_rows.KeptRowsRows.work_out.Goals as goal
@@ -48,7 +51,7 @@ returns-clause-worked_out g c =
     let turned = simulation_of c.turn_slots.new.evaluator in
     let there = situated_there r.rules.now f r.slots.now r.here (marks_in e) (simulation_of e) (g.R.Recall.find e.store.recall) e.store.counts.free c.requires.ready
     c.args.position c.args.turned turned c.requires.position c.requires.turned c.turn_slots.ensures.turned in
-    subst (λ members. IsWorkedOut (run_row r.rules.now (file_with members r.request.now) c.args.position) c.write_row_at.result (string_bytes c.write_row_at.new.line))
+    subst (λ members. IsWorkedOut (run_row r.rules.now r.style.now (file_with members r.request.now) c.args.position) c.write_row_at.result (string_bytes c.write_row_at.new.line))
     (situated_members r.rules.now f (Some c.args.position) turned there) c.write_row_at.ensures.row
 
 pub returns-clause-step : goal.returns-clause-step
@@ -57,18 +60,24 @@ returns-clause-step g c =
     let e = r.evaluator.now in
     let f = file_in (simulation_of e) r.request.now in
     let turned = c.turn_slots.new.evaluator in
+    let m = simulation_of turned in
     let there = situated_there r.rules.now f r.slots.now r.here (marks_in e) (simulation_of e) (g.R.Recall.find e.store.recall) e.store.counts.free c.requires.ready
-    c.args.position c.args.turned (simulation_of turned) c.requires.position c.requires.turned c.turn_slots.ensures.turned in
+    c.args.position c.args.turned m c.requires.position c.requires.turned c.turn_slots.ensures.turned in
     let after = c.write_row_at.new.evaluator in
     let find = g.R.Recall.find in
-    let same = stays find r.rules.now f c.args.position e turned after (keys_asked (told_in (simulation_of turned)) f.conditions f.columns)
+    let same = stays find r.rules.now r.style.now f c.args.position e turned after (keys_styled r.style.now (told_in m) f.conditions f.columns)
     c.turn_slots.ensures.marks c.turn_slots.ensures.counts c.turn_slots.ensures.just (c.turn_slots.ensures.memory c.requires.ready.memory) c.write_row_at.result
     c.write_row_at.ensures.asked in
-    let members = ap (λ (m : Simulation). m.situation.members) same.0 ∙ situated_members r.rules.now f (Some c.args.position) (simulation_of turned) there in
-    with_same (IsPassed find r.rules.now f e c.args.position after) (IsRefused find e after) refl refl refl refl members c.write_row_at.result
-    (row_step g.R.Recall.find r.rules.now f c.args.position e turned c.write_row_at.new.evaluator (keys_asked (told_in (simulation_of turned)) f.conditions f.columns)
+    let members = ap (λ (m : Simulation). m.situation.members) same.0 ∙ situated_members r.rules.now f (Some c.args.position) m there in
+    let lacked : Type 0 = c.write_row_at.new.lacks ≡ (r.lacks || lacks_at r.rules.now r.style.now f c.args.position) in
+    let lacks : IsStep lacked ⊤ c.write_row_at.result =
+    step_for (c.write_row_at.new.lacks ≡ (r.lacks || lacks_in r.style.now (told_in m) f.conditions f.columns)) lacked c.write_row_at.result
+    (λ is. is ∙ ap (λ b. r.lacks || b) (sym (lacks_there r.rules.now r.style.now f c.args.position m there))) c.write_row_at.ensures.lacks in
+    with_same (IsPassed find r.rules.now r.style.now f e c.args.position after) lacked (IsRefused find e after) refl refl refl refl members refl c.write_row_at.result
+    (row_step find r.rules.now r.style.now f c.args.position e turned after (keys_styled r.style.now (told_in m) f.conditions f.columns)
     c.turn_slots.ensures.marks c.turn_slots.ensures.counts c.turn_slots.ensures.just (c.turn_slots.ensures.memory c.requires.ready.memory) c.write_row_at.result there refl
     c.write_row_at.ensures.memory c.write_row_at.ensures.asked)
+    lacks
 
 pub returns-clause-ready : goal.returns-clause-ready
 returns-clause-ready g c =
@@ -80,7 +89,7 @@ returns-clause-ready g c =
     let find = g.R.Recall.find in
     let there = situated_there r.rules.now f r.slots.now r.here (marks_in e) (simulation_of e) (find e.store.recall) e.store.counts.free c.requires.ready c.args.position
     c.args.turned (simulation_of turned) c.requires.position c.requires.turned c.turn_slots.ensures.turned in
-    let same = stays find r.rules.now f c.args.position e turned after (keys_asked (told_in (simulation_of turned)) f.conditions f.columns)
+    let same = stays find r.rules.now r.style.now f c.args.position e turned after (keys_styled r.style.now (told_in (simulation_of turned)) f.conditions f.columns)
     c.turn_slots.ensures.marks c.turn_slots.ensures.counts c.turn_slots.ensures.just (c.turn_slots.ensures.memory c.requires.ready.memory) c.write_row_at.result
     c.write_row_at.ensures.asked in
     let members = ap (λ (m : Simulation). m.situation.members) same.0 ∙ situated_members r.rules.now f (Some c.args.position) (simulation_of turned) there in
@@ -100,8 +109,8 @@ returns-clause-same_row g c =
     let find = g.R.Recall.find in
     let there = situated_there r.rules.now f r.slots.now r.here (marks_in e) (simulation_of e) (find e.store.recall) e.store.counts.free c.requires.ready c.args.position
     c.args.turned (simulation_of turned) c.requires.position c.requires.turned c.turn_slots.ensures.turned in
-    let same = stays find r.rules.now f c.args.position e turned after (keys_asked (told_in (simulation_of turned)) f.conditions f.columns)
+    let same = stays find r.rules.now r.style.now f c.args.position e turned after (keys_styled r.style.now (told_in (simulation_of turned)) f.conditions f.columns)
     c.turn_slots.ensures.marks c.turn_slots.ensures.counts c.turn_slots.ensures.just (c.turn_slots.ensures.memory c.requires.ready.memory) c.write_row_at.result
     c.write_row_at.ensures.asked in
     let members = ap (λ (m : Simulation). m.situation.members) same.0 ∙ situated_members r.rules.now f (Some c.args.position) (simulation_of turned) there in
-    ap (λ members. run_row r.rules.now (file_with members r.request.now)) members
+    ap (λ members. run_row r.rules.now r.style.now (file_with members r.request.now)) members

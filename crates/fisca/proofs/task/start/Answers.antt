@@ -1,7 +1,0 @@
-use Rattle.std.proofs.Common.{codes}
-use Rattle.clap.specs.Matches.{found_of}
-use Rattle.fisca.proofs.Matches.{number_read}
-use Rattle.fisca.proofs.task.start.Goals as goal
-
-pub returns : goal.returns
-returns c = (c.get_one.result, number_read (found_of c.args.matches.now) (codes "from") c.get_one.result c.get_one.ensures.none c.get_one.ensures.value, c.unwrap_or.ensures)

@@ -116,9 +116,9 @@ def test_forms_and_keeping_going(room, small):
 
 
 def test_more_parts_than_positions_on_other_machines(room):
-    # a machine that is reached by a command of our own, for want of another one
+    # a machine that is reached by a command of our own, for want of another one, and has a shell as behind an sshd
     ssh = room / "ssh"
-    ssh.write_text(f"#!/bin/sh\nshift 2\necho >>'{room}'/reached\nexec sh -c \"$*\"\n")
+    ssh.write_text(f"#!/bin/sh\nshift 2\necho >>'{room}'/reached\nSHELL=/bin/sh exec sh -c \"$*\"\n")
     ssh.chmod(0o755)
     (room / "machines").write_text(f"1/{ssh} one\n1/{ssh} two\n")
     ran = called(room, "--parts", "30", "--machines", "machines", "--jobs", "4", "--format", "jsonl")

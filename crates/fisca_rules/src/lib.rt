@@ -6,6 +6,7 @@ mod dated;
 mod entities;
 mod enums;
 mod faults;
+mod formulas;
 mod found;
 mod law;
 mod lines;
@@ -16,6 +17,7 @@ mod tables;
 mod typed;
 
 pub use dated::Dated;
+pub use formulas::Formulas;
 pub use law::{
     days_and_texts_have_no_formulas, defaults_are_of_their_types, rule_sets_are_never_stuck,
 };

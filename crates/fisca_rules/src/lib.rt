@@ -8,6 +8,7 @@ mod enums;
 mod faults;
 mod formulas;
 mod found;
+mod in_force;
 mod law;
 mod lines;
 mod persons;

@@ -2,7 +2,7 @@ use Rattle.std.proofs.Common.{Some, sym, ◌∙◌, ap, option_map}
 use Rattle.std.proofs.lemmas.Option.{slice_get-get_or, slice_get_past}
 use Rattle.fisca_rules.specs.Views.{dated}
 use Rattle.fisca_rules.proofs.Search.{found_last}
-use Rattle.fisca_rules.proofs.formulas.found_by.Goals as goal
+use Rattle.fisca_rules.proofs.in_force.found_by.Goals as goal
 
 pub returns-in-Some-get : goal.returns-in-Some-get
 returns-in-Some-get c =

@@ -1,7 +1,7 @@
 use Rattle.std.proofs.Common.{◌≡◌, drop, map, option_map}
 use Rattle.fisca_rules.specs.Views.{dated}
 use Rattle.fisca_rules.specs.Steps.InForce.{in_force, latest_of}
-use Rattle.fisca_rules.proofs.formulas.latest_of.Given as goal
+use Rattle.fisca_rules.proofs.in_force.latest_of.Given as goal
 
 -- what is found so far, and the formulas that are left
 abbrev pub invariant-loop-formula : goal.invariant-loop-formula

@@ -3,7 +3,7 @@ use Rattle.std.specs.BTreeMap.{get}
 use Rattle.fisca_time.specs.Instant.{CivilDate, date_cmp}
 use Rattle.fisca_rules.specs.Starts.{place_from}
 use Rattle.fisca_rules.proofs.Search.{one_more, all_noted}
-use Rattle.fisca_rules.proofs.formulas.starts_of.Goals as goal
+use Rattle.fisca_rules.proofs.in_force.starts_of.Goals as goal
 
 pub loop-place-preserved : goal.loop-place-preserved
 loop-place-preserved c =

@@ -1,5 +1,5 @@
 use Rattle.fisca_rules.proofs.Search.{last_of, none_of}
-use Rattle.fisca_rules.proofs.formulas.last_place.Goals as goal
+use Rattle.fisca_rules.proofs.in_force.last_place.Goals as goal
 
 pub returns-in-Some : goal.returns-in-Some
 returns-in-Some c = last_of c.args.day c.args.starts.now _ _ _ (c.range.ensures.in_range tt) c.in-Some.ensures.steps

@@ -2,7 +2,7 @@ use Rattle.std.proofs.Common.{◌≡◌, ◌≤◌, drop, length}
 use Rattle.std.specs.BTreeMap.{get}
 use Rattle.fisca_time.specs.Instant.{CivilDate, date_cmp}
 use Rattle.fisca_rules.specs.Starts.{place_from}
-use Rattle.fisca_rules.proofs.formulas.starts_of.Given as goal
+use Rattle.fisca_rules.proofs.in_force.starts_of.Given as goal
 
 -- the places of the formulas from `place` on
 abbrev pub invariant-loop-place : goal.invariant-loop-place

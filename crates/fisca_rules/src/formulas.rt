@@ -1,5 +1,6 @@
 //! The formulas of a variable.
 
+ghost use Rattle.std.proofs.Props.{props};
 ghost use Rattle.std.specs.Prelude.{IfSome};
 ghost use Rattle.fisca_rules.specs.Starts.{AreStarts};
 
@@ -13,5 +14,5 @@ pub struct Formulas {
     /// From top to bottom.
     pub items: Vec<Dated>,
     pub(crate) starts: Option<BTreeMap<Instant, usize>>,
-    ghost are_starts: { IfSome starts (λ m. AreStarts m items.items) },
+    ghost are_starts: { IfSome starts (λ m. AreStarts m items.items) } by { Prim.hlevel props },
 }

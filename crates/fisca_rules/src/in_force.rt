@@ -74,7 +74,6 @@ fn last_place(starts: &BTreeMap<Instant, usize>, day: Instant) -> Option<usize>
 }
 
 /// The formula in force on a day, by the days on which they start.
-#[tactic(auto, using(crate::proofs::Search::found_none))]
 fn found_by<'r>(
     starts: &BTreeMap<Instant, usize>,
     formulas: &'r [Dated],

@@ -199,13 +199,13 @@ found_none day m ds are none = none_is 0 day ds (λ other s. sym (are other) ∙
 
 -- What is noted
 
-pub one_more : (m n : BTreeMap CivilDate ℕ) (ds : List Dated) (i : ℕ) (d : Dated) → i < length ds → d ≡ get_or ds i d → Updates date_cmp m n d.start (Some i) →
+pub one_more : (m n : BTreeMap CivilDate ℕ) (ds : List Dated) (i : ℕ) (x : Dated) → i < length ds → Updates date_cmp m n (get_or ds i x).start (Some i) →
     ((day : CivilDate) → get date_cmp m day ≡ place_from (i + 1) (drop (i + 1) ds) day) → (day : CivilDate) → get date_cmp n day ≡ place_from i (drop i ds) day
-one_more m n ds i d inside there updates before day =
+one_more m n ds i x inside updates before day =
+    let d : Dated = get_or ds i x in
     let more : i + 1 ≡ suc i = omega arith in
     let after : get date_cmp m day ≡ place_from (suc i) (drop (suc i) ds) day = before day ∙ ap (λ k. place_from k (drop k ds) day) more in
-    let cut : drop i ds ≡ d ∷ drop (suc i) ds = drop-cons ds i d inside ∙ ap (λ e. e ∷ drop (suc i) ds) (sym there) in
-    updates.0 day ∙ ap (λ o. if is_eq (date_cmp d.start day) then Some i else o) after ∙ ap (λ xs. place_from i xs day) (sym cut)
+    updates.0 day ∙ ap (λ o. if is_eq (date_cmp d.start day) then Some i else o) after ∙ ap (λ xs. place_from i xs day) (sym (drop-cons ds i x inside))
 
 pub all_noted : (m : BTreeMap CivilDate ℕ) (ds : List Dated) (place : ℕ) → ((day : CivilDate) → get date_cmp m day ≡ place_from place (drop place ds) day) → place ≡ 0 → AreStarts m ds
 all_noted m ds place h none day = h day ∙ ap (λ k. place_from k (drop k ds) day) none

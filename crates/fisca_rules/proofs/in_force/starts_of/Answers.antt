@@ -12,7 +12,7 @@ loop-place-preserved c =
     let inside : i < length ds = omega (arith, c.loop-place-test.true, c.loop-place.invariant.0) in
     let same : c.loop-place.place ≡ i + 1 = omega (arith, c.loop-place-test.true) in
     let before = subst (λ k. (day : CivilDate) → get date_cmp c.loop-place.starts day ≡ place_from k (drop k ds) day) same c.loop-place.invariant.1 in
-    (omega (arith, inside), one_more c.loop-place.starts c.insert.new.self ds i c.index-formulas-place.result inside c.index-formulas-place.is c.in_ok-insert.ensures.updates before)
+    (omega (arith, inside), one_more c.loop-place.starts c.insert.new.self ds i c.index-formulas-place.result inside c.in_ok-insert.ensures.updates before)
 
 pub returns : goal.returns
 returns c = all_noted c.loop-place.starts c.args.formulas.now c.loop-place.place c.loop-place.invariant.1 (omega (arith, c.loop-place-test.false))

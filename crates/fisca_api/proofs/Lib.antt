@@ -1,0 +1,5 @@
+mod Files
+mod Fitting
+mod Marking
+mod Moving
+mod Wheels

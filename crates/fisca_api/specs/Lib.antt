@@ -1,0 +1,13 @@
+pub mod Evaluators
+pub mod Marks
+pub mod Situations
+pub mod Views
+pub use Rattle.fisca_num.specs.Number
+pub use Rattle.fisca_time.specs.Instant
+pub use Rattle.fisca_time.specs.Period
+pub use Rattle.fisca_yaml.specs.Node
+pub use Rattle.fisca_key_semantics.specs.Answers
+pub use Rattle.fisca_simulation.specs.Simulations
+pub use Rattle.fisca_simulation.specs.Sound
+pub use Rattle.fisca_simulation.specs.Told
+pub use Rattle.fisca_writer.specs.Sink

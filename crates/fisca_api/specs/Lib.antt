@@ -1,5 +1,10 @@
+pub mod Alike
+pub mod Axes
+pub mod Eternal
 pub mod Evaluators
 pub mod Marks
+pub mod Members
+pub mod OfGiven
 pub mod Situations
 pub mod Views
 pub use Rattle.fisca_num.specs.Number

@@ -1,7 +1,5 @@
 -- Situations that keep what is given and which variables are neutralised.
-use Rattle.std.specs.Prelude.{ℕ, ◌&&◌, List, [], Bool, not, map, slice_get, Option, Some, None, Result, Ok}
-use Rattle.std.specs.List.{list_any}
-use Rattle.fisca_inputs.specs.Steps.Overlaps.{is_across, is_other}
+use Rattle.std.specs.Prelude.{ℕ, List, [], Bool, map, slice_get, Option, Some, None, Result, Ok}
 use Rattle.fisca_inputs.specs.declared.fault.SituationFault.{SituationFault}
 use Rattle.fisca_inputs.specs.declared.given.Given.{Given}
 use Rattle.fisca_model.specs.Periods.{key_period}
@@ -19,7 +17,7 @@ use Rattle.fisca_situations.specs.Slots.{Slot}
 use Rattle.fisca_situations.specs.declared.reading.Reading.{Reading}
 use Rattle.fisca_symbols.specs.declared.tables.Tables.{Tables}
 use Rattle.fisca_symbols.specs.declared.variable.Variable.{Variable}
-use Rattle.fisca_time.specs.Period.{Span, is_eternal}
+use Rattle.fisca_time.specs.Period.{Span}
 use Rattle.fisca_yaml.specs.Node.{Node}
 use Rattle.fisca_api.specs.declared.given.AxisValue.{AxisValue}
 
@@ -71,12 +69,3 @@ abbrev pub situation_at : Tables → Situation → List AxisValue → Result Sit
 situation_at c s vs =
     and_then (shared_anew c s.neutral s.shared.members (put_all_in s.given (all_given c vs)))
     (λ es. Ok (record { given = put_all_in s.given (all_given c vs); shared = record { members = s.shared.members; inputs = es }; neutral = s.neutral }))
-
--- Overlaps
-
--- an input of this variable and member is for another period that shares a day with this one; one for eternity is for every period
-abbrev pub is_overlap : ℕ → ℕ → Span → Given → Bool
-is_overlap x m p g = not (is_eternal g.period) && (is_across x m p g && is_other p g)
-
-abbrev pub overlaps : Situation → ℕ → ℕ → Span → Bool
-overlaps s x m p = list_any (is_overlap x m p) s.given

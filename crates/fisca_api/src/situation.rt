@@ -1,9 +1,12 @@
 //! Situations that keep what is given, and their marks.
 
-ghost use Rattle.std.specs.Prelude.{◌≡◌, ◌<◌, ◌×◌, ◌==◌, ◌||◌, ℕ, option_map, IfOk, OnOk, OnErr};
+ghost use Rattle.std.specs.Prelude.{◌≡◌, ◌<◌, ◌×◌, ◌==◌, ◌||◌, ℕ, true, option_map, IfOk, OnOk, OnErr};
 ghost use Rattle.std.specs.List.{list_any};
+ghost use Rattle.fisca_api.specs.Axes.{HasPeriod};
+ghost use Rattle.fisca_api.specs.Eternal.{input_at, is_overlap, overlaps_another};
 ghost use Rattle.fisca_api.specs.Evaluators.{Fits, HasNumbers, HaveNumbers};
 ghost use Rattle.fisca_api.specs.Marks.{is_at, wheels_at, with_wheel as with_wheel_at};
+ghost use Rattle.fisca_api.specs.OfGiven.{AreAxisValues, IsOfGiven};
 ghost use Rattle.fisca_api.specs.Situations as spec;
 ghost use Rattle.fisca_api.specs.Views.{marks as marks_view, situation as situation_view};
 ghost use Rattle.fisca_evaluator.specs.Evaluators.{AreMarked};
@@ -17,6 +20,8 @@ ghost use Rattle.fisca_rules.specs.Views.{rule_set};
 ghost use Rattle.fisca_rules.specs.declared.rule_set.RuleSet as declared;
 ghost use Rattle.fisca_simulation.specs.Sound.{IsSafeRules};
 ghost use Rattle.fisca_situations.specs.Views.{slot as slot_view};
+ghost use Rattle.fisca_symbols.specs.declared.tables.Tables as tables;
+ghost use Rattle.fisca_time.specs.Period.{is_period};
 ghost use Rattle.fisca_yaml.specs.Views.{node};
 
 use crate::formula::{EntityId, VarId};
@@ -77,7 +82,7 @@ fn is_across(variable: VarId, member: u32, period: Period, given: &Given) -> boo
 
 /// Whether an input of this variable and member is for another period that shares a day with this one.
 fn is_overlap(variable: VarId, member: u32, period: Period, given: &Given) -> bool
-    ensures { result ≡ spec.is_overlap variable member period given.now }
+    ensures { result ≡ is_overlap variable member period given.now }
 {
     given.period.unit() != Unit::Eternity
         && is_across(variable, member, period, given)
@@ -99,6 +104,7 @@ impl Situation {
     ) -> Result<Situation, SituationFault>
         ensures situation { Tells situation_view (spec.situation_of rules.now.tables default (node tree.now)) result }
         ensures fit { IfOk result (λ s. IsSafeRules (rule_set rules.now) → Fits rules.now (situation_view s)) }
+        ensures shared { IfOk result (λ s. HasPeriod default → IsOfGiven rules.now.tables (situation_view s)) }
         ensures wheels { IfOk result (λ s. (k : meaning.Key) → marks_view s k ≡ 0) }
     {
         let reading = reading_of(alloc, &rules.tables, default, 1, tree)?;
@@ -119,17 +125,26 @@ impl Situation {
         self.shared.name(entity, member)
     }
 
-    /// The input of a key after sharing and defaults, by one look-up and without memory.
+    /// The input of a key after sharing and defaults, by two look-ups at most and without memory: of an eternal variable its input for eternity, whatever
+    /// period the key has.
     pub fn input(&self, key: &Key) -> Option<Value>
-        ensures { result ≡ entries.value_at (situation_view self.now).shared.inputs key.now }
+        ensures { result ≡ input_at (situation_view self.now).shared.inputs key.now }
     {
-        self.shared.input(key)
+        if let Some(value) = self.shared.input(key) {
+            return Some(value);
+        }
+        let (variable, member) = (key.variable, key.member);
+        self.shared.input(&Key {
+            variable,
+            member,
+            period: Period::ETERNITY,
+        })
     }
 
     /// Whether an input is given for this variable and member, and for another period that shares a day with this one; never of an eternal
     /// variable. It takes no memory. This project's own rule.
     pub fn overlaps(&self, variable: VarId, member: u32, period: &Period) -> bool
-        ensures { result ≡ spec.overlaps (situation_view self.now) variable member period.now }
+        ensures { result ≡ overlaps_another (situation_view self.now).given variable member period.now }
     {
         for given in self.given.as_slice() {
             if is_overlap(variable, member, *period, given) {
@@ -166,6 +181,7 @@ impl Situation {
         ensures marked { IfOk result (λ s. (s.wheel ≡ wheel) × AreMarked (marks_view self.new) (slot_view s)) }
         ensures numbers { IfOk result (λ s. HasNumbers rules.now s.variable) }
         ensures fit { IsSafeRules (rule_set rules.now) → Fits rules.now (situation_view self.old) → Fits rules.now (situation_view self.new) }
+        ensures shared { is_period period ≡ true → IsOfGiven rules.now.tables (situation_view self.old) → IsOfGiven rules.now.tables (situation_view self.new) }
         ensures kept { OnErr result (self.new ≡ self.old) }
     {
         if variable >= rules.variables().len() {
@@ -195,6 +211,7 @@ impl Situation {
         ensures members { OnOk result ((situation_view self.new).shared.members ≡ (situation_view self.old).shared.members) }
         ensures wheels { OnOk result (self.new.wheels ≡ self.old.wheels) }
         ensures fit { (rules : declared.RuleSet) → Fits rules (situation_view self.old) → Fits rules (situation_view self.new) }
+        ensures shared { (tables : tables.Tables) → IsOfGiven tables (situation_view self.old) → IsOfGiven tables (situation_view self.new) }
         ensures memory { OnErr result (self.new ≡ self.old) }
     {
         let marks = with_all(self.alloc, self.neutral.as_slice(), variables)?;
@@ -214,6 +231,7 @@ impl Situation {
     ) -> Result<Situation, SituationFault>
         ensures situation { Tells situation_view (spec.situation_at rules.now.tables (situation_view self.now) values.now) result }
         ensures fit { IfOk result (λ s. IsSafeRules (rule_set rules.now) → Fits rules.now (situation_view self.now) → HaveNumbers rules.now values.now → Fits rules.now (situation_view s)) }
+        ensures shared { IfOk result (λ s. IsOfGiven rules.now.tables (situation_view self.now) → AreAxisValues rules.now.tables values.now → IsOfGiven rules.now.tables (situation_view s)) }
         ensures wheels { IfOk result (λ s. s.wheels.items ≡ self.now.wheels.items) }
     {
         let tables = &rules.tables;

@@ -1,6 +1,6 @@
 use Rattle.std.proofs.Common.{◌≡◌, drop}
 use Rattle.std.specs.List.{list_any}
-use Rattle.fisca_api.specs.Situations.{is_overlap}
+use Rattle.fisca_api.specs.Eternal.{is_overlap}
 use Rattle.fisca_api.proofs.situation.Situation.overlaps.Given as goal
 
 abbrev pub invariant-loop-given : goal.invariant-loop-given

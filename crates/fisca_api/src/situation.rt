@@ -1,6 +1,6 @@
 //! Situations that keep what is given, and their marks.
 
-ghost use Rattle.std.specs.Prelude.{◌≡◌, ◌<◌, ◌×◌, ◌==◌, ◌||◌, ℕ, true, option_map, IfOk, OnOk, OnErr};
+ghost use Rattle.std.specs.Prelude.{◌≡◌, ◌<◌, ◌==◌, ◌||◌, ℕ, true, option_map, IfOk, OnOk, OnErr};
 ghost use Rattle.std.specs.List.{list_any};
 ghost use Rattle.fisca_api.specs.Axes.{HasPeriod};
 ghost use Rattle.fisca_api.specs.Eternal.{input_at, is_overlap, overlaps_another};

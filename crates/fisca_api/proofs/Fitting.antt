@@ -1,7 +1,6 @@
 -- What is given and the inputs are of the types of their variables.
 use Rattle.std.proofs.Common.{◌≡◌, ℕ, List, [], ◌∷◌, map, slice_get, Bool, true, false, Option, Some, None, refl, sym, ap, subst, ◌∙◌, if◌then◌else◌}
 use Rattle.std.specs.Prelude.{Result, Ok, Err, IfOk, nat_lt}
-use Rattle.fisca_commands.proofs.Numbers.{all_put_typed}
 use Rattle.fisca_groups.specs.Lookup.{count_at, counts_of}
 use Rattle.fisca_groups.specs.declared.entity_members.EntityMembers.{EntityMembers}
 use Rattle.fisca_inputs.proofs.Typed.{then_ok, inputs_typed, input_typed}
@@ -43,6 +42,7 @@ use Rattle.fisca_symbols.specs.declared.variable.DeclaredType.TheVariants as typ
 use Rattle.fisca_symbols.specs.declared.variable.Variable.{Variable}
 use Rattle.fisca_time.specs.Period.{Span}
 use Rattle.fisca_yaml.specs.Node.{Node}
+use Rattle.fisca_api.proofs.Givens.{typed_put}
 use Rattle.fisca_api.specs.Evaluators.{Fits, HasNumbers, HaveNumbers}
 use Rattle.fisca_api.specs.Situations.{Situation, all_given, given_as, given_by, situation_in, situation_of}
 use Rattle.fisca_api.specs.Views.{situation as view}
@@ -127,6 +127,10 @@ module _ (rules : RuleSet) (safe : IsSafeRules (rule_set rules)) where
       let typed = inputs_typed (known c) (map rule_of c.variables) (counts_of ms) gs defaults es ts h in
       λ k w there. subst (λ d. IsValueOf d k.variable (value_seen w)) same (input_typed (known c) es typed k w there)
 
+  all_put_typed : (gs hs : List Given) → GivensTyped (known c) gs → GivensTyped (known c) hs → GivensTyped (known c) (put_all_in gs hs)
+  all_put_typed gs [] ts us = ts
+  all_put_typed gs (h ∷ hs) ts us = all_put_typed (put_in gs h) hs (typed_put c gs h ts us.0) us.1
+
   line_free : (r : Result Entries SituationFault) (es : Entries) → of_no_line r ≡ Ok es → r ≡ Ok es
   line_free (Ok fs) es h = h
   line_free (Err f) es h = cc
@@ -165,7 +169,7 @@ module _ (rules : RuleSet) (safe : IsSafeRules (rule_set rules)) where
       (λ es. Ok (record { given = put_in s.given g; situation = record { members = s.shared.members; inputs = es }; slot = slot_of c s.neutral wheel g })) m moves.2 in
       let same : record { given = put_in s.given g; situation = record { members = s.shared.members; inputs = anew.0 }; slot = slot_of c s.neutral wheel g } ≡ m = cc in
       let is = one_moved rules s.shared.members s.given k (slice_get c.variables k.variable) g refl moves.1 in
-      let typed = all_put_typed c s.given (g ∷ []) fits.given (is.1, tt) in
+      let typed = all_put_typed s.given (g ∷ []) fits.given (is.1, tt) in
       subst (λ (x : axes.Moving). Fits rules (record { given = x.given; shared = x.situation; neutral = s.neutral })) same
       (record { given = typed; inputs = anew_fit s.neutral s.shared.members (put_in s.given g) anew.0 typed anew.1 })
 
@@ -176,7 +180,7 @@ module _ (rules : RuleSet) (safe : IsSafeRules (rule_set rules)) where
       → Fits rules (record { given = put_all_in s.given (all_given c vs); shared = record { members = s.shared.members; inputs = es }; neutral = s.neutral })
   at_fits s vs es fits numbers h =
       let gs = put_all_in s.given (all_given c vs) in
-      let typed = all_put_typed c s.given (all_given c vs) fits.given (all_values rules vs numbers) in
+      let typed = all_put_typed s.given (all_given c vs) fits.given (all_values rules vs numbers) in
       record { given = typed; inputs = anew_fit s.neutral s.shared.members gs es typed h }
 
 -- what an axis that was put in moves: its variable has numbers, and its wheel is the one that was asked for

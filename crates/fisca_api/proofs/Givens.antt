@@ -219,7 +219,7 @@ module _ (c : Tables) where
       by true same more = (is, (other_same a g rest same all.1.0, all.1.1))
       by false other more = (all.0, (other_put a g rest all.1.0 other, more))
 
-  typed_put : (gs : List Given) (g : Given) → GivensTyped (known c) gs → IsValueOf (known c) g.variable (value_seen g.value) → GivensTyped (known c) (put_in gs g)
+  pub typed_put : (gs : List Given) (g : Given) → GivensTyped (known c) gs → IsValueOf (known c) g.variable (value_seen g.value) → GivensTyped (known c) (put_in gs g)
   typed_put [] g ts t = (t, tt)
   typed_put (a ∷ rest) g ts t = by (is_same a g) (typed_put rest g ts.1 t)
     where

@@ -43,8 +43,9 @@ use Rattle.fisca_symbols.specs.declared.variable.Variable.{Variable}
 use Rattle.fisca_time.specs.Period.{Span}
 use Rattle.fisca_yaml.specs.Node.{Node}
 use Rattle.fisca_api.proofs.Givens.{typed_put}
+use Rattle.fisca_api.proofs.OfGiven.{unmarked}
 use Rattle.fisca_api.specs.Evaluators.{Fits, HasNumbers, HaveNumbers}
-use Rattle.fisca_api.specs.Situations.{Situation, all_given, given_as, given_by, situation_in, situation_of}
+use Rattle.fisca_api.specs.Situations.{Moved, Situation, all_given, given_as, given_by, situation_at, situation_in, situation_of, with_axis}
 use Rattle.fisca_api.specs.Views.{situation as view}
 use Rattle.fisca_api.specs.declared.situation.Situation as declared
 use Rattle.fisca_api.specs.declared.given.AxisValue.{AxisValue}
@@ -214,3 +215,28 @@ pub read_told : (rules : RuleSet) (default : Option Span) (n : Node) (reading : 
     → Tells view (situation_in rules.tables reading) r → IfOk r (λ s. IsSafeRules (rule_set rules) → Fits rules (view s))
 read_told rules default n reading (Ok s) h told = λ safe. read_fits rules safe default n (view s) (ap (λ x. and_then x (situation_in rules.tables)) h ∙ told)
 read_told rules default n reading (Err f) h told = tt
+
+-- An axis that was put in, with what is kept
+
+pub moved_fits : (rules : RuleSet) → IsSafeRules (rule_set rules) → (s : Situation) (wheel : ℕ) (k : Key) (m : Moved) → Fits rules s → with_axis rules.tables s wheel k ≡ Ok m
+    → Fits rules m.situation
+moved_fits rules safe s wheel k m fits h =
+    let u = unmarked rules.tables s wheel k m h in subst (λ (t : Moved). Fits rules t.situation) u.2.1 (axis_fits rules safe s wheel k u.0 fits u.2.0)
+
+abbrev pub IsSlot : RuleSet → ℕ → ℕ → Slot → Type 0
+IsSlot rules variable wheel t = HasNumbers rules t.variable × (t.wheel ≡ wheel) × (t.variable ≡ variable)
+
+pub moved_slot : (rules : RuleSet) (s : Situation) (wheel : ℕ) (k : Key) (m : Moved) → with_axis rules.tables s wheel k ≡ Ok m → IsSlot rules k.variable wheel m.slot
+moved_slot rules s wheel k m h =
+    let u = unmarked rules.tables s wheel k m h in subst (λ (t : Moved). IsSlot rules k.variable wheel t.slot) u.2.1 (axis_slot rules s wheel k u.0 u.2.0)
+
+-- what is told of a situation in which values are given
+pub at_told : (rules : RuleSet) (s : Situation) (vs : List AxisValue) (r : Result declared.Situation SituationFault) → Tells view (situation_at rules.tables s vs) r
+    → IfOk r (λ t. IsSafeRules (rule_set rules) → Fits rules s → HaveNumbers rules vs → Fits rules (view t))
+at_told rules s vs (Ok t) told = λ safe fits numbers.
+    let c = rules.tables in
+    let gs = put_all_in s.given (all_given c vs) in
+    let anew = then_ok (shared_anew c s.neutral s.shared.members gs) (λ es. Ok (record { given = gs; shared = record { members = s.shared.members; inputs = es }; neutral = s.neutral })) (view t) told in
+    let same : record { given = gs; shared = record { members = s.shared.members; inputs = anew.0 }; neutral = s.neutral } ≡ view t = cc in
+    subst (Fits rules) same (at_fits rules safe s vs anew.0 fits numbers anew.1)
+at_told rules s vs (Err f) told = tt

@@ -40,6 +40,11 @@ marked xs place x less = put_at false xs place true x less ∙ either (x == plac
 pub marked_more : (xs ys : List Bool) (place : ℕ) → place < length ys → ((x : ℕ) → is_at ys x ≡ is_at xs x) → (x : ℕ) → is_at (set ys place true) x ≡ ((x == place) || is_at xs x)
 marked_more xs ys place less same x = marked ys place x less ∙ ap (λ b. (x == place) || b) (same x)
 
+-- what was marked still is
+pub marked_too : (more before after : Bool) → after ≡ (more || before) → before ≡ true → after ≡ true
+marked_too true before after is h = is
+marked_too false before after is h = is ∙ h
+
 pub or_swap : (a b c : Bool) → ((a || b) || c) ≡ (b || (a || c))
 or_swap true true c = refl
 or_swap true false c = refl

@@ -1,12 +1,13 @@
 -- Inputs of a situation stay those that are given, shared.
 use Rattle.std.proofs.Common.{◌≡◌, ℕ, List, [], ◌∷◌, map, Bool, true, false, cond, not, refl, sym, ap, subst, ◌∙◌}
-use Rattle.std.specs.Prelude.{Option, Some, slice_get, Result, Ok}
+use Rattle.std.specs.Prelude.{IfOk, Option, Some, slice_get, Result, Ok, Err}
 use Rattle.std.specs.List.{list_any}
 use Rattle.fisca_groups.specs.Lookup.{counts_of}
 use Rattle.fisca_groups.specs.declared.entity_members.EntityMembers.{EntityMembers}
 use Rattle.fisca_inputs.proofs.Typed.{then_ok}
 use Rattle.fisca_inputs.specs.Entries.{Entries, same_key, value_at}
 use Rattle.fisca_inputs.specs.Inputs.{inputs_of, without_marked}
+use Rattle.fisca_inputs.specs.Outcomes.{Tells}
 use Rattle.fisca_inputs.specs.Rules.{rule_of}
 use Rattle.fisca_inputs.specs.Steps.Inputs.{is_marked}
 use Rattle.fisca_inputs.specs.declared.fault.SituationFault.{SituationFault}
@@ -25,6 +26,7 @@ use Rattle.fisca_situations.specs.Steps.Axes.{moved, of_no_line, put_in, shared_
 use Rattle.fisca_situations.specs.Steps.Cuts.{cut_for}
 use Rattle.fisca_situations.specs.Steps.Situations.{reading_of, situation_by}
 use Rattle.fisca_situations.specs.Steps.Slots.{keys_of, slot_of, turned}
+use Rattle.fisca_situations.specs.declared.reading.Reading.{Reading}
 use Rattle.fisca_symbols.specs.declared.tables.Tables.{Tables}
 use Rattle.fisca_symbols.specs.declared.variable.Variable.{Variable}
 use Rattle.fisca_time.specs.Period.{Span, is_period}
@@ -35,7 +37,9 @@ use Rattle.fisca_api.proofs.Turns.{given_then, moved_then, put, shared as shared
 use Rattle.fisca_api.specs.Axes.{AreGiven, HasParts, HasPeriod, IsMoved}
 use Rattle.fisca_api.specs.OfGiven.{AreAxisValues, IsAxisValue, IsOfGiven, axis_value, turned_to}
 use Rattle.fisca_api.specs.Situations.{Moved, Situation, all_given, given_as, given_by, situation_at, situation_in, situation_of, with_axis}
+use Rattle.fisca_api.specs.Views.{situation as view}
 use Rattle.fisca_api.specs.declared.given.AxisValue.{AxisValue}
+use Rattle.fisca_api.specs.declared.situation.Situation as declared
 
 -- Neutralised variables
 
@@ -94,11 +98,11 @@ module _ (c : Tables) (s : Situation) (wheel : ℕ) (k : Key) where
       }
 
   -- the axis that was put in, before the marks
-  abbrev Unmarked : Moved → Type 0
+  abbrev pub Unmarked : Moved → Type 0
   Unmarked m = (n : axes.Moving) × (axes.with_axis c s.neutral s.shared s.given wheel k ≡ Ok n)
       × (record { situation = record { given = n.given; shared = n.situation; neutral = s.neutral }; slot = n.slot } ≡ m)
 
-  unmarked : (m : Moved) → with_axis c s wheel k ≡ Ok m → Unmarked m
+  pub unmarked : (m : Moved) → with_axis c s wheel k ≡ Ok m → Unmarked m
   unmarked m h =
       let moves = then_ok (axes.with_axis c s.neutral s.shared s.given wheel k)
           (λ n. Ok (record { situation = record { given = n.given; shared = n.situation; neutral = s.neutral }; slot = n.slot })) m h in
@@ -168,3 +172,15 @@ module _ (c : Tables) where
       let anew = then_ok (shared_anew c s.neutral s.shared.members gs) (λ es. Ok (record { given = gs; shared = record { members = s.shared.members; inputs = es }; neutral = s.neutral })) t h in
       let same : record { given = gs; shared = record { members = s.shared.members; inputs = anew.0 }; neutral = s.neutral } ≡ t = cc in
       subst (IsOfGiven c) same (record { given = all_put s.given vs is.given are; shared = anew.1 })
+
+-- What is told of situations
+
+pub read_kept_told : (c : Tables) (default : Option Span) (n : Node) (reading : Reading) (r : Result declared.Situation SituationFault) → reading_of c default 1 n ≡ Ok reading
+    → Tells view (situation_in c reading) r → IfOk r (λ s. HasPeriod default → IsOfGiven c (view s))
+read_kept_told c default n reading (Ok s) h told = λ period. read_kept c default n (view s) period (ap (λ x. and_then x (situation_in c)) h ∙ told)
+read_kept_told c default n reading (Err f) h told = tt
+
+pub at_kept_told : (c : Tables) (s : Situation) (vs : List AxisValue) (r : Result declared.Situation SituationFault) → Tells view (situation_at c s vs) r
+    → IfOk r (λ t. IsOfGiven c s → AreAxisValues c vs → IsOfGiven c (view t))
+at_kept_told c s vs (Ok t) told = λ is are. at_kept c s vs (view t) is are told
+at_kept_told c s vs (Err f) told = tt

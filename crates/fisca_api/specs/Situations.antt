@@ -1,5 +1,6 @@
 -- Situations that keep what is given and which variables are neutralised.
 use Rattle.std.specs.Prelude.{ℕ, List, [], Bool, map, slice_get, Option, Some, None, Result, Ok}
+use Rattle.fisca_groups.specs.declared.entity_members.EntityMembers.{EntityMembers}
 use Rattle.fisca_inputs.specs.declared.fault.SituationFault.{SituationFault}
 use Rattle.fisca_inputs.specs.declared.given.Given.{Given}
 use Rattle.fisca_model.specs.Periods.{key_period}
@@ -64,8 +65,10 @@ given_by c a = given_as a (slice_get c.variables a.variable)
 abbrev pub all_given : Tables → List AxisValue → List Given
 all_given c = map (given_by c)
 
+-- this is given to the members, and shared anew
+abbrev pub situation_with : Tables → List Bool → List EntityMembers → List Given → Result Situation SituationFault
+situation_with c neutral ms gs = and_then (shared_anew c neutral ms gs) (λ es. Ok (record { given = gs; shared = record { members = ms; inputs = es }; neutral = neutral }))
+
 -- each is put in, or in the place of that of just its variable, member and period, and all are shared anew
 abbrev pub situation_at : Tables → Situation → List AxisValue → Result Situation SituationFault
-situation_at c s vs =
-    and_then (shared_anew c s.neutral s.shared.members (put_all_in s.given (all_given c vs)))
-    (λ es. Ok (record { given = put_all_in s.given (all_given c vs); shared = record { members = s.shared.members; inputs = es }; neutral = s.neutral }))
+situation_at c s vs = situation_with c s.neutral s.shared.members (put_all_in s.given (all_given c vs))

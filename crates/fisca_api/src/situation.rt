@@ -28,6 +28,7 @@ use crate::formula::{EntityId, VarId};
 use crate::given::{AxisValue, given_copied, with_values};
 use crate::marks::{marks_copied, wheels_copied, with_all, with_wheel};
 use fisca_inputs::{Given, Inputs, SituationFault, SituationKind};
+use fisca_members::Members;
 use fisca_model::{Key, Value};
 use fisca_rules::RuleSet;
 use fisca_situations::{Reading, Slot, reading_of, shared_anew};
@@ -73,6 +74,34 @@ fn situation_of(
     })
 }
 
+/// The situation of these members in which this is given, shared anew, with these marks.
+fn situation_with(
+    alloc: Global,
+    tables: &Tables<'_>,
+    members: Members,
+    given: Vec<Given>,
+    neutral: Vec<bool>,
+    wheels: Vec<u16>,
+) -> Result<Situation, SituationFault>
+    ensures situation { Tells situation_view (spec.situation_with tables.now neutral.items members given.items) result }
+    ensures wheels { IfOk result (λ s. s.wheels.items ≡ wheels.items) }
+{
+    let inputs = shared_anew(
+        alloc,
+        tables,
+        neutral.as_slice(),
+        &members,
+        given.as_slice(),
+    )?;
+    Ok(Situation {
+        alloc,
+        shared: fisca_situations::Situation { members, inputs },
+        given,
+        neutral,
+        wheels,
+    })
+}
+
 /// Whether this is given for this variable and member, and for a period that shares a day with this one.
 fn is_across(variable: VarId, member: u32, period: Period, given: &Given) -> bool
     ensures { result ≡ overlaps.is_across variable member period given.now }
@@ -87,6 +116,25 @@ fn is_overlap(variable: VarId, member: u32, period: Period, given: &Given) -> bo
     given.period.unit() != Unit::Eternity
         && is_across(variable, member, period, given)
         && given.period != period
+}
+
+impl Situation {
+    /// Makes the inputs that an axis will move, without a mark.
+    fn put_axis(
+        &mut self,
+        alloc: Global,
+        rules: &RuleSet<'_>,
+        key: &Key,
+        wheel: u32,
+    ) -> Result<Slot, SituationFault>
+        ensures moved { Tells (λ s. record { situation = situation_view self.new; slot = slot_view s })
+            (spec.with_axis rules.now.tables (situation_view self.old) wheel key.now) result }
+        ensures wheels { self.new.wheels ≡ self.old.wheels }
+        ensures kept { OnErr result (self.new ≡ self.old) }
+    {
+        let neutral = self.neutral.as_slice();
+        self.shared.axis(alloc, &rules.tables, neutral, &mut self.given, key, wheel)
+    }
 }
 
 impl Situation {
@@ -196,8 +244,7 @@ impl Situation {
             member,
             period,
         };
-        let neutral = self.neutral.as_slice();
-        let slot = self.shared.axis(alloc, &rules.tables, neutral, &mut self.given, &key, wheel)?;
+        let slot = self.put_axis(alloc, rules, &key, wheel)?;
         self.wheels = wheels;
         Ok(slot)
     }
@@ -239,19 +286,6 @@ impl Situation {
         let wheels = wheels_copied(alloc, self.wheels.as_slice())?;
         let given = with_values(alloc, tables, self.given.as_slice(), values)?;
         let members = self.shared.members.copied(alloc)?;
-        let inputs = shared_anew(
-            alloc,
-            tables,
-            neutral.as_slice(),
-            &members,
-            given.as_slice(),
-        )?;
-        Ok(Situation {
-            alloc,
-            shared: fisca_situations::Situation { members, inputs },
-            given,
-            neutral,
-            wheels,
-        })
+        situation_with(alloc, tables, members, given, neutral, wheels)
     }
 }

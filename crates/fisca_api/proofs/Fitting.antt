@@ -221,14 +221,14 @@ read_told rules default n reading (Err f) h told = tt
 pub moved_fits : (rules : RuleSet) → IsSafeRules (rule_set rules) → (s : Situation) (wheel : ℕ) (k : Key) (m : Moved) → Fits rules s → with_axis rules.tables s wheel k ≡ Ok m
     → Fits rules m.situation
 moved_fits rules safe s wheel k m fits h =
-    let u = unmarked rules.tables s wheel k m h in subst (λ (t : Moved). Fits rules t.situation) u.2.1 (axis_fits rules safe s wheel k u.0 fits u.2.0)
+    let u = unmarked rules.tables s wheel k m h in subst (λ (t : Moved). Fits rules t.situation) u.2 (axis_fits rules safe s wheel k u.0 fits u.1)
 
 abbrev pub IsSlot : RuleSet → ℕ → ℕ → Slot → Type 0
 IsSlot rules variable wheel t = HasNumbers rules t.variable × (t.wheel ≡ wheel) × (t.variable ≡ variable)
 
 pub moved_slot : (rules : RuleSet) (s : Situation) (wheel : ℕ) (k : Key) (m : Moved) → with_axis rules.tables s wheel k ≡ Ok m → IsSlot rules k.variable wheel m.slot
 moved_slot rules s wheel k m h =
-    let u = unmarked rules.tables s wheel k m h in subst (λ (t : Moved). IsSlot rules k.variable wheel t.slot) u.2.1 (axis_slot rules s wheel k u.0 u.2.0)
+    let u = unmarked rules.tables s wheel k m h in subst (λ (t : Moved). IsSlot rules k.variable wheel t.slot) u.2 (axis_slot rules s wheel k u.0 u.1)
 
 -- what is told of a situation in which values are given
 pub at_told : (rules : RuleSet) (s : Situation) (vs : List AxisValue) (r : Result declared.Situation SituationFault) → Tells view (situation_at rules.tables s vs) r

@@ -112,7 +112,7 @@ module _ (c : Tables) (s : Situation) (wheel : ℕ) (k : Key) where
   pub moved_kept : (m : Moved) → IsOfGiven c s → is_period k.period ≡ true → with_axis c s wheel k ≡ Ok m → IsOfGiven c m.situation
   moved_kept m is period h =
       let u = unmarked m h in
-      subst (λ (t : Moved). IsOfGiven c t.situation) u.2.1 (axis_kept u.0 is period u.2.0)
+      subst (λ (t : Moved). IsOfGiven c t.situation) u.2 (axis_kept u.0 is period u.1)
 
   -- Turning
 
@@ -122,22 +122,22 @@ module _ (c : Tables) (s : Situation) (wheel : ℕ) (k : Key) where
       let kept = axis_kept n is period h in
       let moves = moved_then c s.neutral s.shared s.given wheel k n is.given h period in
       let x = moves.0 in
-      let alike : given_by c (axis_value k value) ≡ given_as (axis_value k value) (Some x) = ap (given_as (axis_value k value)) moves.2.0.declared in
-      let there = turned_shared c s.neutral n.situation.members n.given n.situation.inputs wheel x k value kept.given moves.2.0 parts kept.shared in
+      let alike : given_by c (axis_value k value) ≡ given_as (axis_value k value) (Some x) = ap (given_as (axis_value k value)) moves.1.declared in
+      let there = turned_shared c s.neutral n.situation.members n.given n.situation.inputs wheel x k value kept.given moves.1 parts kept.shared in
       subst (λ g. shared_anew c s.neutral n.situation.members (put_in n.given g) ≡ Ok (turned n.slot value n.situation.inputs)) (sym alike)
-      (there ∙ ap (λ (t : Slot). Ok (turned t value n.situation.inputs)) (sym moves.2.1))
+      (there ∙ ap (λ (t : Slot). Ok (turned t value n.situation.inputs)) (sym moves.2))
 
   pub turned_at : (m : Moved) (value : Number) → IsOfGiven c s → is_period k.period ≡ true → with_axis c s wheel k ≡ Ok m → HasParts value
       → situation_at c m.situation (axis_value k value ∷ []) ≡ Ok (turned_to c m k value)
   turned_at m value is period h parts =
       let u = unmarked m h in
       let n = u.0 in
-      subst (λ (t : Moved). situation_at c t.situation (axis_value k value ∷ []) ≡ Ok (turned_to c t k value)) u.2.1
+      subst (λ (t : Moved). situation_at c t.situation (axis_value k value ∷ []) ≡ Ok (turned_to c t k value)) u.2
       (ap (λ (r : Result Entries SituationFault). and_then r (λ es. Ok (record {
         given = put_in n.given (given_by c (axis_value k value));
         shared = record { members = n.situation.members; inputs = es };
         neutral = s.neutral;
-      }))) (anew_turned n value is period u.2.0 parts))
+      }))) (anew_turned n value is period u.1 parts))
 
 -- each key of the slot has a number
 pub axis_numbers : (rules : RuleSet) → IsSafeRules (rule_set rules) → (s : Situation) (wheel : ℕ) (k : Key) (m : Moved) → IsOfGiven rules.tables s → is_period k.period ≡ true
@@ -146,12 +146,12 @@ axis_numbers rules safe s wheel k m is period h =
     let c = rules.tables in
     let u = unmarked c s wheel k m h in
     let n = u.0 in
-    let kept = axis_kept c s wheel k n is period u.2.0 in
-    let moves = moved_then c s.neutral s.shared s.given wheel k n is.given u.2.0 period in
-    let own = slot_numbers rules safe s.neutral n.situation.members n.given n.situation.inputs wheel moves.0 k kept.given moves.2.0 kept.shared in
+    let kept = axis_kept c s wheel k n is period u.1 in
+    let moves = moved_then c s.neutral s.shared s.given wheel k n is.given u.1 period in
+    let own = slot_numbers rules safe s.neutral n.situation.members n.given n.situation.inputs wheel moves.0 k kept.given moves.1 kept.shared in
     let numbers : (key : Key) → list_any (same_key key) (keys_of n.slot) ≡ true → (number : Number) × (value_at n.situation.inputs key ≡ Some (v.Number number)) =
-        λ key there. own key (subst (λ (t : Slot). list_any (same_key key) (keys_of t) ≡ true) moves.2.1 there) in
-    subst (λ (t : Moved). (key : Key) → list_any (same_key key) (keys_of t.slot) ≡ true → (number : Number) × (value_at t.situation.shared.inputs key ≡ Some (v.Number number))) u.2.1 numbers
+        λ key there. own key (subst (λ (t : Slot). list_any (same_key key) (keys_of t) ≡ true) moves.2 there) in
+    subst (λ (t : Moved). (key : Key) → list_any (same_key key) (keys_of t.slot) ≡ true → (number : Number) × (value_at t.situation.shared.inputs key ≡ Some (v.Number number))) u.2 numbers
 
 -- Values in place of axes
 

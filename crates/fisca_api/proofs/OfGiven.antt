@@ -83,7 +83,7 @@ read_kept c default n s period h =
     let same : record { given = read.0.given; shared = whole.0; neutral = [] } ≡ s = cc in
     let anew = ap (λ (r : Result Entries SituationFault). of_no_line (and_then r (λ es. Ok (without_marked [] es)))) shared.1 ∙ ap Ok (none_taken shared.0) in
     let is : IsOfGiven c (record { given = read.0.given; shared = record { members = read.0.members; inputs = shared.0 }; neutral = [] }) =
-        record { given = read_given c default 1 n read.0 period read.1; shared = anew } in
+    record { given = read_given c default 1 n read.0 period read.1; shared = anew } in
     subst (IsOfGiven c) same (subst (λ t. IsOfGiven c (record { given = read.0.given; shared = t; neutral = [] })) inner is)
 
 -- An axis
@@ -105,7 +105,7 @@ module _ (c : Tables) (s : Situation) (wheel : ℕ) (k : Key) where
   pub unmarked : (m : Moved) → with_axis c s wheel k ≡ Ok m → Unmarked m
   unmarked m h =
       let moves = then_ok (axes.with_axis c s.neutral s.shared s.given wheel k)
-          (λ n. Ok (record { situation = record { given = n.given; shared = n.situation; neutral = s.neutral }; slot = n.slot })) m h in
+      (λ n. Ok (record { situation = record { given = n.given; shared = n.situation; neutral = s.neutral }; slot = n.slot })) m h in
       let same : record { situation = record { given = moves.0.given; shared = moves.0.situation; neutral = s.neutral }; slot = moves.0.slot } ≡ m = cc in
       (moves.0, moves.1, same)
 
@@ -150,7 +150,7 @@ axis_numbers rules safe s wheel k m is period h =
     let moves = moved_then c s.neutral s.shared s.given wheel k n is.given u.1 period in
     let own = slot_numbers rules safe s.neutral n.situation.members n.given n.situation.inputs wheel moves.0 k kept.given moves.1 kept.shared in
     let numbers : (key : Key) → list_any (same_key key) (keys_of n.slot) ≡ true → (number : Number) × (value_at n.situation.inputs key ≡ Some (v.Number number)) =
-        λ key there. own key (subst (λ (t : Slot). list_any (same_key key) (keys_of t) ≡ true) moves.2 there) in
+    λ key there. own key (subst (λ (t : Slot). list_any (same_key key) (keys_of t) ≡ true) moves.2 there) in
     subst (λ (t : Moved). (key : Key) → list_any (same_key key) (keys_of t.slot) ≡ true → (number : Number) × (value_at t.situation.shared.inputs key ≡ Some (v.Number number))) u.2 numbers
 
 -- Values in place of axes

@@ -133,7 +133,8 @@ impl Situation {
         ensures kept { OnErr result (self.new ≡ self.old) }
     {
         let neutral = self.neutral.as_slice();
-        self.shared.axis(alloc, &rules.tables, neutral, &mut self.given, key, wheel)
+        self.shared
+            .axis(alloc, &rules.tables, neutral, &mut self.given, key, wheel)
     }
 }
 

@@ -30,7 +30,7 @@ fn options_of(options: fisca_command_line::RunOptions) -> RunOptions
 
 /// The task.
 pub fn task_of<'a>(task: fisca_command_line::Task<'a>) -> Task<'a>
-    ensures { result ≡ spec.task_of task }
+    ensures { result ≡ spec.task_of task.entry }
 {
     match task {
         fisca_command_line::Task::Check { rules } => Task::Check { rules },

@@ -14,6 +14,7 @@ ghost use Rattle.fisca_groups.specs.Lookup.{count_at, name_at};
 ghost use Rattle.fisca_inputs.specs.Entries as entries;
 ghost use Rattle.fisca_inputs.specs.Inputs.{without_marked};
 ghost use Rattle.fisca_inputs.specs.Outcomes.{Tells};
+ghost use Rattle.fisca_inputs.specs.Overlaps.{shares_day};
 ghost use Rattle.fisca_inputs.specs.Steps.Overlaps as overlaps;
 ghost use Rattle.fisca_model.specs.Values as meaning;
 ghost use Rattle.fisca_rules.specs.Views.{rule_set};
@@ -102,11 +103,18 @@ fn situation_with(
     })
 }
 
+/// Whether two periods share a day.
+fn shares_day(ours: Period, theirs: Period) -> bool
+    ensures { result ≡ shares_day ours theirs }
+{
+    ours.overlaps(&theirs)
+}
+
 /// Whether this is given for this variable and member, and for a period that shares a day with this one.
 fn is_across(variable: VarId, member: u32, period: Period, given: &Given) -> bool
     ensures { result ≡ overlaps.is_across variable member period given.now }
 {
-    given.variable == variable && given.member == member && given.period.overlaps(&period)
+    given.variable == variable && given.member == member && shares_day(given.period, period)
 }
 
 /// Whether an input of this variable and member is for another period that shares a day with this one.

@@ -116,44 +116,41 @@ module _ (rules : RuleSet) where
 -- Sharing
 
 module _ (rules : RuleSet) (safe : IsSafeRules (rule_set rules)) where
-  abbrev c : Tables
-  c = rules.tables
-
   -- before the inputs of neutralised variables are taken out
-  shared_fit : (ms : List EntityMembers) (gs : List Given) (es : Entries) → GivensTyped (known c) gs → inputs_of (map rule_of c.variables) (counts_of ms) gs ≡ Ok es
+  shared_fit : (ms : List EntityMembers) (gs : List Given) (es : Entries) → GivensTyped (known rules.tables) gs → inputs_of (map rule_of rules.tables.variables) (counts_of ms) gs ≡ Ok es
       → InputsFit (rule_set rules) (record { members = ms; inputs = es })
   shared_fit ms gs es ts h =
       let same = tables_known rules in
-      let defaults = subst (λ d. DefaultsTyped d (map rule_of c.variables)) (sym same) (defaults_typed rules safe.defaults) in
-      let typed = inputs_typed (known c) (map rule_of c.variables) (counts_of ms) gs defaults es ts h in
-      λ k w there. subst (λ d. IsValueOf d k.variable (value_seen w)) same (input_typed (known c) es typed k w there)
+      let defaults = subst (λ d. DefaultsTyped d (map rule_of rules.tables.variables)) (sym same) (defaults_typed rules safe.defaults) in
+      let typed = inputs_typed (known rules.tables) (map rule_of rules.tables.variables) (counts_of ms) gs defaults es ts h in
+      λ k w there. subst (λ d. IsValueOf d k.variable (value_seen w)) same (input_typed (known rules.tables) es typed k w there)
 
-  all_put_typed : (gs hs : List Given) → GivensTyped (known c) gs → GivensTyped (known c) hs → GivensTyped (known c) (put_all_in gs hs)
+  all_put_typed : (gs hs : List Given) → GivensTyped (known rules.tables) gs → GivensTyped (known rules.tables) hs → GivensTyped (known rules.tables) (put_all_in gs hs)
   all_put_typed gs [] ts us = ts
-  all_put_typed gs (h ∷ hs) ts us = all_put_typed (put_in gs h) hs (typed_put c gs h ts us.0) us.1
+  all_put_typed gs (h ∷ hs) ts us = all_put_typed (put_in gs h) hs (typed_put rules.tables gs h ts us.0) us.1
 
   line_free : (r : Result Entries SituationFault) (es : Entries) → of_no_line r ≡ Ok es → r ≡ Ok es
   line_free (Ok fs) es h = h
   line_free (Err f) es h = cc
 
-  anew_fit : (neutral : List Bool) (ms : List EntityMembers) (gs : List Given) (es : Entries) → GivensTyped (known c) gs → shared_anew c neutral ms gs ≡ Ok es
+  anew_fit : (neutral : List Bool) (ms : List EntityMembers) (gs : List Given) (es : Entries) → GivensTyped (known rules.tables) gs → shared_anew rules.tables neutral ms gs ≡ Ok es
       → InputsFit (rule_set rules) (record { members = ms; inputs = es })
   anew_fit neutral ms gs es ts h =
-      let given = inputs_of (map rule_of c.variables) (counts_of ms) gs in
+      let given = inputs_of (map rule_of rules.tables.variables) (counts_of ms) gs in
       let left = line_free (and_then given (λ fs. Ok (without_marked neutral fs))) es h in
       let one = then_ok given (λ fs. Ok (without_marked neutral fs)) es left in
       let taken : without_marked neutral one.0 ≡ es = cc in
       fits_left (rule_set rules) neutral (record { members = ms; inputs = one.0 }) (record { members = ms; inputs = es }) (shared_fit ms gs one.0 ts one.1) (sym taken)
 
-  pub read_fits : (default : Option Span) (n : Node) (s : Situation) → situation_of c default n ≡ Ok s → Fits rules s
+  pub read_fits : (default : Option Span) (n : Node) (s : Situation) → situation_of rules.tables default n ≡ Ok s → Fits rules s
   read_fits default n s h =
-      let read = then_ok (reading_of c default 1 n) (situation_in c) s h in
-      let whole = then_ok (situation_by c read.0) (λ t. Ok (record { given = read.0.given; shared = t; neutral = [] })) s read.2 in
-      let given = inputs_of (map rule_of c.variables) (counts_of read.0.members) read.0.given in
+      let read = then_ok (reading_of rules.tables default 1 n) (situation_in rules.tables) s h in
+      let whole = then_ok (situation_by rules.tables read.0) (λ t. Ok (record { given = read.0.given; shared = t; neutral = [] })) s read.2 in
+      let given = inputs_of (map rule_of rules.tables.variables) (counts_of read.0.members) read.0.given in
       let shared = then_ok given (λ es. Ok (record { members = read.0.members; inputs = es })) whole.0 whole.1 in
       let inner : record { members = read.0.members; inputs = shared.0 } ≡ whole.0 = cc in
       let same : record { given = read.0.given; shared = whole.0; neutral = [] } ≡ s = cc in
-      let typed = read_all_typed c default 1 n read.0 read.1 in
+      let typed = read_all_typed rules.tables default 1 n read.0 read.1 in
       subst (Fits rules) same (record {
         given = typed;
         inputs = subst (InputsFit (rule_set rules)) inner (shared_fit read.0.members read.0.given shared.0 typed shared.1);
@@ -161,15 +158,15 @@ module _ (rules : RuleSet) (safe : IsSafeRules (rule_set rules)) where
 
   -- An axis
 
-  pub axis_fits : (s : Situation) (wheel : ℕ) (k : Key) (m : axes.Moving) → Fits rules s → axes.with_axis c s.neutral s.shared s.given wheel k ≡ Ok m
+  pub axis_fits : (s : Situation) (wheel : ℕ) (k : Key) (m : axes.Moving) → Fits rules s → axes.with_axis rules.tables s.neutral s.shared s.given wheel k ≡ Ok m
       → Fits rules (record { given = m.given; shared = m.situation; neutral = s.neutral })
   axis_fits s wheel k m fits h =
-      let moves = then_ok (moved_of c s.shared.members s.given k) (moving c s.neutral s.shared s.given wheel) m h in
+      let moves = then_ok (moved_of rules.tables s.shared.members s.given k) (moving rules.tables s.neutral s.shared s.given wheel) m h in
       let g = moves.0 in
-      let anew = then_ok (shared_anew c s.neutral s.shared.members (put_in s.given g))
-      (λ es. Ok (record { given = put_in s.given g; situation = record { members = s.shared.members; inputs = es }; slot = slot_of c s.neutral wheel g })) m moves.2 in
-      let same : record { given = put_in s.given g; situation = record { members = s.shared.members; inputs = anew.0 }; slot = slot_of c s.neutral wheel g } ≡ m = cc in
-      let is = one_moved rules s.shared.members s.given k (slice_get c.variables k.variable) g refl moves.1 in
+      let anew = then_ok (shared_anew rules.tables s.neutral s.shared.members (put_in s.given g))
+      (λ es. Ok (record { given = put_in s.given g; situation = record { members = s.shared.members; inputs = es }; slot = slot_of rules.tables s.neutral wheel g })) m moves.2 in
+      let same : record { given = put_in s.given g; situation = record { members = s.shared.members; inputs = anew.0 }; slot = slot_of rules.tables s.neutral wheel g } ≡ m = cc in
+      let is = one_moved rules s.shared.members s.given k (slice_get rules.tables.variables k.variable) g refl moves.1 in
       let typed = all_put_typed s.given (g ∷ []) fits.given (is.1, tt) in
       subst (λ (x : axes.Moving). Fits rules (record { given = x.given; shared = x.situation; neutral = s.neutral })) same
       (record { given = typed; inputs = anew_fit s.neutral s.shared.members (put_in s.given g) anew.0 typed anew.1 })
@@ -177,11 +174,11 @@ module _ (rules : RuleSet) (safe : IsSafeRules (rule_set rules)) where
   -- Values in place of axes
 
   pub at_fits : (s : Situation) (vs : List AxisValue) (es : Entries) → Fits rules s → HaveNumbers rules vs
-      → shared_anew c s.neutral s.shared.members (put_all_in s.given (all_given c vs)) ≡ Ok es
-      → Fits rules (record { given = put_all_in s.given (all_given c vs); shared = record { members = s.shared.members; inputs = es }; neutral = s.neutral })
+      → shared_anew rules.tables s.neutral s.shared.members (put_all_in s.given (all_given rules.tables vs)) ≡ Ok es
+      → Fits rules (record { given = put_all_in s.given (all_given rules.tables vs); shared = record { members = s.shared.members; inputs = es }; neutral = s.neutral })
   at_fits s vs es fits numbers h =
-      let gs = put_all_in s.given (all_given c vs) in
-      let typed = all_put_typed s.given (all_given c vs) fits.given (all_values rules vs numbers) in
+      let gs = put_all_in s.given (all_given rules.tables vs) in
+      let typed = all_put_typed s.given (all_given rules.tables vs) fits.given (all_values rules vs numbers) in
       record { given = typed; inputs = anew_fit s.neutral s.shared.members gs es typed h }
 
 -- what an axis that was put in moves: its variable has numbers, and its wheel is the one that was asked for

@@ -51,11 +51,12 @@ module _ (before after : List Bool) (more : (x : ℕ) → is_marked before x ≡
   -- what is taken out by fewer marks first
   taken_twice : (es : Entries) → without_marked after (without_marked before es) ≡ without_marked after es
   taken_twice [] = refl
-  taken_twice (e ∷ es) = by (is_marked before e.0.variable) refl
+  taken_twice (e ∷ es) = by (is_marked before e.0.variable) refl (taken_twice es)
     where
-      by : (b : Bool) → is_marked before e.0.variable ≡ b → without_marked after (cond (not b) (e ∷ without_marked before es) (without_marked before es)) ≡ without_marked after (e ∷ es)
-      by true is = taken_twice es ∙ sym (ap (λ b. cond (not b) (e ∷ without_marked after es) (without_marked after es)) (more e.0.variable is))
-      by false is = ap (λ fs. cond (not (is_marked after e.0.variable)) (e ∷ fs) fs) (taken_twice es)
+      by : (b : Bool) → is_marked before e.0.variable ≡ b → without_marked after (without_marked before es) ≡ without_marked after es
+          → without_marked after (cond (not b) (e ∷ without_marked before es) (without_marked before es)) ≡ without_marked after (e ∷ es)
+      by true is rest = rest ∙ sym (ap (λ b. cond (not b) (e ∷ without_marked after es) (without_marked after es)) (more e.0.variable is))
+      by false is rest = ap (λ fs. cond (not (is_marked after e.0.variable)) (e ∷ fs) fs) rest
 
   marked_anew : (c : Tables) (ms : List EntityMembers) (gs : List Given) (es : Entries) → shared_anew c before ms gs ≡ Ok es → shared_anew c after ms gs ≡ Ok (without_marked after es)
   marked_anew c ms gs es h =

@@ -11,7 +11,7 @@ use Rattle.fisca_rules.specs.Views.{rule_set}
 use Rattle.fisca_rules.specs.declared.rule_set.RuleSet.{RuleSet}
 use Rattle.fisca_run_file.specs.RunFiles.{run_file_of}
 use Rattle.fisca_run_file.specs.Views.{run_file as run_file_view}
-use Rattle.fisca_run_file.specs.declared.run_file.RunFile.{RunFile}
+use Rattle.fisca_run_file.specs.declared.file.RunFile.{RunFile}
 use Rattle.fisca_simulation.specs.Sound.{InputsFit, IsSafeRules}
 use Rattle.fisca_yaml.specs.Node.{Node}
 

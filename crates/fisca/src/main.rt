@@ -1,18 +1,13 @@
 //! The program `fisca`: reads the command line, runs the command, and tells how it ended by its exit status.
 #![tactic(auto)]
 
-mod arguments;
-mod asked;
 mod folder;
-mod help;
 mod lines;
-mod misuse;
 mod output;
-mod subcommands;
-mod task;
 
 use clap::error::ErrorKind;
-use fisca_commands::{Ending, LineSource, Task, calc_lines, run_task};
+use fisca_command_line::{LinesTask, Task, Work, read_task};
+use fisca_commands::{Ending, LineSource, calc_lines, run_task};
 use fisca_folder::{FolderFault, LONGEST, read_rules, text_of_file};
 use fisca_params::SourceFile;
 use fisca_writer::StreamSink;
@@ -22,7 +17,6 @@ use output::{ErrorOutput, Output, Stream, fits};
 use std::io::{BufReader, BufWriter, Input, Write};
 use std::process::ExitCode;
 use std::{env, io};
-use task::{LinesTask, Work, read_task};
 
 /// The status of a command line that `clap` refused.
 const USAGE: u8 = 2;

@@ -1,6 +1,6 @@
 -- What is listed of a rule set: a line for each variable, in the order in which its modules declare them, which is that of their paths and of the lines in
 -- each. A line has eight cells, all of them texts.
-use Rattle.std.specs.Prelude.{ℕ, suc, List, [], ◌∷◌, ◌++◌, map, codes, slice_get, Option, Some, None}
+use Rattle.std.specs.Prelude.{ℕ, ◌+◌, List, [], ◌∷◌, ◌++◌, map, codes, slice_get, Option, Some, None}
 use Rattle.std.specs.Fmt.{decimal}
 use Rattle.std.specs.Str.Lossy.{utf8_lossy}
 use Rattle.std.specs.declared.convert.Infallible.{Infallible}
@@ -110,7 +110,7 @@ listed_row form modules r place = row_by form modules r place (slice_get r.varia
 -- the lines of these variables, of which the first stands at a place, each with its position
 abbrev pub lines_from : Form → List Source → Rules → ℕ → List Variable → List (ℕ × List ℕ)
 lines_from form modules r place [] = []
-lines_from form modules r place (v ∷ vs) = (place, line_of form modules r place v) ∷ lines_from form modules r (suc place) vs
+lines_from form modules r place (v ∷ vs) = (place, line_of form modules r place v) ∷ lines_from form modules r (place + 1) vs
 
 -- all lines
 abbrev pub listing : Form → List Source → Rules → List (ℕ × List ℕ)

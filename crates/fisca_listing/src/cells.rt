@@ -79,8 +79,8 @@ fn texts_of(
 fn write_cells(form: &LineForm, texts: &[String], line: &mut String) -> Result<(), AllocError>
     ensures { OnOk result (string_bytes line.new ≡ string_bytes line.old ++ cells_from form.now.format form.now.names 0 (map quoted (map (λ t. string_bytes t) texts.now))) }
 {
-    for (place, text) in texts.iter().enumerate() {
-        form.write_cell(place, false, text.as_str(), line)?;
+    for place in 0..texts.len() {
+        form.write_cell(place, false, texts[place].as_str(), line)?;
     }
     Ok(())
 }

@@ -7,5 +7,6 @@ mod refusal;
 mod rule_files;
 
 pub use check::check_rules;
+pub use modules::modules_of;
 pub use refusal::{Refusal, Unanswered};
 pub use rule_files::rules_of;

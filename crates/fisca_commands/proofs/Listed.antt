@@ -19,8 +19,8 @@ use Rattle.fisca_commands.specs.Listed.{AreListed, IsListedIn}
 use Rattle.fisca_commands.specs.declared.options.TableForm.{TableForm}
 
 module _ (form : Form) (modules : List Source) (r : Rules) (lines : range_lines (listed_row form modules r) (length r.variables) 0 no_limit ≡ listing form modules r) (old new : Option (List ℕ)) where
-  pub all_listed : (end : RunEnd) (unit : Unit) → IsRun (listed_row form modules r) (length r.variables) 0 no_limit old new (Ok end) → AreListed (listing form modules r) old new (Ok unit)
-  all_listed end unit is = subst (λ ls. Appends old new (texts ls)) lines is.2
+  pub all_listed : (end : RunEnd) → IsRun (listed_row form modules r) (length r.variables) 0 no_limit old new (Ok end) → Appends old new (texts (listing form modules r))
+  all_listed end is = subst (λ ls. Appends old new (texts ls)) lines is.2
 
   pub some_listed : (fault : RunFault Infallible) → IsRun (listed_row form modules r) (length r.variables) 0 no_limit old new (Err fault) → AreListed (listing form modules r) old new (Err (of_axes fault))
   some_listed run.BadPosition is = absurd (never is.0)

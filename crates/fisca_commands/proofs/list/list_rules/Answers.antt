@@ -60,7 +60,7 @@ returns-clause-answer g c =
     let old = g.S.RowSink.taken c.args.sink.now in
     let between = g.S.RowSink.taken c.begin_table.new.sink in
     let new = g.S.RowSink.taken c.write_variables.new.sink in
-    let told = subst (λ ms. AreListed (listing c.in_ok-form.form (map (λ f. f.now) ms) r) between new c.write_variables.result) c.as_slice.ensures c.write_variables.ensures.answer in
+    let told = subst (λ ms. AreListed (listing c.in_ok-form.form (map (λ f. f.now) ms) r) between new c.write_variables.result) c.as_slice.ensures.value c.write_variables.ensures.answer in
     inr (
       r,
       c.in_ok-rules.ensures.ok,

@@ -202,8 +202,7 @@ pub const LIST_LONG: &str =
     "List the variables of a rule set, one line each, in the order in which its modules declare them.
 
 It reads the rule files of the folder as 'fisca check' does, and refuses what that does; nothing is
-worked out. A line has these cells, with tabs between them, of which the two before the last may be
-empty:
+worked out. A line has these cells, with tabs between them; unit and label may be empty:
 
 variable           the name
 entity             the key of the entity that has its values

@@ -19,11 +19,11 @@ pub ends_with : (W : Oracle) (d : Inquiry) (k : Key) (h : Halt) → In k (asked 
 ends_with W (gives v) k h i e = absurd i
 ends_with W (fails f) k h i e = absurd i
 ends_with W (asks q go) k h (inl s) e = ap (λ r. and_then r (λ v. outcome W (go v))) (ap W s ∙ e)
-ends_with W (asks q go) k h (inr t) e = by_answer (W q) t
+ends_with W (asks q go) k h (inr t) e = by_answer (λ v i. ends_with W (go v) k h i e) (W q) t
   where
-    by_answer : (r : Result Value Halt) → In k (on_value r (λ v. asked W (go v))) → and_then r (λ v. outcome W (go v)) ≡ Err h
-    by_answer (Ok v) t' = ends_with W (go v) k h t' e
-    by_answer (Err x) t' = absurd t'
+    by_answer : ((v : Value) → In k (asked W (go v)) → outcome W (go v) ≡ Err h) → (r : Result Value Halt) → In k (on_value r (λ v. asked W (go v))) → and_then r (λ v. outcome W (go v)) ≡ Err h
+    by_answer ih (Ok v) t' = ih v t'
+    by_answer ih (Err x) t' = absurd t'
 
 module _ (src : Sources) where
   pub value_of : (line : Line) (v : Value) → line.answer ≡ answer_below src line.path line.key → line.answer ≡ Ok v → answer src line.key ≡ Ok v

@@ -10,6 +10,7 @@ use Rattle.fisca_key_semantics.specs.Keys.{In, has}
 use Rattle.fisca_key_semantics.proofs.Fuel.{at_formula, at_refused, within_zero}
 use Rattle.fisca_key_semantics.proofs.Paths.{In-append, In-has, In-left, In-right, on_stack_never}
 use Rattle.fisca_memo_theory.specs.Work.{Covered, IsWork}
+use Rattle.fisca_memo_theory.proofs.Growing.{value_work}
 use Rattle.fisca_memo_theory.proofs.WorkDone.{covered_known, covered_value}
 use Rattle.fisca_explanation.specs.Explanations.{Line, Told, alone, above, beyond, explanation_within, in_turn, line_at, over, told_at_once, told_from, worked}
 use Rattle.fisca_explanation.specs.Listed.{worked_keys}
@@ -64,32 +65,33 @@ module _ (src : Sources) where
       by true i' = i'
       by false i' = i'
 
+  work_below : (n : ℕ) (key j k : Key) (d : Inquiry) → src key ≡ formula d → In j (asked (value_within src n) d) → IsWork src n j k → IsWork src (suc n) key k
+  unfolding IsWork
+  work_below n key j k d e i w = (d, e, inl (j, i, w))
+
   -- what is followed is work
   pub is_work : (n : ℕ) (path before : List Key) (key : Key) (v : Value) → value_within src n key ≡ Ok v → (k : Key) → In k (worked_keys (explanation_within src n path before key).lines) → IsWork src n key k
-  unfolding IsWork
   is_work zero path before key v h k i = absurd (none_at_once path before key (src key) k (subst (λ (t : Told). In k (worked_keys t.lines)) (lines.within_zero src path before key) i))
   is_work (suc n) path before key v h k i =
-      by_source (λ p b j w. is_work n p b j w) (src key) refl (subst (λ (t : Told). In k (worked_keys t.lines)) (lines.within_suc src n path before key) i)
+      by_source (λ b j w. is_work n (path ++ key ∷ []) b j w) (src key) refl (subst (λ (t : Told). In k (worked_keys t.lines)) (lines.within_suc src n path before key) i)
     where
       tell : List Key → Key → Told
       tell = explanation_within src n (path ++ key ∷ [])
 
-      by_source : (ih : (path before : List Key) (j : Key) (w : Value) → value_within src n j ≡ Ok w → (k : Key) → In k (worked_keys (explanation_within src n path before j).lines) → IsWork src n j k)
+      by : ((before : List Key) (j : Key) (w : Value) → value_within src n j ≡ Ok w → (k : Key) → In k (worked_keys (tell before j).lines) → IsWork src n j k) → (d : Inquiry) → src key ≡ formula d → (b : Bool)
+          → In k (worked_keys (if b then alone (line_at src path key above) before else over (line_at src path key worked) (in_turn tell (before ++ key ∷ []) (asked (value_within src n) d))).lines) → IsWork src (suc n) key k
+      by ih d e true t = absurd t
+      by ih d e false (inl same) = subst (IsWork src (suc n) key) same (value_work src n key v d e h)
+      by ih d e false (inr t) =
+          let found = turn_worked tell (before ++ key ∷ []) (asked (value_within src n) d) k t in
+          let there = asked_ok (value_within src n) d v (formula_ok n key d v e h) found.0 found.1 in
+          work_below n key found.0 k d e found.1 (ih found.2.0 found.0 there.0 there.1 k found.2.1)
+
+      by_source : ((before : List Key) (j : Key) (w : Value) → value_within src n j ≡ Ok w → (k : Key) → In k (worked_keys (tell before j).lines) → IsWork src n j k)
           → (s : Source) → src key ≡ s → In k (worked_keys (told_from src (value_within src n) tell path before key s).lines) → IsWork src (suc n) key k
-      unfolding IsWork
       by_source ih refused e i' = absurd i'
       by_source ih (known u) e i' = absurd i'
-      by_source ih (formula d) e i' = by (has before key) i'
-        where
-          by : (b : Bool) → In k (worked_keys (if b then alone (line_at src path key above) before else over (line_at src path key worked) (in_turn tell (before ++ key ∷ []) (asked (value_within src n) d))).lines)
-              → IsWork src (suc n) key k
-          unfolding IsWork
-          by true t = absurd t
-          by false (inl same) = (d, e, inr (sym same, (v, h)))
-          by false (inr t) =
-              let found = turn_worked tell (before ++ key ∷ []) (asked (value_within src n) d) k t in
-              let there = asked_ok (value_within src n) d v (formula_ok n key d v e h) found.0 found.1 in
-              (d, e, inl (found.0, found.1, ih (path ++ key ∷ []) found.2.0 found.0 there.0 there.1 k found.2.1))
+      by_source ih (formula d) e i' = by ih d e (has before key) i'
 
   -- each key that was followed stands above, or all of its work was followed
   abbrev IsClosed : List Key → List Key → Type 0
@@ -169,31 +171,32 @@ module _ (src : Sources) where
       tell : List Key → Key → Told
       tell = explanation_within src n (path ++ key ∷ [])
 
-      by_source : (ih : (before : List Key) (j : Key) (w : Value) → IsPath src ((path ++ key ∷ []) ++ j ∷ []) → value_within src n j ≡ Ok w → IsClosed (path ++ key ∷ []) before → IsDone (path ++ key ∷ []) before j (tell before j).followed)
+      ended : (d : Inquiry) → src key ≡ formula d → outcome (value_within src n) d ≡ Ok v
+      ended d e = formula_ok n key d v e h
+
+      by : ((before : List Key) (j : Key) (w : Value) → IsPath src ((path ++ key ∷ []) ++ j ∷ []) → value_within src n j ≡ Ok w → IsClosed (path ++ key ∷ []) before → IsDone (path ++ key ∷ []) before j (tell before j).followed)
+          → (d : Inquiry) → src key ≡ formula d → (b : Bool) → has before key ≡ b
+          → IsDone path before key (if b then alone (line_at src path key above) before else over (line_at src path key worked) (in_turn tell (before ++ key ∷ []) (asked (value_within src n) d))).followed
+      by ih d e true is =
+          let there : In key before = In-has before key is in
+          record {
+            grows = λ k i. i;
+            closed = closed;
+            all = ⊎_elim
+                (λ (a : In key path). absurd (on_stack_never src path key p a (suc n) (rw h tt)))
+                (λ (c : Covered src (λ k. In k before) key). c)
+                (closed key there);
+          }
+      by ih d e false is = formula_done n path before key d (in_turn tell (before ++ key ∷ []) (asked (value_within src n) d)).followed e (rw (ended d e) tt)
+          (turn_done tell (path ++ key ∷ []) (asked (value_within src n) d)
+          (λ j i b c. let there = asked_ok (value_within src n) d v (ended d e) j i in ih b j there.0 (lines.path_push src n path key j d e i p) there.1 c)
+          (before ++ key ∷ []) (closed_push path before key closed))
+
+      by_source : ((before : List Key) (j : Key) (w : Value) → IsPath src ((path ++ key ∷ []) ++ j ∷ []) → value_within src n j ≡ Ok w → IsClosed (path ++ key ∷ []) before → IsDone (path ++ key ∷ []) before j (tell before j).followed)
           → (s : Source) → src key ≡ s → IsDone path before key (told_from src (value_within src n) tell path before key s).followed
       by_source ih refused e = let none = sym (at_refused src (suc n) key e) ∙ h in absurd (cc)
       by_source ih (known u) e = record { grows = λ k i. i; closed = closed; all = covered_known src (λ k. In k before) key u e }
-      by_source ih (formula d) e = by (has before key) refl
-        where
-          ended : outcome (value_within src n) d ≡ Ok v
-          ended = formula_ok n key d v e h
-
-          by : (b : Bool) → has before key ≡ b
-              → IsDone path before key (if b then alone (line_at src path key above) before else over (line_at src path key worked) (in_turn tell (before ++ key ∷ []) (asked (value_within src n) d))).followed
-          by true is =
-              let there : In key before = In-has before key is in
-              record {
-                grows = λ k i. i;
-                closed = closed;
-                all = ⊎_elim
-                    (λ (a : In key path). absurd (on_stack_never src path key p a (suc n) (rw h tt)))
-                    (λ (c : Covered src (λ k. In k before) key). c)
-                    (closed key there);
-              }
-          by false is = formula_done n path before key d (in_turn tell (before ++ key ∷ []) (asked (value_within src n) d)).followed e (rw ended tt)
-              (turn_done tell (path ++ key ∷ []) (asked (value_within src n) d)
-              (λ j i b c. let there = asked_ok (value_within src n) d v ended j i in ih b j there.0 (lines.path_push src n path key j d e i p) there.1 c)
-              (before ++ key ∷ []) (closed_push path before key closed))
+      by_source ih (formula d) e = by ih d e (has before key) refl
 
   pub followed_is_work : (key k : Key) (v : Value) → answer src key ≡ Ok v → In k (worked_keys (explanation_within src 100 [] [] key).lines) ↔ IsWork src 100 key k
   unfolding answer

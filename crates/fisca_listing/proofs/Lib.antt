@@ -1,1 +1,2 @@
+mod Dates
 pub mod Lines

@@ -13,7 +13,6 @@ use fisca_rules::{Dated, RuleSet};
 use fisca_symbols::{DeclaredType, SourceText};
 use fisca_time::{Instant, Unit};
 use std::alloc::{AllocError, Global};
-use std::fmt::Write;
 
 /// A text of a module, in one line.
 pub(crate) fn text_of(alloc: Global, bytes: &[u8]) -> Result<String, AllocError>
@@ -26,10 +25,7 @@ pub(crate) fn text_of(alloc: Global, bytes: &[u8]) -> Result<String, AllocError>
 }
 
 /// What is told of a variable, and nothing where nothing is told.
-pub(crate) fn text_told(
-    alloc: Global,
-    told: &Option<SourceText<'_>>,
-) -> Result<String, AllocError>
+pub(crate) fn text_told(alloc: Global, told: &Option<SourceText<'_>>) -> Result<String, AllocError>
     ensures { IfOk result (λ text. string_bytes text ≡ spec.text_told told.now) }
 {
     match told {
@@ -95,24 +91,22 @@ pub(crate) fn period_text(alloc: Global, unit: Unit) -> Result<String, AllocErro
     )
 }
 
-/// Appends a day, as `2010-04-05`.
-fn write_date(date: Instant, text: &mut String) -> Result<(), AllocError>
-    ensures { OnOk result (string_bytes text.new ≡ string_bytes text.old ++ date_text date) }
+/// A day, as `2010-04-05`.
+fn date_text(alloc: Global, date: Instant) -> Result<String, AllocError>
+    ensures { IfOk result (λ text. string_bytes text ≡ date_text date) }
 {
     let (year, month, day) = (date.year(), date.month(), date.day());
-    match write!(text, "{year:04}-{month:02}-{day:02}") {
-        Ok(()) => Ok(()),
-        Err(_) => Err(AllocError),
-    }
+    format!(in alloc; "{year:04}-{month:02}-{day:02}")
 }
 
 /// Appends the first days of formulas, each behind a space.
-fn write_starts(formulas: &[Dated], text: &mut String) -> Result<(), AllocError>
+fn write_starts(alloc: Global, formulas: &[Dated], text: &mut String) -> Result<(), AllocError>
     ensures { OnOk result (string_bytes text.new ≡ string_bytes text.old ++ spec.starts_text (map dated formulas.now)) }
 {
     for formula in formulas {
+        let date = date_text(alloc, formula.start)?;
         text.push(' ')?;
-        write_date(formula.start, text)?;
+        text.push_str(date.as_str())?;
     }
     Ok(())
 }
@@ -124,9 +118,8 @@ fn formulas_text(alloc: Global, formulas: &[Dated]) -> Result<String, AllocError
     match formulas {
         [] => String::from_str(alloc, "input"),
         [first, more @ ..] => {
-            let mut text = String::new(alloc);
-            write_date(first.start, &mut text)?;
-            write_starts(more, &mut text)?;
+            let mut text = date_text(alloc, first.start)?;
+            write_starts(alloc, more, &mut text)?;
             Ok(text)
         }
     }
@@ -157,11 +150,7 @@ pub(crate) fn declaration_at<'a, 't>(
 }
 
 /// Appends the path of the module at a place.
-fn write_module(
-    modules: &[&SourceFile],
-    place: usize,
-    text: &mut String,
-) -> Result<(), AllocError>
+fn write_module(modules: &[&SourceFile], place: usize, text: &mut String) -> Result<(), AllocError>
     ensures { OnOk result (string_bytes text.new ≡ string_bytes text.old ++ spec.path_text (slice_get (map (λ f. f.now) modules.now) place)) }
 {
     match modules.get(place) {

@@ -12,11 +12,12 @@ use Rattle.fisca_explanation.proofs.Lines.{IsBelow, IsOwn, among_turn, own_suc, 
 
 at_append : (depth : ℕ) (xs ys : List Line) → keys_at depth (xs ++ ys) ≡ keys_at depth xs ++ keys_at depth ys
 at_append depth [] ys = refl
-at_append depth (x ∷ xs) ys = by (length x.path == depth)
+at_append depth (x ∷ xs) ys = by (at_append depth xs ys) (length x.path == depth)
   where
-    by : (b : Bool) → (if b then x.key ∷ keys_at depth (xs ++ ys) else keys_at depth (xs ++ ys)) ≡ (if b then x.key ∷ keys_at depth xs else keys_at depth xs) ++ keys_at depth ys
-    by true = ap (λ ks. x.key ∷ ks) (at_append depth xs ys)
-    by false = at_append depth xs ys
+    by : keys_at depth (xs ++ ys) ≡ keys_at depth xs ++ keys_at depth ys → (b : Bool)
+        → (if b then x.key ∷ keys_at depth (xs ++ ys) else keys_at depth (xs ++ ys)) ≡ (if b then x.key ∷ keys_at depth xs else keys_at depth xs) ++ keys_at depth ys
+    by rest true = ap (λ ks. x.key ∷ ks) rest
+    by rest false = rest
 
 -- deeper lines are not there
 none_at : (depth : ℕ) (ls : List Line) → ((line : Line) → Among line ls → depth < length line.path) → keys_at depth ls ≡ []

@@ -23,7 +23,7 @@ through_ok key (Err (fault f)) v e = absurd (cc)
 through_ok key (Err (out chain)) v e = absurd (cc)
 
 settled_ok : (key : Key) (r : Result Value Halt) (v : Value) → settled key r ≡ Ok v → r ≡ Ok v
-settled_ok key (Ok w) v e = e
+settled_ok key (Ok w) v e = let same : w ≡ v = cc in ap Ok same
 settled_ok key (Err (fault f)) v e = absurd (cc)
 settled_ok key (Err (out chain)) v e = absurd (cc)
 
@@ -94,17 +94,17 @@ module _ (src : Sources) where
       by_source ih (formula d) e i' = by ih d e (has before key) i'
 
   -- each key that was followed stands above, or all of its work was followed
-  abbrev IsClosed : List Key → List Key → Type 0
+  abbrev pub IsClosed : List Key → List Key → Type 0
   IsClosed path followed = (j : Key) → In j followed → In j path ⊎ Covered src (λ k. In k followed) j
 
   -- a key below a path is done with
-  record IsDone (path before : List Key) (key : Key) (after : List Key) : Type 0 where
+  pub record IsDone (path before : List Key) (key : Key) (after : List Key) : Type 0 where
     pub grows : (k : Key) → In k before → In k after
     pub closed : IsClosed path after
     pub all : Covered src (λ k. In k after) key
 
   -- so are some keys
-  record AreDone (path before ks after : List Key) : Type 0 where
+  pub record AreDone (path before ks after : List Key) : Type 0 where
     pub grows : (k : Key) → In k before → In k after
     pub closed : IsClosed path after
     pub all : (j : Key) → In j ks → Covered src (λ k. In k after) j

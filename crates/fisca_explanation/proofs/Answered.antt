@@ -1,18 +1,18 @@
 -- The answers that are listed: values are those of their keys, and a fault is that of the key that is explained.
-use Rattle.std.proofs.Common.{◌≡◌, ◌⊎◌, inl, inr, ℕ, zero, suc, ◌+◌, ◌-◌, ◌<◌, ◌≤◌, List, [], ◌∷◌, ◌++◌, length, length-append, Result, Ok, Err, refl, sym, ap, ◌∙◌, subst, arith, ⊎_elim}
+use Rattle.std.proofs.Common.{◌≡◌, inl, inr, ℕ, zero, suc, ◌+◌, List, [], ◌∷◌, ◌++◌, length, length-append, Result, Ok, Err, refl, sym, ap, ◌∙◌, subst, arith, ⊎_elim}
 use Rattle.fisca_model.specs.Causes.{Fault}
 use Rattle.fisca_model.specs.Values.{Value, Key}
 use Rattle.fisca_params.specs.Results.{and_then}
-use Rattle.fisca_key_semantics.specs.Answers.{Halt, fault, out, Sources, Oracle, answer, formula, outcome, settled, value_within, verdict}
+use Rattle.fisca_key_semantics.specs.Answers.{Halt, fault, out, Sources, Oracle, answer, outcome, settled, value_within, verdict}
 use Rattle.fisca_key_semantics.specs.Chains.{asked, on_value}
 use Rattle.fisca_key_semantics.specs.Inquiry.{Inquiry, gives, fails, asks}
 use Rattle.fisca_key_semantics.specs.Keys.{In}
-use Rattle.fisca_key_semantics.specs.Stacks.{answer_below, ends_below, first_of, left_below, settled_below}
+use Rattle.fisca_key_semantics.specs.Stacks.{answer_below, first_of, left_below, settled_below}
 use Rattle.fisca_key_semantics.proofs.Below.{answer_alone, below_formula, below_ok}
 use Rattle.fisca_key_semantics.proofs.Fuel.{stays}
-use Rattle.fisca_explanation.specs.Explanations.{Line, explanation_within, line_at}
+use Rattle.fisca_explanation.specs.Explanations.{Line, explanation_within}
 use Rattle.fisca_explanation.specs.Listed.{Among}
-use Rattle.fisca_explanation.proofs.Lines.{IsBelow, IsOwn, answered, own_suc, own_zero}
+use Rattle.fisca_explanation.proofs.Lines.{IsBelow, IsOwn, own_suc, own_zero}
 
 -- a key without a value ends what asks for it
 pub ends_with : (W : Oracle) (d : Inquiry) (k : Key) (h : Halt) → In k (asked W d) → W k ≡ Err h → outcome W d ≡ Err h

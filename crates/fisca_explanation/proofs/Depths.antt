@@ -1,7 +1,7 @@
 -- What stands directly below a key.
-use Rattle.std.proofs.Common.{◌≡◌, ◌⊎◌, inl, inr, ℕ, zero, suc, ◌<◌, ◌≤◌, ◌==◌, Bool, true, false, List, [], ◌∷◌, ◌++◌, length, length-append, refl, sym, ap, ◌∙◌, subst, if◌then◌else◌, arith, ⊎_elim}
+use Rattle.std.proofs.Common.{◌≡◌, inl, inr, ℕ, zero, suc, ◌<◌, ◌≤◌, ◌==◌, Bool, true, false, List, [], ◌∷◌, ◌++◌, length, length-append, refl, ap, ◌∙◌, subst, if◌then◌else◌, arith, ⊎_elim}
 use Rattle.std.proofs.lemmas.Bool.Decides.{nat_tests}
-use Rattle.fisca_model.specs.Values.{Value, Key}
+use Rattle.fisca_model.specs.Values.{Key}
 use Rattle.fisca_key_semantics.specs.Answers.{Source, Sources, refused, known, formula, value_within}
 use Rattle.fisca_key_semantics.specs.Chains.{asked}
 use Rattle.fisca_key_semantics.specs.Inquiry.{Inquiry}

@@ -1,10 +1,9 @@
 -- The keys whose formulas are followed are those of the lines, and differ.
-use Rattle.std.proofs.Common.{◌≡◌, ◌⊎◌, inl, inr, ℕ, zero, suc, Bool, true, false, List, [], ◌∷◌, ◌++◌, refl, sym, ap, ◌∙◌, subst, if◌then◌else◌, append_assoc, append-nil, ⊎_elim}
+use Rattle.std.proofs.Common.{◌≡◌, inl, inr, ℕ, zero, suc, Bool, true, false, List, [], ◌∷◌, ◌++◌, refl, sym, ap, ◌∙◌, subst, if◌then◌else◌, append_assoc, append-nil, ⊎_elim}
 use Rattle.std.proofs.lemmas.Bool.{true≢false}
-use Rattle.fisca_model.specs.Values.{Value, Key}
+use Rattle.fisca_model.specs.Values.{Key}
 use Rattle.fisca_key_semantics.specs.Answers.{Source, Sources, refused, known, formula, value_within}
 use Rattle.fisca_key_semantics.specs.Chains.{asked}
-use Rattle.fisca_key_semantics.specs.Inquiry.{Inquiry}
 use Rattle.fisca_key_semantics.specs.Keys.{In, has}
 use Rattle.fisca_key_semantics.proofs.Paths.{In-append, has-In}
 use Rattle.fisca_memo_theory.specs.Added.{AreDifferent}

@@ -12,7 +12,7 @@ use Rattle.fisca_key_semantics.proofs.Paths.{In-append, In-has, In-left, In-righ
 use Rattle.fisca_memo_theory.specs.Work.{Covered, IsWork}
 use Rattle.fisca_memo_theory.proofs.Growing.{value_work}
 use Rattle.fisca_memo_theory.proofs.WorkDone.{covered_known, covered_value}
-use Rattle.fisca_explanation.specs.Explanations.{Line, Told, alone, above, beyond, explanation_within, in_turn, line_at, over, told_at_once, told_from, worked}
+use Rattle.fisca_explanation.specs.Explanations.{Told, alone, above, beyond, explanation_within, in_turn, line_at, over, told_at_once, told_from, worked}
 use Rattle.fisca_explanation.specs.Listed.{worked_keys}
 use Rattle.fisca_explanation.proofs.Different.{is_followed, worked_append}
 use Rattle.fisca_explanation.proofs.Lines as lines

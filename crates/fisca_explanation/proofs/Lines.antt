@@ -1,6 +1,6 @@
 -- The lines of an explanation: that of the key, or those of the keys that it asks for.
-use Rattle.std.proofs.Common.{◌≡◌, ◌⊎◌, inl, inr, ℕ, zero, suc, Bool, true, false, List, [], ◌∷◌, ◌++◌, refl, sym, ap, ◌∙◌, subst, if◌then◌else◌, append_assoc, ⊎_elim}
-use Rattle.fisca_model.specs.Values.{Value, Key}
+use Rattle.std.proofs.Common.{◌≡◌, ◌⊎◌, inl, inr, ℕ, zero, suc, Bool, true, false, List, [], ◌∷◌, ◌++◌, refl, sym, subst, if◌then◌else◌, append_assoc, ⊎_elim}
+use Rattle.fisca_model.specs.Values.{Key}
 use Rattle.fisca_key_semantics.specs.Answers.{Source, Sources, refused, known, formula, value_within}
 use Rattle.fisca_key_semantics.specs.Chains.{IsPath, asked}
 use Rattle.fisca_key_semantics.specs.Inquiry.{Inquiry}

@@ -1,5 +1,5 @@
 -- What the lines of an explanation list.
-use Rattle.std.specs.Prelude.{◌≡◌, ◌⊎◌, ◌==◌, ℕ, List, [], ◌∷◌, ◌++◌, length, if◌then◌else◌}
+use Rattle.std.specs.Prelude.{◌≡◌, ◌⊎◌, ◌==◌, ℕ, List, [], ◌∷◌, length, if◌then◌else◌}
 use Rattle.fisca_model.specs.Values.{Key}
 use Rattle.fisca_explanation.specs.Explanations.{Line, Reason, unfit, at_hand, beyond, worked, above}
 

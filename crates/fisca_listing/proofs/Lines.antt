@@ -8,7 +8,7 @@ use Rattle.fisca_forms.specs.LineForms.{Form}
 use Rattle.fisca_params.specs.Source.{Source}
 use Rattle.fisca_rules.specs.Rules.{Rules}
 use Rattle.fisca_symbols.specs.declared.variable.Variable.{Variable}
-use Rattle.fisca_writer.specs.Lines.{AtEnd, FaultAt, continued_from, fault_at, first_fault, line_at, positions_from}
+use Rattle.fisca_writer.specs.Lines.{AtEnd, FaultAt, MoreFrom, continued_from, fault_at, first_fault, line_at, positions_from}
 use Rattle.fisca_writer.specs.Ranges.{end_within, no_limit, range_end, range_lines}
 use Rattle.fisca_writer.specs.Row.{Row, fault_of, text_of}
 use Rattle.fisca_listing.specs.Listing.{lines_from, listed_row, listing, row_by}
@@ -50,4 +50,4 @@ module _ (form : Form) (modules : List Source) (r : Rules) where
       let size = length r.variables in
       let over : nat_lt (max 0 size) size ≡ false = grind (arith, nat_tests) in
       ap (λ fault. end_within size (max 0 size) (option_map_or (λ fault. FaultAt fault.0 fault.1) fault AtEnd)) (no_fault size 0)
-      ∙ ap (λ below. cond below _ AtEnd) over
+      ∙ ap (λ below. cond below (MoreFrom (max 0 size)) AtEnd) over

@@ -3,7 +3,7 @@ use Rattle.std.proofs.Common.{◌≡◌, ◌∙◌, ◌<◌, ◌⊎◌, inl, inr
 use Rattle.std.specs.Io.KnownBytes.{Appends}
 use Rattle.std.specs.declared.convert.Infallible.{Infallible}
 use Rattle.fisca_forms.specs.LineForms.{Form}
-use Rattle.fisca_listing.specs.Listing.{list_names, listed_row, listing}
+use Rattle.fisca_rule_files.specs.Listing.{list_names, listed_row, listing}
 use Rattle.fisca_params.specs.Source.{Source}
 use Rattle.fisca_rule_files.specs.Refusal.{of_axes}
 use Rattle.fisca_rule_files.specs.declared.refusal.Refusal.{Refusal}

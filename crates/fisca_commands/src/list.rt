@@ -2,7 +2,7 @@
 
 ghost use Rattle.std.specs.Prelude.{map};
 ghost use Rattle.fisca_commands.specs.Listed.{AreListed, IsList};
-ghost use Rattle.fisca_listing.specs.Listing.{listing};
+ghost use Rattle.fisca_rule_files.specs.Listing.{listing};
 ghost use Rattle.fisca_rule_files.specs.Refusal.{is_write};
 ghost use Rattle.fisca_rules.specs.Views.{rule_set};
 ghost use Rattle.fisca_writer.specs.Sink.{CountsFailure};
@@ -10,9 +10,10 @@ ghost use Rattle.fisca_writer.specs.Sink.{CountsFailure};
 use super::forms::begin_table;
 use super::options::TableForm;
 use fisca_forms::LineForm;
-use fisca_listing::{each_variable_has_its_line, list_names, write_listing};
 use fisca_params::SourceFile;
-use fisca_rule_files::{Refusal, modules_of, rules_of};
+use fisca_rule_files::{
+    Refusal, each_variable_has_its_line, list_names, modules_of, rules_of, write_listing,
+};
 use fisca_rules::RuleSet;
 use fisca_writer::RowSink;
 use std::alloc::Global;

@@ -1,7 +1,7 @@
 use Rattle.std.proofs.Common.{◌≡◌, ◌∙◌, false, cond, inl, inr, Err, map, refl, ap, sym, subst, rules}
 use Rattle.std.proofs.lemmas.Result.{err_from_is_err_and}
 use Rattle.std.specs.Io.KnownBytes.{Keeps}
-use Rattle.fisca_listing.specs.Listing.{listing}
+use Rattle.fisca_rule_files.specs.Listing.{listing}
 use Rattle.fisca_rules.specs.Views.{rule_set}
 use Rattle.fisca_writer.specs.Steps.Sink.{one_more}
 use Rattle.fisca_rule_files.specs.Refusal.{is_write}

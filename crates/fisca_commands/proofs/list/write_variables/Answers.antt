@@ -1,6 +1,6 @@
 use Rattle.std.proofs.Common.{length, map, subst, sym}
 use Rattle.std.specs.Prelude.{Err}
-use Rattle.fisca_listing.specs.Listing.{listed_row, listing}
+use Rattle.fisca_rule_files.specs.Listing.{listed_row, listing}
 use Rattle.fisca_rules.specs.Views.{rule_set}
 use Rattle.fisca_writer.specs.Ranges.{no_limit}
 use Rattle.fisca_writer.specs.Run.{IsRun}

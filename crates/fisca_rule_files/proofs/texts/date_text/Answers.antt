@@ -1,6 +1,6 @@
 use Rattle.std.proofs.lemmas.Result.{IfOk-weaker}
-use Rattle.fisca_listing.proofs.Dates.{day_written}
-use Rattle.fisca_listing.proofs.texts.date_text.Goals as goal
+use Rattle.fisca_rule_files.proofs.Dates.{day_written}
+use Rattle.fisca_rule_files.proofs.texts.date_text.Goals as goal
 
 pub returns : goal.returns
 returns c =

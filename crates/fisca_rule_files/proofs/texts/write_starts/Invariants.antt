@@ -1,7 +1,7 @@
 use Rattle.std.proofs.Common.{◌≡◌, ◌++◌, drop, map, string_bytes}
-use Rattle.fisca_listing.specs.Listing.{starts_text}
+use Rattle.fisca_rule_files.specs.Listing.{starts_text}
 use Rattle.fisca_rules.specs.Views.{dated}
-use Rattle.fisca_listing.proofs.texts.write_starts.Given as goal
+use Rattle.fisca_rule_files.proofs.texts.write_starts.Given as goal
 
 -- the days that are left come behind those so far
 abbrev pub invariant-loop-formula : goal.invariant-loop-formula

@@ -2,7 +2,7 @@
 
 ghost use Rattle.std.specs.Prelude.{◌≡◌, ℕ, List, length};
 ghost use Rattle.fisca_forms.specs.LineForms.{Form};
-ghost use Rattle.fisca_listing.specs.Listing.{listed_row, listing};
+ghost use Rattle.fisca_rule_files.specs.Listing.{listed_row, listing};
 ghost use Rattle.fisca_params.specs.Source.{Source};
 ghost use Rattle.fisca_rules.specs.Rules.{Rules};
 ghost use Rattle.fisca_writer.specs.Lines.{AtEnd};

@@ -4,7 +4,7 @@ ghost use Rattle.std.specs.Prelude.{◌≡◌, ◌++◌, [], IfOk, OnOk, map, op
 ghost use Rattle.fisca_declarations.specs.VariableForms.{written};
 ghost use Rattle.fisca_forms.specs.Forms.{quoted};
 ghost use Rattle.fisca_forms.specs.LineForms.{cells_from};
-ghost use Rattle.fisca_listing.specs.Listing as spec;
+ghost use Rattle.fisca_rule_files.specs.Listing as spec;
 ghost use Rattle.fisca_rules.specs.Views.{rule_set};
 
 use crate::texts::{

@@ -1,7 +1,7 @@
 use Rattle.std.proofs.Common.{◌≡◌, ◌++◌, drop, map, string_bytes}
 use Rattle.fisca_forms.specs.Forms.{quoted}
 use Rattle.fisca_forms.specs.LineForms.{cells_from}
-use Rattle.fisca_listing.proofs.cells.write_cells.Given as goal
+use Rattle.fisca_rule_files.proofs.cells.write_cells.Given as goal
 
 -- the cells that are left come behind those so far
 abbrev pub invariant-loop-place : goal.invariant-loop-place

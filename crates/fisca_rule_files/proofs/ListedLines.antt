@@ -11,7 +11,7 @@ use Rattle.fisca_symbols.specs.declared.variable.Variable.{Variable}
 use Rattle.fisca_writer.specs.Lines.{AtEnd, FaultAt, MoreFrom, continued_from, fault_at, first_fault, line_at, positions_from}
 use Rattle.fisca_writer.specs.Ranges.{end_within, no_limit, range_end, range_lines}
 use Rattle.fisca_writer.specs.Row.{Row, fault_of, text_of}
-use Rattle.fisca_listing.specs.Listing.{lines_from, listed_row, listing, row_by}
+use Rattle.fisca_rule_files.specs.Listing.{lines_from, listed_row, listing, row_by}
 
 module _ (form : Form) (modules : List Source) (r : Rules) where
   faultless : (o : Option Variable) (place : ℕ) → fault_of (row_by form modules r place o) ≡ None

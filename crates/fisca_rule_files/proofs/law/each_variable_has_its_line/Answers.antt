@@ -1,5 +1,5 @@
-use Rattle.fisca_listing.proofs.Lines.{all_listed, ends}
-use Rattle.fisca_listing.proofs.law.each_variable_has_its_line.Goals as goal
+use Rattle.fisca_rule_files.proofs.ListedLines.{all_listed, ends}
+use Rattle.fisca_rule_files.proofs.law.each_variable_has_its_line.Goals as goal
 
 pub returns-clause-lines : goal.returns-clause-lines
 returns-clause-lines c = all_listed

@@ -2,7 +2,7 @@
 
 ghost use Rattle.std.specs.Prelude.{◌≡◌, ◌++◌, IfOk, OnOk, map, option_map, slice_get, string_bytes};
 ghost use Rattle.fisca_declarations.specs.VariableForms.{written};
-ghost use Rattle.fisca_listing.specs.Listing as spec;
+ghost use Rattle.fisca_rule_files.specs.Listing as spec;
 ghost use Rattle.fisca_rules.specs.Views.{dated, rule_set};
 ghost use Rattle.fisca_time.specs.PeriodText.{date_text};
 

@@ -1,7 +1,7 @@
 //! The lines of all variables.
 
 ghost use Rattle.std.specs.Prelude.{◌≡◌, ◌<◌, length, map};
-ghost use Rattle.fisca_listing.specs.Listing.{listed_row};
+ghost use Rattle.fisca_rule_files.specs.Listing.{listed_row};
 ghost use Rattle.fisca_rules.specs.Views.{rule_set};
 ghost use Rattle.fisca_writer.specs.Ranges.{no_limit};
 ghost use Rattle.fisca_writer.specs.Run.{IsRun, is_write};
@@ -30,7 +30,7 @@ struct VariableRows<'a, 't> {
 
 impl<'a, 't> Rows for VariableRows<'a, 't> {
     ghost use Rattle.std.specs.Prelude.{⊤, [], ◌∷◌, length, map};
-    ghost use Rattle.fisca_listing.specs.Listing.{listed_row};
+    ghost use Rattle.fisca_rule_files.specs.Listing.{listed_row};
     ghost use Rattle.fisca_rules.specs.Views.{rule_set};
 
     type Fault = Infallible;

@@ -1,2 +1,0 @@
-mod Dates
-pub mod Lines

@@ -1,4 +1,1 @@
-pub mod Asked
-pub mod CommandLine
-pub mod Misuse
-pub mod Work
+pub mod Tasks

@@ -1,0 +1,3 @@
+//! Exact fractions.
+
+pub use fisca_num::{Fraction, NumFault};

@@ -1,0 +1,3 @@
+//! Instants and periods.
+
+pub use fisca_time::{Instant, Period, TimeFault, Unit};

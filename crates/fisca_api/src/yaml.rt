@@ -1,0 +1,3 @@
+//! Trees of YAML texts.
+
+pub use fisca_yaml::{Entry, Item, Text, Tree, YamlFault, YamlKind, read};

@@ -1,0 +1,251 @@
+//! What a command line asks for, read by `clap`.
+
+ghost use Rattle.std.specs.Prelude.{◌≡◌, IfOk, map, string_bytes};
+ghost use Rattle.clap.specs.Matches.{found_of};
+ghost use Rattle.clap.specs.Walk.{rows_of};
+ghost use Rattle.clap.specs.Simple.{subcommand_of};
+ghost use Rattle.clap.specs.Kinds.{FailsBy};
+ghost use Rattle.fisca_command_line.specs.CommandLine.{fisca_app};
+ghost use Rattle.fisca_command_line.specs.Misuse.{misuse_kinds, options_misuse, usage_fault};
+ghost use Rattle.fisca_command_line.specs.Work.{IsAxesTask, IsCalcTask, IsCalcWork, IsCheckTask, IsLinesTask, IsListTask, IsRunTask, IsSizeTask, IsTask, IsTestTask, IsWorkOf};
+
+use crate::asked::{flag, form_in, misuse_in, options, text_at, text_in};
+use crate::options::{RunOptions, TableForm};
+use crate::subcommands::{axes_command, calc_command, command, list_command, run_command};
+use clap::{ArgMatches, Error};
+use std::alloc::{AllocError, Global};
+
+/// What a command line asks for.
+#[derive(Debug, Drop)]
+pub enum Task<'a> {
+    /// `check`: check the rule files of a folder.
+    Check {
+        rules: &'a str,
+    },
+    /// `calc`: work out the columns of a file under the rule files of a folder.
+    Calc {
+        rules: &'a str,
+        file: &'a str,
+        form: TableForm,
+    },
+    /// `test`: work out the tests of a file under the rule files of a folder.
+    Test {
+        rules: &'a str,
+        file: &'a str,
+    },
+    /// `run`: write the lines of a run file under the rule files of a folder.
+    Run {
+        rules: &'a str,
+        file: &'a str,
+        options: RunOptions,
+    },
+    /// `size`: write the number of positions of a run file under the rule files of a folder.
+    Size {
+        rules: &'a str,
+        file: &'a str,
+    },
+    /// `list`: list the variables of the rule files of a folder.
+    List {
+        rules: &'a str,
+        form: TableForm,
+    },
+    /// `axes`: list the values of axes.
+    Axes {
+        words: Vec<String>,
+        keep: Option<&'a str>,
+        options: RunOptions,
+    },
+}
+
+/// What the words ask for.
+#[derive(Debug, Drop)]
+pub enum Work<'a> {
+    /// A task over the files of a folder and the text of a file.
+    Task(Task<'a>),
+    /// A task over each line of a file.
+    Lines(LinesTask<'a>),
+}
+
+/// `calc --lines`: work out the columns of many files, one in each line of a file, under the rule files of a folder.
+#[derive(Debug, Drop)]
+pub struct LinesTask<'a> {
+    /// The folder of the rule files.
+    pub rules: &'a str,
+    /// The file of the lines.
+    pub file: &'a str,
+    /// The form of the lines that are written.
+    pub form: TableForm,
+}
+
+/// Copies of texts.
+fn copies(alloc: Global, texts: &[&str]) -> Result<Vec<String>, AllocError>
+    ensures { IfOk result (λ copies. map (λ copy. string_bytes copy) copies.items ≡ map (λ text. text.now) texts.now) }
+{
+    let mut copies = Vec::new(alloc);
+    for text in texts {
+        copies.push(String::from_str(alloc, text)?)?;
+    }
+    Ok(copies)
+}
+
+/// The task of `axes`.
+fn axes_task<'a>(alloc: Global, matches: &ArgMatches<'a>) -> Result<Task<'a>, AllocError>
+    ensures { IfOk result (λ task. IsAxesTask (rows_of (found_of matches.now)) task) }
+{
+    Ok(Task::Axes {
+        words: copies(alloc, matches.get_strs("AXIS").unwrap_or(&[]))?,
+        keep: text_in(matches, "keep"),
+        options: options(matches),
+    })
+}
+
+/// The task of `check`.
+fn check_task<'a>(matches: &ArgMatches<'a>) -> Task<'a>
+    ensures { IsCheckTask (rows_of (found_of matches.now)) result }
+{
+    Task::Check {
+        rules: text_at(matches, "RULES"),
+    }
+}
+
+/// The task of `calc`.
+fn calc_task<'a>(matches: &ArgMatches<'a>) -> Task<'a>
+    ensures { IsCalcTask (rows_of (found_of matches.now)) result }
+{
+    Task::Calc {
+        rules: text_at(matches, "RULES"),
+        file: text_at(matches, "FILE"),
+        form: form_in(matches),
+    }
+}
+
+/// The task of `test`.
+fn test_task<'a>(matches: &ArgMatches<'a>) -> Task<'a>
+    ensures { IsTestTask (rows_of (found_of matches.now)) result }
+{
+    Task::Test {
+        rules: text_at(matches, "RULES"),
+        file: text_at(matches, "TESTS"),
+    }
+}
+
+/// The task of `run`.
+fn run_task<'a>(matches: &ArgMatches<'a>) -> Task<'a>
+    ensures { IsRunTask (rows_of (found_of matches.now)) result }
+{
+    let rules = text_at(matches, "RULES");
+    let file = text_at(matches, "FILE");
+    Task::Run {
+        rules,
+        file,
+        options: options(matches),
+    }
+}
+
+/// The task of `size`.
+fn size_task<'a>(matches: &ArgMatches<'a>) -> Task<'a>
+    ensures { IsSizeTask (rows_of (found_of matches.now)) result }
+{
+    let (rules, file) = (text_at(matches, "RULES"), text_at(matches, "FILE"));
+    Task::Size { rules, file }
+}
+
+/// The task of `list`.
+fn list_task<'a>(matches: &ArgMatches<'a>) -> Task<'a>
+    ensures { IsListTask (rows_of (found_of matches.now)) result }
+{
+    Task::List {
+        rules: text_at(matches, "RULES"),
+        form: form_in(matches),
+    }
+}
+
+/// The task over lines of `calc`.
+fn lines_task<'a>(matches: &ArgMatches<'a>) -> LinesTask<'a>
+    ensures { IsLinesTask (rows_of (found_of matches.now)) result }
+{
+    let (rules, file) = (text_at(matches, "RULES"), text_at(matches, "FILE"));
+    LinesTask {
+        rules,
+        file,
+        form: form_in(matches),
+    }
+}
+
+/// The work of `calc`, or why its options mean nothing.
+fn used_calc<'a>(alloc: Global, matches: &ArgMatches<'a>) -> Result<Work<'a>, Error>
+    ensures work { IfOk result (λ work. IsCalcWork (rows_of (found_of matches.now)) work) }
+    ensures fault { FailsBy (misuse_kinds (options_misuse (rows_of (found_of matches.now)))) result }
+{
+    match misuse_in(matches) {
+        Some(misuse) => Err(misuse.error(calc_command(alloc)?, "fisca calc")),
+        None => Ok(calc_work(matches)),
+    }
+}
+
+/// The work of `calc`: over lines where `--lines` is set.
+fn calc_work<'a>(matches: &ArgMatches<'a>) -> Work<'a>
+    ensures { IsCalcWork (rows_of (found_of matches.now)) result }
+{
+    if flag(matches, "lines") {
+        Work::Lines(lines_task(matches))
+    } else {
+        Work::Task(calc_task(matches))
+    }
+}
+
+/// The task of `run`, or why its options mean nothing.
+fn used_run<'a>(alloc: Global, matches: &ArgMatches<'a>) -> Result<Work<'a>, Error>
+    ensures work { IfOk result (IsTask (IsRunTask (rows_of (found_of matches.now)))) }
+    ensures fault { FailsBy (misuse_kinds (options_misuse (rows_of (found_of matches.now)))) result }
+{
+    match misuse_in(matches) {
+        Some(misuse) => Err(misuse.error(run_command(alloc)?, "fisca run")),
+        None => Ok(Work::Task(run_task(matches))),
+    }
+}
+
+/// The task of `list`, or why its options mean nothing.
+fn used_list<'a>(alloc: Global, matches: &ArgMatches<'a>) -> Result<Work<'a>, Error>
+    ensures work { IfOk result (IsTask (IsListTask (rows_of (found_of matches.now)))) }
+    ensures fault { FailsBy (misuse_kinds (options_misuse (rows_of (found_of matches.now)))) result }
+{
+    match misuse_in(matches) {
+        Some(misuse) => Err(misuse.error(list_command(alloc)?, "fisca list")),
+        None => Ok(Work::Task(list_task(matches))),
+    }
+}
+
+/// The task of `axes`, or why its options mean nothing.
+fn used_axes<'a>(alloc: Global, matches: &ArgMatches<'a>) -> Result<Work<'a>, Error>
+    ensures work { IfOk result (IsTask (IsAxesTask (rows_of (found_of matches.now)))) }
+    ensures fault { FailsBy (misuse_kinds (options_misuse (rows_of (found_of matches.now)))) result }
+{
+    match misuse_in(matches) {
+        Some(misuse) => Err(misuse.error(axes_command(alloc)?, "fisca axes")),
+        None => Ok(Work::Task(axes_task(alloc, matches)?)),
+    }
+}
+
+/// The work that the words ask for, of which the first is the program's own name: what `clap` finds in them by its own
+/// definition of matches, for the options above. An error has the kind of that definition's fault, or of the first misuse of
+/// options that it finds nothing wrong with, or memory was refused;
+/// a request for help or for the version is one whose exit code is 0. Which options give which part of the work, and which mean nothing together,
+/// is this project's own rule.
+pub fn read_task<'a>(alloc: Global, words: &'a [String]) -> Result<Work<'a>, Error>
+    ensures work { IfOk result (λ work. IsWorkOf (subcommand_of fisca_app (map (λ word. string_bytes word) words.entry.now)) work) }
+    ensures fault { FailsBy (usage_fault (map (λ word. string_bytes word) words.entry.now)) result }
+{
+    let matches = command(alloc)?.try_get_matches_from(words)?;
+    match matches.subcommand() {
+        Some(("check", inner)) => Ok(Work::Task(check_task(inner))),
+        Some(("calc", inner)) => used_calc(alloc, inner),
+        Some(("test", inner)) => Ok(Work::Task(test_task(inner))),
+        Some(("run", inner)) => used_run(alloc, inner),
+        Some(("size", inner)) => Ok(Work::Task(size_task(inner))),
+        Some(("list", inner)) => used_list(alloc, inner),
+        Some(("axes", inner)) => used_axes(alloc, inner),
+        Some(_) => unreachable!(),
+        None => unreachable!(),
+    }
+}

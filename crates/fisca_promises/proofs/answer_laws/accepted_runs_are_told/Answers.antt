@@ -1,5 +1,0 @@
-use Rattle.fisca_promises.proofs.AcceptedRuns.{run_told}
-use Rattle.fisca_promises.proofs.answer_laws.accepted_runs_are_told.Goals as goal
-
-pub returns : goal.returns
-returns c = run_told

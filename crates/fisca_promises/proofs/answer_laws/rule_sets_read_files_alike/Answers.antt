@@ -1,5 +1,0 @@
-use Rattle.fisca_promises.proofs.Alike.{same_calc, same_run, same_tests}
-use Rattle.fisca_promises.proofs.answer_laws.rule_sets_read_files_alike.Goals as goal
-
-pub returns : goal.returns
-returns c = record { run = same_run; calc = same_calc; test = same_tests }

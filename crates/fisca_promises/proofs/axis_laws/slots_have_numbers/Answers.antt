@@ -1,5 +1,0 @@
-use Rattle.fisca_promises.proofs.Numbers.{slot_numbers}
-use Rattle.fisca_promises.proofs.axis_laws.slots_have_numbers.Goals as goal
-
-pub returns : goal.returns
-returns c = slot_numbers

@@ -1,5 +1,0 @@
-use Rattle.fisca_promises.proofs.Fits.{given_fit}
-use Rattle.fisca_promises.proofs.axis_laws.with_axes_inputs_fit.Goals as goal
-
-pub returns : goal.returns
-returns c = given_fit

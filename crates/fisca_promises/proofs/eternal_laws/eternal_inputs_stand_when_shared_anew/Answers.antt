@@ -1,5 +1,0 @@
-use Rattle.fisca_promises.proofs.Eternal.{shared_eternal, shared_finite}
-use Rattle.fisca_promises.proofs.eternal_laws.eternal_inputs_stand_when_shared_anew.Goals as goal
-
-pub returns : goal.returns
-returns c = record { eternal = shared_eternal; other = shared_finite }

@@ -1,4 +1,0 @@
-pub mod Alike
-pub mod Axes
-pub mod Eternal
-pub mod Members

@@ -1,4 +1,6 @@
+pub mod Handed
 mod Items
+mod OutputLines
 pub mod ReadTests
 pub mod Reports
 mod Worked

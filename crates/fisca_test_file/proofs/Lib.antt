@@ -3,5 +3,6 @@ mod Items
 mod OutputLines
 pub mod ReadTests
 pub mod Reports
+mod Stopped
 mod Worked
 mod WorkedVerdicts

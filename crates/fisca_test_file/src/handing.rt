@@ -60,7 +60,8 @@ fn all_pass<F: KeyFault + Drop, A: Answers<Fault = F> + Drop, M: SimulationBuild
     for expected in outputs {
         asked = renew_after(alloc, tables, place, builder, asked, answers)?;
         let mut text = String::new(alloc);
-        if !write_expected(alloc, tables, margins, expected, answers, &mut text)? {
+        let passed = write_expected(alloc, tables, margins, expected, answers, &mut text)?;
+        if !passed {
             return Ok(false);
         }
         asked += u64::from(count_of(expected.whom));
@@ -69,6 +70,7 @@ fn all_pass<F: KeyFault + Drop, A: Answers<Fault = F> + Drop, M: SimulationBuild
 }
 
 /// Works out what is expected of members, and hands over the lines of outputs that failed.
+#[tactic(auto, using(crate::proofs::Handed::none_yet, crate::proofs::Handed::from_part))]
 fn hand_expected<F: KeyFault + Drop, A: Answers<Fault = F>, S: RowSink>(
     alloc: Global,
     tables: &Tables<'_>,
@@ -124,6 +126,7 @@ fn hand_lines<
 }
 
 /// Hands over the first line of a test.
+#[tactic(auto, using(crate::proofs::Handed::none_yet, crate::proofs::Handed::from_part))]
 fn hand_head<S: RowSink>(
     alloc: Global,
     passed: bool,
@@ -142,6 +145,7 @@ fn hand_head<S: RowSink>(
 }
 
 /// Hands over the last line of a report.
+#[tactic(auto, using(crate::proofs::Stopped::nothing_of_counts))]
 pub(crate) fn hand_counts<S: RowSink>(
     alloc: Global,
     passed: u64,
@@ -160,6 +164,7 @@ pub(crate) fn hand_counts<S: RowSink>(
 
 /// Hands over what is told of a test with these answers: `ok` and its name where all its outputs pass, else `failed` and its name, and a line for each
 /// output that failed, with its key and why. A test without a name is `test` and its number. Whether it passed.
+#[tactic(auto, using(crate::proofs::Handed::none_yet, crate::proofs::Handed::in_front, crate::proofs::Handed::behind, crate::proofs::OutputLines::none_failed))]
 fn hand_verdict<
     F: KeyFault + Drop,
     A: Answers<Fault = F> + Drop,

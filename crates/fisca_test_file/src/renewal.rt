@@ -13,7 +13,7 @@ use fisca_yaml::Tree;
 use std::alloc::{AllocError, Global};
 
 /// How many keys are asked for before the answers are made anew.
-const MOST_KEYS: u64 = 1 << 18;
+const MOST_KEYS: u64 = 250_000;
 
 /// Where a test stands: the item on `line`.
 #[derive(Clone, Copy)]

@@ -118,6 +118,7 @@ fn hand_tests<
 }
 
 /// Reads and works out all tests of a file, and hands the report over as it is made.
+#[tactic(auto, using(crate::proofs::Stopped::all_handed, crate::proofs::Stopped::stopped_before, crate::proofs::Stopped::stopped_in_counts))]
 fn hand_report<
     F: KeyFault + Drop,
     A: Answers<Fault = F> + Drop,
@@ -141,6 +142,7 @@ fn hand_report<
 }
 
 /// Reads all tests of a file for their faults, and then each again, and hands the report over as it is made.
+#[tactic(auto, using(crate::proofs::Stopped::long_reported))]
 fn report_at_length<
     F: KeyFault + Drop,
     A: Answers<Fault = F> + Drop,
@@ -188,6 +190,7 @@ fn draft_of<F: KeyFault + Drop, A: Answers<Fault = F> + Drop, M: SimulationBuild
 /// `Situation::read` tells; then `BadOutput`, as `read_outputs` tells. `Memory`, at line 0, comes only where a growth was refused: nothing is handed over
 /// then, or a proper beginning of the report; so it is where `Write` tells that the sink failed. (OpenFisca's tests in YAML; the report and the order of
 /// faults are this project's own.)
+#[tactic(auto, using(crate::proofs::Stopped::draft_reported, crate::proofs::Stopped::draft_broken))]
 pub fn report_on<
     F: KeyFault + Drop,
     A: Answers<Fault = F> + Drop,

@@ -64,12 +64,7 @@ fn hand_items<
 }
 
 /// The same of the only test of a file.
-fn hand_only<
-    F: KeyFault + Drop,
-    A: Answers<Fault = F> + Drop,
-    M: SimulationBuilder<A>,
-    S: RowSink,
->(
+fn hand_only<F: KeyFault + Drop, A: Answers<Fault = F> + Drop, M: SimulationBuilder<A>, S: RowSink>(
     alloc: Global,
     tables: &Tables<'_>,
     tree: &Tree<'_>,

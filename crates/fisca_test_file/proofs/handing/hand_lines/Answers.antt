@@ -26,6 +26,12 @@ loop-expected-preserved g c =
     let members = c.renew_after.ensures.same_members ∙ l.invariant.6 in
     let same = ap₂ (λ ms answer. output_lines (test_context (known c.args.tables.now) ms answer name key) m (expected_outputs here)) members answers in
     let more = subst (Appends (g.S.RowSink.taken l.sink) (g.S.RowSink.taken c.hand_expected.new.sink)) same c.in_ok-hand_expected.ensures.all in
-    let written = Appends-trans (g.S.RowSink.taken c.args.sink.now) (g.S.RowSink.taken l.sink) (g.S.RowSink.taken c.hand_expected.new.sink) told line l.invariant.2 more in
-    (told ++ line, split, written, c.in_ok-hand_expected.ensures.failures ∙ l.invariant.3, c.hand_expected.ensures.ready,
-    c.hand_expected.ensures.same_answers ∙ answers, c.hand_expected.ensures.same_members ∙ members)
+    let written = Appends-trans (g.S.RowSink.taken c.args.sink.now) (g.S.RowSink.taken l.sink) (g.S.RowSink.taken c.hand_expected.new.sink) told line l.invariant.2 more in (
+      told ++ line,
+      split,
+      written,
+      c.in_ok-hand_expected.ensures.failures ∙ l.invariant.3,
+      c.hand_expected.ensures.ready,
+      c.hand_expected.ensures.same_answers ∙ answers,
+      c.hand_expected.ensures.same_members ∙ members,
+    )

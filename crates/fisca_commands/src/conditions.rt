@@ -66,6 +66,7 @@ fn meets_member(comparison: AxisComparison, place: usize, constant: Value) -> bo
 
 /// Whether a value of its key meets a condition: a number by the order of numbers, a bool and a member of an Enum by whether it is the
 /// constant. A constant of another type is never met. This project's own rule.
+#[inline(always)]
 pub fn meets(condition: &Condition, value: Value) -> bool
     ensures { result ≡ spec.meets condition.now value }
 {

@@ -173,6 +173,7 @@ fn write_row_at<R: Recall>(
 }
 
 /// Works out the row at a position, in a form where one is given.
+#[inline(always)]
 fn write_met_row<A: Answers<Fault = EvalFault>>(
     alloc: Global,
     tables: &Tables<'_>,

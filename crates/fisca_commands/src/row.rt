@@ -61,6 +61,7 @@ pub(crate) fn write_line<A: Answers>(
 }
 
 /// Appends the whole line of a position to an empty line, in a form where one is given. Of the conditions nothing is asked.
+#[inline(always)]
 pub(crate) fn write_line_in<A: Answers>(
     alloc: Global,
     tables: &Tables<'_>,

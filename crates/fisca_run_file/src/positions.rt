@@ -51,6 +51,7 @@ fn push_number(items: &mut Vec<Fraction>, number: Fraction) -> Result<(), AllocE
 }
 
 /// Puts the values of the axes of a grid at a position in the place of what was there.
+#[inline(always)]
 fn put_steps(axes: &Axes, position: u64, steps: &mut Vec<Fraction>) -> Result<(), AllocError>
     requires { position < size_of axes.now }
     ensures { OnOk result (values_of (axes_at axes.now position) ≡ Some steps.new.items) }
@@ -64,6 +65,7 @@ fn put_steps(axes: &Axes, position: u64, steps: &mut Vec<Fraction>) -> Result<()
 }
 
 /// Puts inputs, each with the value of its axis, in the place of what was there.
+#[inline(always)]
 fn put_values(
     tables: &Tables<'_>,
     moved: &[Given],
@@ -102,6 +104,7 @@ impl RunRequest {
 
     /// Puts the inputs that `moved_at` answers in the place of those that were found before, and the values of the axes in the place of earlier
     /// ones: it takes memory only where these lists have no room for as many. `AllocError` only where memory was refused.
+    #[inline(always)]
     pub fn moved_into(
         &self,
         tables: &Tables<'_>,

@@ -46,6 +46,10 @@ impl<'r, 't> SimulationBuilder<Evaluator<'r, 't, IndexRecall>> for EvaluatorBuil
         let recall = IndexRecall::new(alloc);
         Ok(Evaluator::new(alloc, self.rules, &[], &[], situation, recall))
     }
+
+    fn remembered(&self, answers: &Evaluator<'r, 't, IndexRecall>) -> u64 {
+        answers.counts().free()
+    }
 }
 
 /// Hands over the report on the tests that a tree says under a rule set, and answers its verdict.

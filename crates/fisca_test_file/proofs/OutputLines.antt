@@ -42,6 +42,13 @@ module _ {F : Type 0} (s : TestContext F) (m : Margins) where
   pub pass_both : (os ps : List Output) → passes s m (os ++ ps) ≡ (passes s m os && passes s m ps)
   pass_both os ps = list_all-append (output_passes s m) os ps
 
+  -- of one output alone
+  pub line_alone : (o : Output) → output_lines s m (o ∷ []) ≡ output_line s m o
+  line_alone o = append-nil (output_line s m o)
+
+  pub pass_alone : (o : Output) → passes s m (o ∷ []) ≡ output_passes s m o
+  pass_alone o = and_true (output_passes s m o)
+
   pub lines_more : (f : ℕ → Output) (n : ℕ) → output_lines s m (map f (range_with_len 0 (n + 1))) ≡ output_lines s m (map f (range_with_len 0 n)) ++ output_line s m (f n)
   lines_more f n =
       ap (output_lines s m) (map-range_with_len_more f 0 n n (zero-add n)) ∙ lines_of_both (map f (range_with_len 0 n)) (f n ∷ [])

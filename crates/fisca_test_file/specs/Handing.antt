@@ -36,6 +36,10 @@ is_write (Ok x) = false
 is_write (Err (Tests fault)) = false
 is_write (Err Write) = true
 
+-- memory was refused
+abbrev pub memory_refused : ReportFault
+memory_refused = Tests (record { line = 0; kind = Memory })
+
 -- memory was refused, or the sink failed
 abbrev pub IsCut : ReportFault → Type 0
 IsCut (Tests fault) = (fault.kind ≡ Memory) × (fault.line ≡ 0)

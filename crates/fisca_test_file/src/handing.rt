@@ -15,7 +15,7 @@ ghost use Rattle.fisca_yaml.specs.Views.{node};
 
 use crate::key_fault::KeyFault;
 use crate::margins::Margins;
-use crate::renewal::{TestPlace, count_of, renew_after};
+use crate::renewal::TestPlace;
 use crate::report::{write_counts, write_expected, write_head};
 use crate::report_fault::ReportFault;
 use crate::simulation_builder::SimulationBuilder;
@@ -58,28 +58,37 @@ fn all_pass<F: KeyFault + Drop, A: Answers<Fault = F> + Drop, M: SimulationBuild
 {
     let mut asked = 0u64;
     for expected in outputs {
-        asked = renew_after(alloc, tables, place, builder, asked, answers)?;
         let mut text = String::new(alloc);
-        let passed = write_expected(alloc, tables, margins, expected, answers, &mut text)?;
+        let passed = write_expected(
+            alloc, tables, place, builder, margins, expected, &mut asked, answers, &mut text,
+        )?;
         if !passed {
             return Ok(false);
         }
-        asked += u64::from(count_of(expected.whom));
     }
     Ok(true)
 }
 
 /// Works out what is expected of members, and hands over the lines of outputs that failed.
 #[tactic(auto, using(crate::proofs::Handed::none_yet, crate::proofs::Handed::from_part))]
-fn hand_expected<F: KeyFault + Drop, A: Answers<Fault = F>, S: RowSink>(
+fn hand_expected<
+    F: KeyFault + Drop,
+    A: Answers<Fault = F> + Drop,
+    M: SimulationBuilder<A>,
+    S: RowSink,
+>(
     alloc: Global,
     tables: &Tables<'_>,
+    place: TestPlace<'_, '_>,
+    builder: &M,
     margins: &Margins,
     expected: &ExpectedOutput,
+    asked: &mut u64,
     answers: &mut A,
     sink: &mut S,
 ) -> Result<(), ReportFault>
-    requires { A.ready answers.old }
+    requires answers { AreAnswersOf (M.answer_in builder.now) (M.fits builder.now) tables.now place.line (node place.tree.now) (A.answer answers.old) (A.members answers.old) }
+    requires ready { A.ready answers.old }
     ensures all { OnOk result (Appends (S.taken sink.old) (S.taken sink.new) (spec.output_lines (spec.test_context (known tables.now) (A.members answers.old) (A.answer answers.old) F.fault_name F.fault_key) margins.now (expected_outputs expected.now))) }
     ensures part { OnErr result (AppendsSome (spec.output_lines (spec.test_context (known tables.now) (A.members answers.old) (A.answer answers.old) F.fault_name F.fault_key) margins.now (expected_outputs expected.now)) (S.taken sink.old) (S.taken sink.new)) }
     ensures cut { IfErr result IsCut }
@@ -89,7 +98,9 @@ fn hand_expected<F: KeyFault + Drop, A: Answers<Fault = F>, S: RowSink>(
     ensures same_members { A.members answers.new ≡ A.members answers.old }
 {
     let mut text = String::new(alloc);
-    let _passed = write_expected(alloc, tables, margins, expected, answers, &mut text)?;
+    let _passed = write_expected(
+        alloc, tables, place, builder, margins, expected, asked, answers, &mut text,
+    )?;
     hand(text.as_bytes(), sink)
 }
 
@@ -118,9 +129,9 @@ fn hand_lines<
 {
     let mut asked = 0u64;
     for expected in outputs {
-        asked = renew_after(alloc, tables, place, builder, asked, answers)?;
-        hand_expected(alloc, tables, margins, expected, answers, sink)?;
-        asked += u64::from(count_of(expected.whom));
+        hand_expected(
+            alloc, tables, place, builder, margins, expected, &mut asked, answers, sink,
+        )?;
     }
     Ok(())
 }
@@ -164,7 +175,7 @@ pub(crate) fn hand_counts<S: RowSink>(
 
 /// Hands over what is told of a test with these answers: `ok` and its name where all its outputs pass, else `failed` and its name, and a line for each
 /// output that failed, with its key and why. A test without a name is `test` and its number. Whether it passed.
-#[tactic(auto, using(crate::proofs::Handed::none_yet, crate::proofs::Handed::in_front, crate::proofs::Handed::behind, crate::proofs::OutputLines::none_failed))]
+#[tactic(auto, using(crate::proofs::Handed::none_yet, crate::proofs::VerdictTexts::all_passed))]
 fn hand_verdict<
     F: KeyFault + Drop,
     A: Answers<Fault = F> + Drop,
@@ -201,6 +212,7 @@ fn hand_verdict<
 }
 
 /// Reads a test, works it out, and hands over what is told of it, as the one of this number. Whether it passed.
+#[tactic(auto, using(crate::proofs::Handed::none_yet))]
 pub(crate) fn hand_test<
     F: KeyFault + Drop,
     A: Answers<Fault = F> + Drop,

@@ -1,19 +1,21 @@
 //! Answers that are made anew, so that no test remembers too much.
 
-ghost use Rattle.std.specs.Prelude.{◌≡◌, ◌≤◌, IfOk, OnOk};
+ghost use Rattle.std.specs.Prelude.{◌≡◌};
 ghost use Rattle.fisca_test_file.specs.Handing.{AreAnswersOf};
 ghost use Rattle.fisca_yaml.specs.Views.{node};
 
 use crate::simulation_builder::SimulationBuilder;
 use crate::test::situation_in;
-use fisca_expected::ExpectedMembers;
 use fisca_situations::Answers;
 use fisca_symbols::Tables;
 use fisca_yaml::Tree;
 use std::alloc::{AllocError, Global};
 
-/// How many keys are asked for before the answers are made anew.
-const MOST_KEYS: u64 = 250_000;
+/// How many values are remembered before the answers are made anew.
+const MOST_VALUES: u64 = 250_000;
+
+/// How many keys are asked for in between at least: what they have in common is worked out again each time.
+const FEWEST_KEYS: u64 = 100;
 
 /// Where a test stands: the item on `line`.
 #[derive(Clone, Copy)]
@@ -22,14 +24,6 @@ pub(crate) struct TestPlace<'a, 't> {
     pub(crate) line: usize,
     /// What stands there.
     pub(crate) tree: &'a Tree<'t>,
-}
-
-/// How many members these are.
-pub(crate) fn count_of(whom: ExpectedMembers) -> u32 {
-    match whom {
-        ExpectedMembers::Each(count) => count,
-        ExpectedMembers::One(_) => 1,
-    }
 }
 
 /// Makes the answers of a test anew, with nothing remembered: its situation is read again.
@@ -55,25 +49,26 @@ fn renew<A: Answers + Drop, M: SimulationBuilder<A>>(
     }
 }
 
-/// Makes the answers of a test anew where many keys were asked for since they were made. How many were.
-pub(crate) fn renew_after<A: Answers + Drop, M: SimulationBuilder<A>>(
+/// Makes the answers of a test anew where they remember many values, and some keys were asked for since they were made; and counts the key that is
+/// asked for next.
+pub(crate) fn renew_before<A: Answers + Drop, M: SimulationBuilder<A>>(
     alloc: Global,
     tables: &Tables<'_>,
     place: TestPlace<'_, '_>,
     builder: &M,
-    asked: u64,
+    asked: &mut u64,
     answers: &mut A,
-) -> Result<u64, AllocError>
+) -> Result<(), AllocError>
     requires answers { AreAnswersOf (M.answer_in builder.now) (M.fits builder.now) tables.now place.line (node place.tree.now) (A.answer answers.old) (A.members answers.old) }
     requires ready { A.ready answers.old }
-    ensures asked { IfOk result (λ asked. asked ≤ MOST_KEYS) }
     ensures ready { A.ready answers.new }
     ensures same_answers { A.answer answers.new ≡ A.answer answers.old }
     ensures same_members { A.members answers.new ≡ A.members answers.old }
 {
-    if asked < MOST_KEYS {
-        return Ok(asked);
+    if *asked >= FEWEST_KEYS && builder.remembered(answers) >= MOST_VALUES {
+        renew(alloc, tables, place, builder, answers)?;
+        *asked = 0;
     }
-    renew(alloc, tables, place, builder, answers)?;
-    Ok(0)
+    *asked = asked.saturating_add(1);
+    Ok(())
 }

@@ -3,7 +3,7 @@
 ghost use Rattle.std.specs.Prelude.{◌≡◌};
 ghost use Rattle.fisca_test_file.specs.Handing as spec;
 
-use crate::fault::TestFault;
+use crate::fault::{TestFault, TestKind};
 use std::alloc::AllocError;
 use thiserror::Error;
 
@@ -51,11 +51,15 @@ impl From<TestFault> for ReportFault {
 }
 
 impl From<AllocError> for ReportFault {
-    ghost use Rattle.fisca_test_file.specs.Handing.{IsCut};
+    ghost use Rattle.std.specs.Prelude.{◌≡◌};
+    ghost use Rattle.fisca_test_file.specs.Handing.{memory_refused};
 
-    ghost from_gives = { λ _ f. IsCut f };
+    ghost from_gives = { λ _ f. f ≡ memory_refused };
 
-    fn from(error: AllocError) -> ReportFault {
-        ReportFault::Tests(TestFault::from(error))
+    fn from(_error: AllocError) -> ReportFault {
+        ReportFault::Tests(TestFault {
+            line: 0,
+            kind: TestKind::Memory,
+        })
     }
 }

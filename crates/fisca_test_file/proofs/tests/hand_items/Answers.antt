@@ -1,4 +1,4 @@
-use Rattle.std.proofs.Common.{◌≡◌, ◌∙◌, ◌+◌, ◌<◌, [], ◌∷◌, ◌++◌, drop, length, ap, arith, subst, sym}
+use Rattle.std.proofs.Common.{◌≡◌, ◌∙◌, ◌+◌, ◌<◌, [], ◌∷◌, ◌++◌, drop, length, ap, arith, refl, subst, sym}
 use Rattle.std.specs.Prelude.{Err, IfErr}
 use Rattle.std.proofs.lemmas.List.{length-append}
 use Rattle.std.proofs.lemmas.Result.{err_from_is_err_and}
@@ -6,7 +6,7 @@ use Rattle.fisca_params.specs.Results.{and_then}
 use Rattle.fisca_symbols.specs.Known.{tables as known}
 use Rattle.fisca_yaml.specs.Views.{items_view, node}
 use Rattle.fisca_test_file.proofs.Items.{items-drop}
-use Rattle.fisca_test_file.proofs.Reports.{Told, step}
+use Rattle.fisca_test_file.proofs.Reports.{Told, begun, step}
 use Rattle.fisca_test_file.proofs.Stopped.{behind_one, stopped_more}
 use Rattle.fisca_test_file.specs.Handing.{AppendsSome, IsStopped}
 use Rattle.fisca_test_file.specs.Report.{test_context_of, tests_text}
@@ -17,6 +17,11 @@ use Rattle.fisca_test_file.proofs.tests.hand_items.Goals as goal
 
 pub hand_test-requires : goal.hand_test-requires
 hand_test-requires g c = c.requires c.item-item.result.line (node c.item-item.result.value)
+
+pub loop-item-init : goal.loop-item-init
+loop-item-init g c =
+    let test_context = test_context_of (known c.args.tables.now) (g.M.SimulationBuilder.answer_in c.args.builder.now) g.F.KeyFault.fault_name g.F.KeyFault.fault_key in
+    ([], refl, begun test_context (g.S.RowSink.taken c.args.sink.now), refl, refl)
 
 pub loop-item-preserved : goal.loop-item-preserved
 loop-item-preserved g c =

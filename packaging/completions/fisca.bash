@@ -30,7 +30,7 @@ _fisca() {
       [=:]*) ((at++)) ;; # bash cuts words there: the next one belongs to the one before
       -*)
         case "$command $word" in
-          'calc --decimals' | 'calc --format' | 'run --from' | 'run --to' | 'run --part' | 'run --rows' | 'run --decimals' | 'run --format' | 'axes --keep' | 'axes --from' | 'axes --to' | 'axes --part' | 'axes --rows' | 'axes --decimals' | 'axes --format')
+          'calc --decimals' | 'calc --format' | 'run --from' | 'run --to' | 'run --part' | 'run --rows' | 'run --decimals' | 'run --format' | 'list --format' | 'axes --keep' | 'axes --from' | 'axes --to' | 'axes --part' | 'axes --rows' | 'axes --decimals' | 'axes --format')
             [[ ${COMP_WORDS[at + 1]} != = ]] || ((at++))
             ((++at < COMP_CWORD)) || wanted=$word
             ;;
@@ -49,11 +49,12 @@ calc   Work out values
 test   Run tests of rules
 run    Write the lines of a grid of situations
 size   Count the positions of a grid
+list   List the variables of a rule set
 axes   List the values of axes
 help   Print this message or the help of the given subcommand(s)
 END
       ;;
-    'check 0' | 'calc 0' | 'test 0' | 'run 0' | 'size 0') _fisca_paths -d ;;
+    'check 0' | 'calc 0' | 'test 0' | 'run 0' | 'size 0' | 'list 0') _fisca_paths -d ;;
     'calc 1' | 'test 1' | 'run 1' | 'size 1') _fisca_paths -f ;;
     ' -')
       _fisca_words <<'END'
@@ -103,6 +104,14 @@ END
       _fisca_words <<'END'
 -h      Print help
 --help  Print help
+END
+      ;;
+    'list -')
+      _fisca_words <<'END'
+--header  Write a first line with the names of the cells
+--format  Write lines as tsv, csv or jsonl
+-h        Print help
+--help    Print help
 END
       ;;
     'axes -')

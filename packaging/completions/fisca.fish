@@ -8,7 +8,7 @@ function __fisca_at --argument-names command place
     set -l found ''
     set -l at 0
     set -l is_value no
-    set -l valued 'calc --decimals' 'calc --format' 'run --from' 'run --to' 'run --part' 'run --rows' 'run --decimals' 'run --format' 'axes --keep' 'axes --from' 'axes --to' 'axes --part' 'axes --rows' 'axes --decimals' 'axes --format'
+    set -l valued 'calc --decimals' 'calc --format' 'run --from' 'run --to' 'run --part' 'run --rows' 'run --decimals' 'run --format' 'list --format' 'axes --keep' 'axes --from' 'axes --to' 'axes --part' 'axes --rows' 'axes --decimals' 'axes --format'
     for word in $words
         if test $is_value = yes
             set is_value no
@@ -29,6 +29,7 @@ complete -c fisca -n '__fisca_at \'\'' -a calc -d 'Work out values'
 complete -c fisca -n '__fisca_at \'\'' -a test -d 'Run tests of rules'
 complete -c fisca -n '__fisca_at \'\'' -a run -d 'Write the lines of a grid of situations'
 complete -c fisca -n '__fisca_at \'\'' -a size -d 'Count the positions of a grid'
+complete -c fisca -n '__fisca_at \'\'' -a list -d 'List the variables of a rule set'
 complete -c fisca -n '__fisca_at \'\'' -a axes -d 'List the values of axes'
 complete -c fisca -n '__fisca_at \'\'' -a help -d 'Print this message or the help of the given subcommand(s)'
 complete -c fisca -n '__fisca_at help 0' -a check -d 'Check the rule files of a folder'
@@ -36,6 +37,7 @@ complete -c fisca -n '__fisca_at help 0' -a calc -d 'Work out values'
 complete -c fisca -n '__fisca_at help 0' -a test -d 'Run tests of rules'
 complete -c fisca -n '__fisca_at help 0' -a run -d 'Write the lines of a grid of situations'
 complete -c fisca -n '__fisca_at help 0' -a size -d 'Count the positions of a grid'
+complete -c fisca -n '__fisca_at help 0' -a list -d 'List the variables of a rule set'
 complete -c fisca -n '__fisca_at help 0' -a axes -d 'List the values of axes'
 complete -c fisca -n '__fisca_at help 0' -a help -d 'Print this message or the help of the given subcommand(s)'
 complete -c fisca -n '__fisca_at check 0' -a '(__fish_complete_directories)'
@@ -43,6 +45,7 @@ complete -c fisca -n '__fisca_at calc 0' -a '(__fish_complete_directories)'
 complete -c fisca -n '__fisca_at test 0' -a '(__fish_complete_directories)'
 complete -c fisca -n '__fisca_at run 0' -a '(__fish_complete_directories)'
 complete -c fisca -n '__fisca_at size 0' -a '(__fish_complete_directories)'
+complete -c fisca -n '__fisca_at list 0' -a '(__fish_complete_directories)'
 complete -c fisca -n '__fisca_at calc 1' -F
 complete -c fisca -n '__fisca_at test 1' -F
 complete -c fisca -n '__fisca_at run 1' -F
@@ -66,6 +69,9 @@ complete -c fisca -n '__fisca_at run' -l format -x -d 'Write lines as tsv, csv o
 complete -c fisca -n '__fisca_at run' -l keep-going -d 'Write the word of a fault in place of a value, and go on'
 complete -c fisca -n '__fisca_at run' -s h -l help -d 'Print help'
 complete -c fisca -n '__fisca_at size' -s h -l help -d 'Print help'
+complete -c fisca -n '__fisca_at list' -l header -d 'Write a first line with the names of the cells'
+complete -c fisca -n '__fisca_at list' -l format -x -d 'Write lines as tsv, csv or jsonl'
+complete -c fisca -n '__fisca_at list' -s h -l help -d 'Print help'
 complete -c fisca -n '__fisca_at axes' -l keep -x -d 'List only where an axis meets a condition, such as "salary>=500"'
 complete -c fisca -n '__fisca_at axes' -l from -x -d 'Begin at this position [default: 0]'
 complete -c fisca -n '__fisca_at axes' -l to -x -d 'End before this position [default: the last one is worked out]'

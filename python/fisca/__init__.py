@@ -13,6 +13,7 @@ as a `FiscaError`.
 """
 from ._errors import Failed, FiscaError, NoValue, OutOfMemory, Refused
 from ._lines import Amount, Situation
+from ._listing import Variable
 from ._rows import Row, Run, axes
 from ._rules import Counts, Rules, Verdict
 from ._values import Number, Value
@@ -31,6 +32,7 @@ __all__ = [
     "Run",
     "Situation",
     "Value",
+    "Variable",
     "Verdict",
     "axes",
 ]

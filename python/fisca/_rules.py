@@ -8,6 +8,7 @@ from typing import TYPE_CHECKING, Any, Iterator, List, NamedTuple, Optional, Tup
 
 from ._errors import FiscaError
 from ._lines import Amount, Population, Situation, amount_of, situations_of
+from ._listing import Variable, variable_of
 from ._program import PathLike, Said, file_of, lines_of, output_of, program_of
 from ._rows import DECIMALS, Run, options_of, run_of
 from ._values import NUMBER, value_of
@@ -67,6 +68,11 @@ class Rules:
         if not found:
             raise FiscaError(f"not what fisca check prints: {text}", 0)
         return Counts(*map(int, found.groups()))
+
+    def list(self) -> List[Variable]:
+        """The variables, in the order in which the modules declare them: that of the modules' paths, and of the lines in
+        each."""
+        return [variable_of(line) for line in output_of(self._words("list", "--format=jsonl")).split("\n")[:-1]]
 
     def calc(self, said: Said, decimals: Optional[int] = None) -> List[Amount]:
         """The values of the columns of a file of `fisca calc`, in the order of the columns.

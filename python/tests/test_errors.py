@@ -11,7 +11,7 @@ GRID = {"period": "2017-01", "axes": [[{"name": "salary", "count": 3, "min": 2, 
 
 def test_a_rule_file_is_refused(small, tmp_path):
     (tmp_path / "small" / "variables" / "b.py").write_text("\nx = 1\n")
-    for call in (small.check, lambda: small.calc({}), lambda: small.run(GRID), lambda: small.test([])):
+    for call in (small.check, small.list, lambda: small.calc({}), lambda: small.run(GRID), lambda: small.test([])):
         with pytest.raises(fisca.Refused) as found:
             call()
         assert str(found.value) == "fisca: variables/b.py:2: Unsupported"
@@ -162,13 +162,16 @@ def test_a_program_that_is_killed_or_ends_too_early(stand_in):
     with pytest.raises(fisca.FiscaError):
         next(run)
     hello = stand_in("echo hello")
-    for call in (hello.check, lambda: hello.calc({}), lambda: hello.size(GRID), lambda: hello.run(GRID),
+    for call in (hello.check, hello.list, lambda: hello.calc({}), lambda: hello.size(GRID), lambda: hello.run(GRID),
                  lambda: list(hello.calc_lines([{}]))):
         with pytest.raises(fisca.FiscaError):
             call()
     for call in (stand_in("exit 0").check, lambda: list(stand_in(f"{HEAD}; printf '0\\t1\\n'").run(GRID))):
         with pytest.raises(fisca.FiscaError):
             call()
+    for printed in ("{}", "1", '{"declared": 1}'):
+        with pytest.raises(fisca.FiscaError):
+            stand_in(f"echo '{printed}'").list()
 
 
 NO_OPTIONS = [

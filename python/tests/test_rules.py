@@ -1,10 +1,10 @@
-"""check, calc and test: what they give, over the repository's rules and small ones."""
+"""check, list, calc and test: what they give, over the repository's rules and small ones."""
 import datetime
 from decimal import Decimal
 from fractions import Fraction
 
 import pytest
-from conftest import TOP
+from conftest import ENTITIES, TOP
 
 import fisca
 
@@ -41,6 +41,48 @@ def test_other_values_are_read():
 def test_check(housing, small):
     assert housing.check() == (2, 12, 11)
     assert small.check() == fisca.Counts(entities=1, variables=4, parameters=0)
+
+
+def test_list(housing, small):
+    choice, _, share, _ = small.list()
+    assert choice == fisca.Variable("choice", "person", "Choice", "month", (), "", "", "variables/a.py", 6)
+    assert (share.name, share.formulas, share.path, share.line) == ("share", (datetime.date.min,), "variables/a.py", 20)
+    assert len(housing.list()) == housing.check().variables
+    first = housing.list()[0]
+    assert (first.name, first.entity, first.formulas) == ("housing_benefit", "household", (datetime.date(2024, 1, 1),))
+    assert (first.unit, first.label) == ("currency", "Housing benefit of the month")
+
+
+LISTED = """\
+
+
+class b(Variable):
+    value_type = int
+    entity = Person
+    definition_period = YEAR
+    unit = "1"
+    label = "a\tb: \u202ec"
+
+    def formula_2025_02_03(person, period):
+        return 1
+
+    def formula(person, period):
+        return 2
+"""
+
+
+def test_list_of_texts_that_look_otherwise(small, tmp_path):
+    module = tmp_path / "small" / "variables" / "a: 1" / "b.py"
+    module.parent.mkdir()
+    module.write_text(LISTED, encoding="utf-8")
+    days = datetime.date(2025, 2, 3), datetime.date.min
+    found = [it for it in small.list() if it.name == "b"]
+    assert found == [("b", "person", "int", "year", days, "1", "a\\x09b: \\u{202e}c", "variables/a: 1/b.py", 3)]
+
+
+def test_list_without_variables(tmp_path):
+    (tmp_path / "entities.py").write_text(ENTITIES)
+    assert fisca.Rules(tmp_path).list() == []
 
 
 @pytest.mark.parametrize("stored", [it for it in STORED if it.stem in ("family", "calc")], ids=str)

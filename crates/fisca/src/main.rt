@@ -79,7 +79,7 @@ fn print_text(rt: &HostRuntime, error: &clap::Error) -> u8 {
 /// Runs a task over the files of the folder and the file that it names, if it names any, and answers the exit status.
 fn run_task_of(rt: &HostRuntime, task: &Task<'_>) -> u8 {
     match task {
-        Task::Check { rules } => run_in(rt, task, rules, None),
+        Task::Check { rules } | Task::List { rules, .. } => run_in(rt, task, rules, None),
         Task::Calc { rules, file, .. }
         | Task::Test { rules, file }
         | Task::Run { rules, file, .. }

@@ -34,6 +34,10 @@ axis_rule = record (required_rule (codes "AXIS")) { action = Some Append; range 
 abbrev pub with_range : App → App
 with_range app = with_rule (with_rule (with_rule (with_rule app (number_rule (codes "from"))) (number_rule (codes "to"))) (option_rule (codes "part"))) (number_rule (codes "rows"))
 
+-- the options of a table without numbers: [--header] [--format FORM]
+abbrev pub with_table : App → App
+with_table app = with_rule (with_rule app (flag_rule (codes "header"))) (option_rule (codes "format"))
+
 -- the options of a form of lines: [--header] [--decimals N] [--format FORM]
 abbrev pub with_form : App → App
 with_form app = with_rule (with_rule (with_rule app (flag_rule (codes "header"))) (places_rule (codes "decimals"))) (option_rule (codes "format"))
@@ -62,10 +66,15 @@ run_app = with_rule (with_form (with_range (with_rule (with_rule (new_app (codes
 abbrev pub size_app : App
 size_app = with_rule (with_rule (new_app (codes "size")) (required_rule (codes "RULES"))) (required_rule (codes "FILE"))
 
+-- RULES and the options of a table
+abbrev pub list_app : App
+list_app = with_table (with_rule (new_app (codes "list")) (required_rule (codes "RULES")))
+
 -- the program without its commands
 abbrev pub top_app : App
 top_app = on_top (λ s. record s { has_version = true; subcommand_required = true; arg_required_else_help = true }) (new_app (codes "fisca"))
 
--- the program: `check`, `calc`, `test`, `run`, `size` or `axes`
+-- the program: `check`, `calc`, `test`, `run`, `size`, `list` or `axes`
 abbrev pub fisca_app : App
-fisca_app = with_subcommand (with_subcommand (with_subcommand (with_subcommand (with_subcommand (with_subcommand top_app check_app.top) calc_app.top) test_app.top) run_app.top) size_app.top) axes_app.top
+fisca_app =
+    with_subcommand (with_subcommand (with_subcommand (with_subcommand (with_subcommand (with_subcommand (with_subcommand top_app check_app.top) calc_app.top) test_app.top) run_app.top) size_app.top) list_app.top) axes_app.top

@@ -49,7 +49,7 @@ options_misuse rows =
 
 -- the commands that have these options
 abbrev pub takes_options : Text → Bool
-takes_options name = bytes_eq name (codes "run") || (bytes_eq name (codes "axes") || bytes_eq name (codes "calc"))
+takes_options name = bytes_eq name (codes "run") || (bytes_eq name (codes "axes") || (bytes_eq name (codes "calc") || bytes_eq name (codes "list")))
 
 -- the misuse in the matches of a command
 abbrev pub misuse_of : Option (Text × List Row) → Option Misuse

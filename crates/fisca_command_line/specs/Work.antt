@@ -2,7 +2,7 @@
 use Rattle.std.specs.Prelude.{◌≡◌, ◌⊎◌, true, false, List, [], map, codes, Option, Some, None, option_map, unwrap_or, string_bytes}
 use Rattle.clap.specs.Walk.{Row, Text, all_of, first_of}
 use Rattle.fisca_command_line.specs.declared.task.Task.{Task}
-use Rattle.fisca_command_line.specs.declared.task.Task.TheVariants.{Check, Calc, Test, Run, Size, Axes}
+use Rattle.fisca_command_line.specs.declared.task.Task.TheVariants as task
 use Rattle.fisca_command_line.specs.Asked.{text_of, is_set, AreOptions, IsForm}
 use Rattle.fisca_command_line.specs.declared.task.LinesTask.{LinesTask}
 use Rattle.fisca_command_line.specs.declared.task.Work.{Work}
@@ -10,7 +10,7 @@ use Rattle.fisca_command_line.specs.declared.task.Work.TheVariants as work
 
 -- the task that the matches of `axes` say
 abbrev pub IsAxesTask : List Row → Task → Type 0
-IsAxesTask rows (Axes words keep options) =
+IsAxesTask rows (task.Axes words keep options) =
     (map (λ word. string_bytes word) words.items ≡ unwrap_or (all_of (codes "AXIS") rows) [])
     × (option_map (λ text. text.now) keep ≡ first_of (codes "keep") rows)
     × AreOptions rows options
@@ -18,28 +18,33 @@ IsAxesTask rows _ = ⊥
 
 -- the task that the matches of `check` say
 abbrev pub IsCheckTask : List Row → Task → Type 0
-IsCheckTask rows (Check rules) = rules.now ≡ text_of (codes "RULES") rows
+IsCheckTask rows (task.Check rules) = rules.now ≡ text_of (codes "RULES") rows
 IsCheckTask rows _ = ⊥
 
 -- the task that the matches of `calc` say
 abbrev pub IsCalcTask : List Row → Task → Type 0
-IsCalcTask rows (Calc rules file form) = (rules.now ≡ text_of (codes "RULES") rows) × (file.now ≡ text_of (codes "FILE") rows) × IsForm rows form
+IsCalcTask rows (task.Calc rules file form) = (rules.now ≡ text_of (codes "RULES") rows) × (file.now ≡ text_of (codes "FILE") rows) × IsForm rows form
 IsCalcTask rows _ = ⊥
 
 -- the task that the matches of `test` say
 abbrev pub IsTestTask : List Row → Task → Type 0
-IsTestTask rows (Test rules file) = (rules.now ≡ text_of (codes "RULES") rows) × (file.now ≡ text_of (codes "TESTS") rows)
+IsTestTask rows (task.Test rules file) = (rules.now ≡ text_of (codes "RULES") rows) × (file.now ≡ text_of (codes "TESTS") rows)
 IsTestTask rows _ = ⊥
 
 -- the task that the matches of `run` say
 abbrev pub IsRunTask : List Row → Task → Type 0
-IsRunTask rows (Run rules file options) = (rules.now ≡ text_of (codes "RULES") rows) × (file.now ≡ text_of (codes "FILE") rows) × AreOptions rows options
+IsRunTask rows (task.Run rules file options) = (rules.now ≡ text_of (codes "RULES") rows) × (file.now ≡ text_of (codes "FILE") rows) × AreOptions rows options
 IsRunTask rows _ = ⊥
 
 -- the task that the matches of `size` say
 abbrev pub IsSizeTask : List Row → Task → Type 0
-IsSizeTask rows (Size rules file) = (rules.now ≡ text_of (codes "RULES") rows) × (file.now ≡ text_of (codes "FILE") rows)
+IsSizeTask rows (task.Size rules file) = (rules.now ≡ text_of (codes "RULES") rows) × (file.now ≡ text_of (codes "FILE") rows)
 IsSizeTask rows _ = ⊥
+
+-- the task that the matches of `list` say
+abbrev pub IsListTask : List Row → Task → Type 0
+IsListTask rows (task.List rules form) = (rules.now ≡ text_of (codes "RULES") rows) × IsForm rows form
+IsListTask rows _ = ⊥
 
 -- the task over lines that the matches of `calc` say
 abbrev pub IsLinesTask : List Row → LinesTask → Type 0
@@ -63,4 +68,5 @@ IsWorkOf (Some command) w =
     ⊎ (((command.0 ≡ codes "calc") × IsCalcWork command.1 w)
     ⊎ (((command.0 ≡ codes "test") × IsTask (IsTestTask command.1) w)
     ⊎ (((command.0 ≡ codes "run") × IsTask (IsRunTask command.1) w)
-    ⊎ (((command.0 ≡ codes "size") × IsTask (IsSizeTask command.1) w) ⊎ ((command.0 ≡ codes "axes") × IsTask (IsAxesTask command.1) w)))))
+    ⊎ (((command.0 ≡ codes "size") × IsTask (IsSizeTask command.1) w)
+    ⊎ (((command.0 ≡ codes "list") × IsTask (IsListTask command.1) w) ⊎ ((command.0 ≡ codes "axes") × IsTask (IsAxesTask command.1) w))))))

@@ -4,7 +4,7 @@ ghost use Rattle.std.specs.Prelude.{◌≡◌, false, IfOk, codes};
 ghost use Rattle.clap.specs.declared.builder.command.Command.TheViews.{out-Command};
 ghost use Rattle.clap.specs.Walk.{rule_of};
 ghost use Rattle.clap.specs.Simple.{app_of};
-ghost use Rattle.fisca_command_line.specs.CommandLine.{axis_rule, flag_rule, number_rule, option_rule, places_rule, required_rule, with_form, with_range};
+ghost use Rattle.fisca_command_line.specs.CommandLine.{axis_rule, flag_rule, number_rule, option_rule, places_rule, required_rule, with_form, with_range, with_table};
 
 use crate::help::{
     AXIS_HELP, AXIS_LONG, DECIMALS_HELP, DECIMALS_LONG, FORMAT_HELP, FORMAT_LONG, FROM_HELP,
@@ -158,6 +158,17 @@ pub fn lines_option<'a>(alloc: Global) -> Arg<'a>
         .action(ArgAction::SetTrue)
         .help(LINES_HELP)
         .long_help(LINES_LONG)
+}
+
+/// A command with the options of a table without numbers.
+pub fn with_table<'a>(alloc: Global, command: Command<'a>) -> Result<Command<'a>, AllocError>
+    requires { (out-Command command).has_globals ≡ false }
+    ensures app { IfOk result (λ made. app_of made ≡ with_table (app_of command.entry)) }
+    ensures local { IfOk result (λ made. (out-Command made).has_globals ≡ false) }
+{
+    let header = header_option(alloc);
+    let format = format_option(alloc);
+    command.arg(header)?.arg(format)
 }
 
 /// A command with the options of a form of lines.

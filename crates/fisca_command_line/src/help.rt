@@ -196,6 +196,38 @@ Exit status:
   5  a file could not be read, or the output could not be written
   6  out of memory";
 
+pub const LIST_ABOUT: &str = "List the variables of a rule set";
+
+pub const LIST_LONG: &str =
+    "List the variables of a rule set, one line each, in the order in which its modules declare them.
+
+It reads the rule files of the folder as 'fisca check' does, and refuses what that does; nothing is
+worked out. A line has these cells, with tabs between them; unit and label may be empty:
+
+variable           the name
+entity             the key of the entity that has its values
+value_type         float, int, bool, date or str, or the name of its Enum
+definition_period  day, month, year or eternity
+formulas           the first day of each of its formulas, or 'input' where it has none
+unit               what its values are counted in
+label              what is told of it
+declared           MODULE:LINE, where it begins";
+
+pub const LIST_EXAMPLE: &str = "Example:
+  fisca list examples/housing --header";
+
+pub const LIST_MORE: &str = "Example:
+  fisca list examples/housing --header
+
+FAULT is a word: see 'fisca check --help'
+
+Exit status:
+  0  done
+  2  the command line is wrong
+  3  a rule file is refused
+  5  a file could not be read, or the output could not be written
+  6  out of memory";
+
 pub const TESTS_HELP: &str = "The file of the tests, or - for standard input";
 
 pub const RUN_FILE_HELP: &str =

@@ -3,16 +3,18 @@
 ghost use Rattle.std.specs.Prelude.{◌≡◌, false, IfOk, codes};
 ghost use Rattle.clap.specs.declared.builder.command.Command.TheViews.{out-Command};
 ghost use Rattle.clap.specs.Simple.{app_of, new_app};
-ghost use Rattle.fisca_command_line.specs.CommandLine.{axes_app, calc_app, check_app, fisca_app, run_app, size_app, test_app, top_app};
+ghost use Rattle.fisca_command_line.specs.CommandLine.{axes_app, calc_app, check_app, fisca_app, list_app, run_app, size_app, test_app, top_app};
 
 use crate::arguments::{
     axis_argument, keep_going_option, keep_option, lines_option, required, with_form, with_range,
+    with_table,
 };
 use crate::help::{
     ABOUT, AXES_ABOUT, AXES_EXAMPLE, AXES_EXAMPLES, AXES_LONG, CALC_ABOUT, CALC_EXAMPLE, CALC_LONG,
-    CALC_MORE, CHECK_ABOUT, CHECK_EXAMPLE, CHECK_LONG, CHECK_MORE, FILE_HELP, RULES_HELP,
-    RUN_ABOUT, RUN_EXAMPLE, RUN_FILE_HELP, RUN_LONG, RUN_MORE, SIZE_ABOUT, SIZE_EXAMPLE, SIZE_LONG,
-    SIZE_MORE, STATUSES, TEST_ABOUT, TEST_EXAMPLE, TEST_LONG, TEST_MORE, TESTS_HELP,
+    CALC_MORE, CHECK_ABOUT, CHECK_EXAMPLE, CHECK_LONG, CHECK_MORE, FILE_HELP, LIST_ABOUT,
+    LIST_EXAMPLE, LIST_LONG, LIST_MORE, RULES_HELP, RUN_ABOUT, RUN_EXAMPLE, RUN_FILE_HELP,
+    RUN_LONG, RUN_MORE, SIZE_ABOUT, SIZE_EXAMPLE, SIZE_LONG, SIZE_MORE, STATUSES, TEST_ABOUT,
+    TEST_EXAMPLE, TEST_LONG, TEST_MORE, TESTS_HELP,
 };
 use clap::Command;
 use std::alloc::{AllocError, Global};
@@ -145,6 +147,27 @@ fn size_command<'a>(alloc: Global) -> Result<Command<'a>, AllocError>
     size_page(alloc).arg(rules)?.arg(file)
 }
 
+/// The command `list` with its help, and no arguments yet.
+fn list_page<'a>(alloc: Global) -> Command<'a>
+    ensures app { app_of result ≡ new_app (codes "list") }
+    ensures local { (out-Command result).has_globals ≡ false }
+{
+    Command::new(alloc, "list")
+        .about(LIST_ABOUT)
+        .long_about(LIST_LONG)
+        .after_help(LIST_EXAMPLE)
+        .after_long_help(LIST_MORE)
+}
+
+/// The command `list`.
+pub fn list_command<'a>(alloc: Global) -> Result<Command<'a>, AllocError>
+    ensures app { IfOk result (λ command. app_of command ≡ list_app) }
+    ensures local { IfOk result (λ command. (out-Command command).has_globals ≡ false) }
+{
+    let rules = required(alloc, "RULES", RULES_HELP);
+    with_table(alloc, list_page(alloc).arg(rules)?)
+}
+
 /// The program with its help, and no commands yet.
 fn program_page<'a>(alloc: Global) -> Command<'a>
     ensures app { app_of result ≡ top_app }
@@ -168,6 +191,7 @@ pub fn command<'a>(alloc: Global) -> Result<Command<'a>, AllocError>
     let test = test_command(alloc)?;
     let run = run_command(alloc)?;
     let size = size_command(alloc)?;
+    let list = list_command(alloc)?;
     let axes = axes_command(alloc)?;
     program_page(alloc)
         .subcommand(check)?
@@ -175,5 +199,6 @@ pub fn command<'a>(alloc: Global) -> Result<Command<'a>, AllocError>
         .subcommand(test)?
         .subcommand(run)?
         .subcommand(size)?
+        .subcommand(list)?
         .subcommand(axes)
 }

@@ -7,11 +7,11 @@ ghost use Rattle.clap.specs.Simple.{subcommand_of};
 ghost use Rattle.clap.specs.Kinds.{FailsBy};
 ghost use Rattle.fisca_command_line.specs.CommandLine.{fisca_app};
 ghost use Rattle.fisca_command_line.specs.Misuse.{misuse_kinds, options_misuse, usage_fault};
-ghost use Rattle.fisca_command_line.specs.Work.{IsAxesTask, IsCalcTask, IsCalcWork, IsCheckTask, IsLinesTask, IsRunTask, IsSizeTask, IsTask, IsTestTask, IsWorkOf};
+ghost use Rattle.fisca_command_line.specs.Work.{IsAxesTask, IsCalcTask, IsCalcWork, IsCheckTask, IsLinesTask, IsListTask, IsRunTask, IsSizeTask, IsTask, IsTestTask, IsWorkOf};
 
 use crate::asked::{flag, form_in, misuse_in, options, text_at, text_in};
 use crate::options::{RunOptions, TableForm};
-use crate::subcommands::{axes_command, calc_command, command, run_command};
+use crate::subcommands::{axes_command, calc_command, command, list_command, run_command};
 use clap::{ArgMatches, Error};
 use std::alloc::{AllocError, Global};
 
@@ -43,6 +43,11 @@ pub enum Task<'a> {
     Size {
         rules: &'a str,
         file: &'a str,
+    },
+    /// `list`: list the variables of the rule files of a folder.
+    List {
+        rules: &'a str,
+        form: TableForm,
     },
     /// `axes`: list the values of axes.
     Axes {
@@ -145,6 +150,16 @@ fn size_task<'a>(matches: &ArgMatches<'a>) -> Task<'a>
     Task::Size { rules, file }
 }
 
+/// The task of `list`.
+fn list_task<'a>(matches: &ArgMatches<'a>) -> Task<'a>
+    ensures { IsListTask (rows_of (found_of matches.now)) result }
+{
+    Task::List {
+        rules: text_at(matches, "RULES"),
+        form: form_in(matches),
+    }
+}
+
 /// The task over lines of `calc`.
 fn lines_task<'a>(matches: &ArgMatches<'a>) -> LinesTask<'a>
     ensures { IsLinesTask (rows_of (found_of matches.now)) result }
@@ -190,6 +205,17 @@ fn used_run<'a>(alloc: Global, matches: &ArgMatches<'a>) -> Result<Work<'a>, Err
     }
 }
 
+/// The task of `list`, or why its options mean nothing.
+fn used_list<'a>(alloc: Global, matches: &ArgMatches<'a>) -> Result<Work<'a>, Error>
+    ensures work { IfOk result (IsTask (IsListTask (rows_of (found_of matches.now)))) }
+    ensures fault { FailsBy (misuse_kinds (options_misuse (rows_of (found_of matches.now)))) result }
+{
+    match misuse_in(matches) {
+        Some(misuse) => Err(misuse.error(list_command(alloc)?, "fisca list")),
+        None => Ok(Work::Task(list_task(matches))),
+    }
+}
+
 /// The task of `axes`, or why its options mean nothing.
 fn used_axes<'a>(alloc: Global, matches: &ArgMatches<'a>) -> Result<Work<'a>, Error>
     ensures work { IfOk result (IsTask (IsAxesTask (rows_of (found_of matches.now)))) }
@@ -217,6 +243,7 @@ pub fn read_task<'a>(alloc: Global, words: &'a [String]) -> Result<Work<'a>, Err
         Some(("test", inner)) => Ok(Work::Task(test_task(inner))),
         Some(("run", inner)) => used_run(alloc, inner),
         Some(("size", inner)) => Ok(Work::Task(size_task(inner))),
+        Some(("list", inner)) => used_list(alloc, inner),
         Some(("axes", inner)) => used_axes(alloc, inner),
         Some(_) => unreachable!(),
         None => unreachable!(),

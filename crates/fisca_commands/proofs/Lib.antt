@@ -17,6 +17,7 @@ mod Lacking
 mod LineWritten
 mod LinesPassed
 mod LinesReady
+mod Listed
 mod Named
 pub mod Numbers
 mod OnTheWay

@@ -8,12 +8,13 @@ use Rattle.fisca_params.specs.Source.{Source}
 use Rattle.fisca_rule_files.specs.declared.refusal.Refusal.{Refusal}
 use Rattle.fisca_rule_files.specs.declared.refusal.Refusal.TheVariants.{Write, Memory}
 use Rattle.fisca_command_line.specs.declared.task.Task.{Task}
-use Rattle.fisca_command_line.specs.declared.task.Task.TheVariants.{Check, Calc, Test, Run, Size, Axes}
+use Rattle.fisca_command_line.specs.declared.task.Task.TheVariants as task
 use Rattle.fisca_commands.specs.AxesRun.{IsAxesAnswer}
 use Rattle.fisca_commands.specs.Calc.{IsCalc}
 use Rattle.fisca_rule_files.specs.Check.{IsCheck}
 use Rattle.fisca_commands.specs.Forms.{is_table}
 use Rattle.fisca_commands.specs.LastLine.{end_text, last_line}
+use Rattle.fisca_commands.specs.Listed.{IsList}
 use Rattle.fisca_commands.specs.Run.{IsCounted, IsRunAnswer}
 use Rattle.fisca_commands.specs.Size.{IsSize}
 use Rattle.fisca_command_line.specs.declared.options.RunOptions.{RunOptions}
@@ -91,6 +92,10 @@ IsCalcEnding files path text form old new outcome = (answer : Result Unit Refusa
 abbrev pub IsSizeEnding : List Source → List ℕ → List ℕ → Option (List ℕ) → Option (List ℕ) → TaskOutcome → Type 0
 IsSizeEnding files path text old new outcome = (answer : Result Unit Refusal) × IsSize files text old new answer × IsAnswered path answer outcome
 
+-- how `list` ends
+abbrev pub IsListEnding : List Source → TableForm → Option (List ℕ) → Option (List ℕ) → TaskOutcome → Type 0
+IsListEnding files form old new outcome = (answer : Result Unit Refusal) × IsList files form old new answer × IsAnswered [] answer outcome
+
 -- the status says whether a test failed
 abbrev pub judged : Verdict → TaskOutcome
 judged verdict = record { status = if verdict.failed == 0 then 0 else 1; told = None }
@@ -106,9 +111,10 @@ IsTestEnding files path text old new outcome = (answer : Result Verdict Refusal)
 
 -- how a task ends over the files of its folder and the text of its own file, where a sink held `old` and then holds `new`
 abbrev pub IsTaskEnding : Task → List Source → List ℕ → Option (List ℕ) → Option (List ℕ) → TaskOutcome → Type 0
-IsTaskEnding (Check rules) files text old new outcome = IsCheckEnding files old new outcome
-IsTaskEnding (Calc rules file form) files text old new outcome = IsCalcEnding files file.now text form old new outcome
-IsTaskEnding (Test rules file) files text old new outcome = IsTestEnding files file.now text old new outcome
-IsTaskEnding (Run rules file options) files text old new outcome = IsGridEnding files file.now text options old new outcome
-IsTaskEnding (Size rules file) files text old new outcome = IsSizeEnding files file.now text old new outcome
-IsTaskEnding (Axes words keep options) files text old new outcome = IsAxesEnding (map (λ word. string_bytes word) words.items) (option_map (λ text. text.now) keep) options old new outcome
+IsTaskEnding (task.Check rules) files text old new outcome = IsCheckEnding files old new outcome
+IsTaskEnding (task.Calc rules file form) files text old new outcome = IsCalcEnding files file.now text form old new outcome
+IsTaskEnding (task.Test rules file) files text old new outcome = IsTestEnding files file.now text old new outcome
+IsTaskEnding (task.Run rules file options) files text old new outcome = IsGridEnding files file.now text options old new outcome
+IsTaskEnding (task.Size rules file) files text old new outcome = IsSizeEnding files file.now text old new outcome
+IsTaskEnding (task.List rules form) files text old new outcome = IsListEnding files form old new outcome
+IsTaskEnding (task.Axes words keep options) files text old new outcome = IsAxesEnding (map (λ word. string_bytes word) words.items) (option_map (λ text. text.now) keep) options old new outcome

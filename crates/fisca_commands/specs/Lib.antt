@@ -13,6 +13,7 @@ pub mod Headline
 pub mod Kept
 pub mod LastLine
 pub mod Lines
+pub mod Listed
 pub mod Outcomes
 pub mod Remembered
 pub mod Run

@@ -2,7 +2,7 @@
 
 ghost use Rattle.std.specs.Prelude.{◌≡◌, ◌==◌, ◌&&◌, is_ok, map, option_map, string_bytes};
 ghost use Rattle.fisca_writer.specs.Sink.{CountsFailure};
-ghost use Rattle.fisca_commands.specs.Ending.{IsAnswered, IsAxesEnding, IsCalcEnding, IsCheckEnding, IsGridEnding, IsJudged, IsRunEnding, IsSizeEnding, IsTaskEnding, IsTestEnding};
+ghost use Rattle.fisca_commands.specs.Ending.{IsAnswered, IsAxesEnding, IsCalcEnding, IsCheckEnding, IsGridEnding, IsJudged, IsListEnding, IsRunEnding, IsSizeEnding, IsTaskEnding, IsTestEnding};
 ghost use Rattle.fisca_commands.specs.Ends.{end_of};
 ghost use Rattle.fisca_commands.specs.Forms.{is_table};
 
@@ -11,6 +11,7 @@ use super::calc::calc_rules;
 use super::ending::Ending;
 use super::forms::is_table;
 use super::last_line::write_end;
+use super::list::list_rules;
 use super::run::run_rules;
 use super::size::size_rules;
 use super::test::test_rules;
@@ -35,6 +36,7 @@ use std::alloc::Global;
 ///   was to keep going and a word stands in the place of a value. A refusal of the text is told with
 ///   the path of its file.
 /// - `size`: what [`size_rules`] writes of the files and the text. A refusal of the text is told with the path of its file.
+/// - `list`: what [`list_rules`] writes of the files.
 /// - `axes`: the lines of [`axes_words`], and after a run that nothing stopped its last line, as by [`write_end`].
 ///
 /// A refusal ends with its own status and line, and one whose line finds no memory with those for want of memory, but a
@@ -63,6 +65,7 @@ pub fn run_task<S: RowSink>(
             options,
         } => run_file(alloc, files, file, text, options, sink),
         Task::Size { rules: _, file } => run_size(alloc, files, file, text, sink),
+        Task::List { rules: _, form } => run_list(alloc, files, *form, sink),
         Task::Axes {
             words,
             keep,
@@ -162,6 +165,20 @@ fn run_size<S: RowSink>(
 {
     let answer = size_rules(alloc, files, text, sink);
     ending_of(alloc, answer, path)
+}
+
+/// Lists the variables of files, and answers how that ended.
+fn run_list<S: RowSink>(
+    alloc: Global,
+    files: &[SourceFile],
+    form: TableForm,
+    sink: &mut S,
+) -> Ending
+    ensures ending { IsListEnding files.now form (S.taken sink.old) (S.taken sink.new) result }
+    ensures failures { CountsFailure (result.status == 5) (S.failures sink.old) (S.failures sink.new) }
+{
+    let answer = list_rules(alloc, files, form, sink);
+    ending_of(alloc, answer, "")
 }
 
 /// How a run ends, without its counts.

@@ -6,12 +6,13 @@ ghost use Rattle.fisca_rule_files.specs.Steps.Modules as steps;
 ghost use Rattle.fisca_rule_files.specs.Modules.{IsFaultOf, TellsFile};
 ghost use Rattle.fisca_rules.specs.Views.{rule_set};
 ghost use Rattle.fisca_ast.specs.ModuleViews.{statements};
+ghost use Rattle.fisca_params.specs.Steps.Files.{in_path_order};
 
 use crate::Refusal;
 use fisca_ast::{FormulaFault, FormulaKind, Module};
 use fisca_folder::is_module;
 use fisca_names::BuildFault;
-use fisca_params::{ParamTree, SourceFile};
+use fisca_params::{ParamTree, SourceFile, in_path_order};
 use fisca_parser::read_module;
 use fisca_rules::RuleSet;
 use std::alloc::{AllocError, Global};
@@ -31,6 +32,14 @@ fn modules_in<'a>(
         }
     }
     Ok(modules)
+}
+
+/// The modules among files, in order of their paths: each place of a module in the rule set that the files make is one among these.
+pub fn modules_of(alloc: Global, files: &[SourceFile]) -> Result<Vec<&SourceFile>, AllocError>
+    ensures { IfOk result (λ fs. map (λ f. f.now) fs.items ≡ steps.modules_in (in_path_order files.now)) }
+{
+    let sorted = in_path_order(alloc, files)?;
+    modules_in(alloc, &sorted)
 }
 
 /// What a module declares, or its first fault with its path.

@@ -31,6 +31,11 @@ returns-in-Some-run-default-clause-fault c =
     let w = c.in-Some-run-default in
     used (words_of c.args.words.now) _ _ _ (no_fault _ _ c.in_ok-command.ensures.app c.in_ok-matches.ensures.kinds) (met _ _ _ _ _ c.in_ok-command.ensures.app c.in_ok-matches.ensures.matches w.ensures.name w.ensures.rows) (ap takes_options w.is-run) c.used_run.ensures.fault
 
+pub returns-in-Some-list-default-clause-fault : goal.returns-in-Some-list-default-clause-fault
+returns-in-Some-list-default-clause-fault c =
+    let w = c.in-Some-list-default in
+    used (words_of c.args.words.now) _ _ _ (no_fault _ _ c.in_ok-command.ensures.app c.in_ok-matches.ensures.kinds) (met _ _ _ _ _ c.in_ok-command.ensures.app c.in_ok-matches.ensures.matches w.ensures.name w.ensures.rows) (ap takes_options w.is-list) c.used_list.ensures.fault
+
 pub returns-in-Some-axes-default-clause-fault : goal.returns-in-Some-axes-default-clause-fault
 returns-in-Some-axes-default-clause-fault c =
     let w = c.in-Some-axes-default in
@@ -39,7 +44,7 @@ returns-in-Some-axes-default-clause-fault c =
 pub unreachable-requires : goal.unreachable-requires
 unreachable-requires c =
     let parse = c.in_ok-matches.ensures in
-    no_other _ _ _ _ c.in_ok-command.ensures.app parse.kinds parse.matches c.in-Some.ensures.name (search rules) (search rules) (search rules) (search rules) (search rules) (search rules)
+    no_other _ _ _ _ c.in_ok-command.ensures.app parse.kinds parse.matches c.in-Some.ensures.name (search rules) (search rules) (search rules) (search rules) (search rules) (search rules) (search rules)
 
 pub returns-in_err-matches-clause-fault : goal.returns-in_err-matches-clause-fault
 returns-in_err-matches-clause-fault c =
@@ -72,7 +77,12 @@ returns-in-Some-size-default-clause-work c =
     let w = c.in-Some-size-default in
     rw (met _ _ _ _ _ c.in_ok-command.ensures.app c.in_ok-matches.ensures.matches w.ensures.name w.ensures.rows) (inr (inr (inr (inr (inl (w.is-size, c.size_task.ensures))))))
 
+pub returns-in-Some-list-default-clause-work : goal.returns-in-Some-list-default-clause-work
+returns-in-Some-list-default-clause-work c =
+    let w = c.in-Some-list-default in
+    rw (met _ _ _ _ _ c.in_ok-command.ensures.app c.in_ok-matches.ensures.matches w.ensures.name w.ensures.rows) (IfOk-weaker c.used_list.result _ _ (λ work h. inr (inr (inr (inr (inr (inl (w.is-list, h))))))) c.used_list.ensures.work)
+
 pub returns-in-Some-axes-default-clause-work : goal.returns-in-Some-axes-default-clause-work
 returns-in-Some-axes-default-clause-work c =
     let w = c.in-Some-axes-default in
-    rw (met _ _ _ _ _ c.in_ok-command.ensures.app c.in_ok-matches.ensures.matches w.ensures.name w.ensures.rows) (IfOk-weaker c.used_axes.result _ _ (λ work h. inr (inr (inr (inr (inr (w.is-axes, h)))))) c.used_axes.ensures.work)
+    rw (met _ _ _ _ _ c.in_ok-command.ensures.app c.in_ok-matches.ensures.matches w.ensures.name w.ensures.rows) (IfOk-weaker c.used_axes.result _ _ (λ work h. inr (inr (inr (inr (inr (inr (w.is-axes, h))))))) c.used_axes.ensures.work)

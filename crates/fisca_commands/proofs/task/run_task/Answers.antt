@@ -8,6 +8,11 @@ returns-in-Calc-clause-ending g c =
     subst (λ (task : Task). IsTaskEnding task c.args.files.now c.args.text.now (g.S.RowSink.taken c.args.sink.now) (g.S.RowSink.taken c.run_calc.new.sink) c.run_calc.result) (sym c.in-Calc.is)
     c.run_calc.ensures.ending
 
+pub returns-in-List-clause-ending : goal.returns-in-List-clause-ending
+returns-in-List-clause-ending g c =
+    subst (λ (task : Task). IsTaskEnding task c.args.files.now c.args.text.now (g.S.RowSink.taken c.args.sink.now) (g.S.RowSink.taken c.run_list.new.sink) c.run_list.result) (sym c.in-List.is)
+    c.run_list.ensures.ending
+
 pub returns-in-Axes-clause-ending : goal.returns-in-Axes-clause-ending
 returns-in-Axes-clause-ending g c =
     subst (λ (task : Task). IsTaskEnding task c.args.files.now c.args.text.now (g.S.RowSink.taken c.args.sink.now) (g.S.RowSink.taken c.run_axes.new.sink) c.run_axes.result) (sym c.in-Axes.is)

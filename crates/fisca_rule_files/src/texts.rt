@@ -1,0 +1,176 @@
+//! The texts of a variable.
+
+ghost use Rattle.std.specs.Prelude.{◌≡◌, ◌++◌, IfOk, OnOk, map, option_map, slice_get, string_bytes};
+ghost use Rattle.fisca_declarations.specs.VariableForms.{written};
+ghost use Rattle.fisca_rule_files.specs.Listing as spec;
+ghost use Rattle.fisca_rules.specs.Views.{dated, rule_set};
+ghost use Rattle.fisca_time.specs.PeriodText.{date_text};
+
+use fisca_declarations::Declaration;
+use fisca_folder::write_shown;
+use fisca_params::SourceFile;
+use fisca_rules::{Dated, RuleSet};
+use fisca_symbols::{DeclaredType, SourceText};
+use fisca_time::{Instant, Unit};
+use std::alloc::{AllocError, Global};
+
+/// A text of a module, in one line.
+pub(crate) fn text_of(alloc: Global, bytes: &[u8]) -> Result<String, AllocError>
+    ensures { IfOk result (λ text. string_bytes text ≡ spec.text_of bytes.now) }
+{
+    let whole = String::from_utf8_lossy(alloc, bytes)?;
+    let mut text = String::new(alloc);
+    write_shown(whole.as_str(), &mut text)?;
+    Ok(text)
+}
+
+/// What is told of a variable, and nothing where nothing is told.
+pub(crate) fn text_told(alloc: Global, told: &Option<SourceText<'_>>) -> Result<String, AllocError>
+    ensures { IfOk result (λ text. string_bytes text ≡ spec.text_told told.now) }
+{
+    match told {
+        Some(said) => text_of(alloc, said.as_bytes()),
+        None => Ok(String::new(alloc)),
+    }
+}
+
+/// The key of the entity at a place.
+pub(crate) fn entity_text(
+    alloc: Global,
+    rules: &RuleSet<'_>,
+    place: usize,
+) -> Result<String, AllocError>
+    ensures { IfOk result (λ text. string_bytes text ≡ spec.entity_text (slice_get (rule_set rules.now).entities place)) }
+{
+    match rules.entities().get(place) {
+        Some(entity) => text_of(alloc, entity.key.as_bytes()),
+        None => Ok(String::new(alloc)),
+    }
+}
+
+/// The name of the Enum at a place.
+fn enum_text(alloc: Global, rules: &RuleSet<'_>, place: usize) -> Result<String, AllocError>
+    ensures { IfOk result (λ text. string_bytes text ≡ spec.enum_text (slice_get (rule_set rules.now).enums place)) }
+{
+    match rules.enums().get(place) {
+        Some(choices) => text_of(alloc, choices.name.as_bytes()),
+        None => Ok(String::new(alloc)),
+    }
+}
+
+/// A type as modules write it, but an Enum by its own name.
+pub(crate) fn type_text(
+    alloc: Global,
+    rules: &RuleSet<'_>,
+    value_type: DeclaredType,
+) -> Result<String, AllocError>
+    ensures { IfOk result (λ text. string_bytes text ≡ spec.type_text (rule_set rules.now).enums value_type) }
+{
+    match value_type {
+        DeclaredType::Float => String::from_str(alloc, "float"),
+        DeclaredType::Int => String::from_str(alloc, "int"),
+        DeclaredType::Bool => String::from_str(alloc, "bool"),
+        DeclaredType::Date => String::from_str(alloc, "date"),
+        DeclaredType::Text => String::from_str(alloc, "str"),
+        DeclaredType::Enum(place) => enum_text(alloc, rules, place),
+    }
+}
+
+/// A definition period in small letters.
+pub(crate) fn period_text(alloc: Global, unit: Unit) -> Result<String, AllocError>
+    ensures { IfOk result (λ text. string_bytes text ≡ spec.period_text unit) }
+{
+    String::from_str(
+        alloc,
+        match unit {
+            Unit::Day => "day",
+            Unit::Month => "month",
+            Unit::Year => "year",
+            Unit::Eternity => "eternity",
+        },
+    )
+}
+
+/// A day, as `2010-04-05`.
+fn date_text(alloc: Global, date: Instant) -> Result<String, AllocError>
+    ensures { IfOk result (λ text. string_bytes text ≡ date_text date) }
+{
+    let (year, month, day) = (date.year(), date.month(), date.day());
+    format!(in alloc; "{year:04}-{month:02}-{day:02}")
+}
+
+/// Appends the first days of formulas, each behind a space.
+fn write_starts(alloc: Global, formulas: &[Dated], text: &mut String) -> Result<(), AllocError>
+    ensures { OnOk result (string_bytes text.new ≡ string_bytes text.old ++ spec.starts_text (map dated formulas.now)) }
+{
+    for formula in formulas {
+        let date = date_text(alloc, formula.start)?;
+        text.push(' ')?;
+        text.push_str(date.as_str())?;
+    }
+    Ok(())
+}
+
+/// The first days of formulas from top to bottom; where there are none, that there are inputs alone.
+fn formulas_text(alloc: Global, formulas: &[Dated]) -> Result<String, AllocError>
+    ensures { IfOk result (λ text. string_bytes text ≡ spec.formulas_text (map dated formulas.now)) }
+{
+    match formulas {
+        [] => String::from_str(alloc, "input"),
+        [first, more @ ..] => {
+            let mut text = date_text(alloc, first.start)?;
+            write_starts(alloc, more, &mut text)?;
+            Ok(text)
+        }
+    }
+}
+
+/// The same of the variable at a place.
+pub(crate) fn formulas_at(
+    alloc: Global,
+    rules: &RuleSet<'_>,
+    place: usize,
+) -> Result<String, AllocError>
+    ensures { IfOk result (λ text. string_bytes text ≡ spec.formulas_text (spec.formulas_in (slice_get (rule_set rules.now).formulas place))) }
+{
+    match rules.formulas.get(place) {
+        Some(formulas) => formulas_text(alloc, formulas.items.as_slice()),
+        None => String::from_str(alloc, "input"),
+    }
+}
+
+/// The declaration of the variable at a place.
+pub(crate) fn declaration_at<'a, 't>(
+    rules: &'a RuleSet<'t>,
+    place: usize,
+) -> Option<&'a Declaration<'t>>
+    ensures { option_map (λ d. written d.now) result ≡ slice_get (rule_set rules.now).declarations place }
+{
+    rules.declarations.get(place)
+}
+
+/// Appends the path of the module at a place.
+fn write_module(modules: &[&SourceFile], place: usize, text: &mut String) -> Result<(), AllocError>
+    ensures { OnOk result (string_bytes text.new ≡ string_bytes text.old ++ spec.path_text (slice_get (map (λ f. f.now) modules.now) place)) }
+{
+    match modules.get(place) {
+        Some(file) => write_shown(file.path(), text),
+        None => Ok(()),
+    }
+}
+
+/// The module and the line on which a variable begins, as `variables/income.py:12`.
+pub(crate) fn place_text(
+    alloc: Global,
+    modules: &[&SourceFile],
+    place: usize,
+    line: usize,
+) -> Result<String, AllocError>
+    ensures { IfOk result (λ text. string_bytes text ≡ spec.place_text (map (λ f. f.now) modules.now) place line) }
+{
+    let mut text = String::new(alloc);
+    write_module(modules, place, &mut text)?;
+    text.push(':')?;
+    text.push_str(itoa::Buffer::new().format(line))?;
+    Ok(text)
+}

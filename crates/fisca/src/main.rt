@@ -4,11 +4,10 @@
 mod folder;
 mod lines;
 mod output;
-mod tasks;
 
 use clap::error::ErrorKind;
-use fisca_command_line::{LinesTask, Work, read_task};
-use fisca_commands::{Ending, LineSource, Task, calc_lines, run_task};
+use fisca_command_line::{LinesTask, Task, Work, read_task};
+use fisca_commands::{Ending, LineSource, calc_lines, run_task};
 use fisca_folder::{FolderFault, LONGEST, read_rules, text_of_file};
 use fisca_params::SourceFile;
 use fisca_writer::StreamSink;
@@ -18,7 +17,6 @@ use output::{ErrorOutput, Output, Stream, fits};
 use std::io::{BufReader, BufWriter, Input, Write};
 use std::process::ExitCode;
 use std::{env, io};
-use tasks::{form_of, task_of};
 
 /// The status of a command line that `clap` refused.
 const USAGE: u8 = 2;
@@ -52,7 +50,7 @@ fn main(rt: HostRuntime) -> ExitCode {
 /// Runs what the words ask for, and answers the exit status.
 fn run_words(rt: &HostRuntime, words: &[String]) -> u8 {
     match read_task(rt.alloc(), words) {
-        Ok(Work::Task(task)) => run_task_of(rt, &task_of(task)),
+        Ok(Work::Task(task)) => run_task_of(rt, &task),
         Ok(Work::Lines(lines)) => run_lines(rt, &lines),
         Err(error) => print_text(rt, &error),
     }
@@ -151,7 +149,7 @@ fn run_lines_of<L: LineSource>(
         StreamSink::new(writer),
         StreamSink::new(ErrorOutput::new(rt)),
     );
-    let (path, form) = (lines.file, form_of(lines.form));
+    let (path, form) = (lines.file, lines.form);
     let ending = calc_lines(rt.alloc(), files, path, form, source, &mut sink, &mut told);
     finish(rt, sink, &ending)
 }

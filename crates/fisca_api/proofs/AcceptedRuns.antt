@@ -9,7 +9,7 @@ use Rattle.fisca_commands.specs.Run.{IsGridRun, IsLinesTold, IsRunAnswer, IsRunT
 use Rattle.fisca_commands.specs.Runs.{positions, run_row}
 use Rattle.fisca_commands.specs.Size.{IsSize, IsSizeTold}
 use Rattle.fisca_commands.specs.Unanswered.{IsUnanswered, key_told}
-use Rattle.fisca_commands.specs.declared.options.RunOptions.{RunOptions}
+use Rattle.fisca_command_line.specs.declared.options.RunOptions.{RunOptions}
 use Rattle.fisca_commands.specs.declared.style.RowStyle.{RowStyle}
 use Rattle.fisca_groups.specs.declared.entity_members.EntityMembers.{EntityMembers}
 use Rattle.fisca_model.specs.EvalFaults.{told}

@@ -6,7 +6,7 @@ use Rattle.fisca_commands.specs.Forms.{is_asked}
 use Rattle.fisca_commands.specs.Run.{IsNamedFor, IsNamedIf, IsRunning, RefusesRunText, RefusesRunTree, RefusesRunning, Running, SaysRun}
 use Rattle.fisca_commands.specs.Test.{RefusesTests, RefusesTree, SaysTests}
 use Rattle.fisca_commands.specs.Yaml.{IsYamlRefused}
-use Rattle.fisca_commands.specs.declared.options.TableForm.{TableForm}
+use Rattle.fisca_command_line.specs.declared.options.TableForm.{TableForm}
 use Rattle.fisca_params.specs.Answers.{Refuses}
 use Rattle.fisca_params.specs.Source.{Source}
 use Rattle.fisca_params.specs.Steps.Files.{tree_of}

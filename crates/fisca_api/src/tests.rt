@@ -124,26 +124,50 @@ fn axes_turn_and_variables_are_neutralised(rt: HostRuntime) -> Result<(), Fail> 
 }
 
 #[test]
-fn texts_and_files_take_a_rule_set(rt: HostRuntime) -> Result<(), Fail> {
+fn columns_name_keys(rt: HostRuntime) -> Result<(), Fail> {
     let alloc = rt.alloc();
     let rules = rules_of(alloc)?;
     let input = read(alloc, INPUT)?;
     let situation = Situation::read(alloc, &rules, &input, None)?;
     let salary = rules.variable("salary").unwrap_or(9);
-    let key = read_column(&rules, &situation, "salary#1@2025-03", None);
     let written = Key {
         variable: salary,
         member: 1,
         period: Period::read("2025-03")?,
     };
+    let key = read_column(&rules, &situation, "salary#1@2025-03", None);
     assert_eq!(rt; key, Some(written));
     let text = key_text(alloc, &rules, &situation, &written)?;
     assert_eq!(rt; text.as_str(), "salary Ben 2025-03");
+    Ok(())
+}
+
+#[test]
+fn values_have_texts(rt: HostRuntime) -> Result<(), Fail> {
+    let alloc = rt.alloc();
+    let rules = rules_of(alloc)?;
+    let salary = rules.variable("salary").unwrap_or(9);
     let text = value_text(alloc, &rules, salary, Value::Number(whole(7)))?;
     assert_eq!(rt; text.as_str(), "7");
+    Ok(())
+}
+
+#[test]
+fn outputs_take_a_rule_set(rt: HostRuntime) -> Result<(), Fail> {
+    let alloc = rt.alloc();
+    let rules = rules_of(alloc)?;
+    let input = read(alloc, INPUT)?;
+    let situation = Situation::read(alloc, &rules, &input, None)?;
     let outputs = read(alloc, "double: {2025-03: [1, 2]}")?;
     let outputs = read_outputs(alloc, &rules, &situation, &outputs, None)?;
     assert_eq!(rt; outputs.len(), 2);
+    Ok(())
+}
+
+#[test]
+fn files_take_a_rule_set(rt: HostRuntime) -> Result<(), Fail> {
+    let alloc = rt.alloc();
+    let rules = rules_of(alloc)?;
     let file = read(alloc, "{period: 2025-03, columns: [double, salary]}")?;
     let file = read_calc_file(alloc, &rules, &file)?;
     assert_eq!(rt; file.columns.as_slice().len(), 2);

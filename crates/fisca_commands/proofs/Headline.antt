@@ -20,8 +20,8 @@ use Rattle.fisca_commands.specs.Headline.{IsFaulted, IsWhole, row_of, size_of}
 use Rattle.fisca_commands.specs.Unanswered.{key_told}
 use Rattle.fisca_commands.specs.Forms.{IsHeaderRefused, header_of}
 use Rattle.fisca_commands.specs.Run.{IsGridRun, IsLinesTold, IsRunAnswer, IsRunToldBy, IsRunning, IsStopTold, IsStyleIn, RefusesRunText, RefusesRunTree, RefusesRunning, Running, limit_of, start_of}
-use Rattle.fisca_commands.specs.declared.options.RunOptions.{RunOptions}
-use Rattle.fisca_commands.specs.declared.options.TableForm.{TableForm}
+use Rattle.fisca_command_line.specs.declared.options.RunOptions.{RunOptions}
+use Rattle.fisca_command_line.specs.declared.options.TableForm.{TableForm}
 use Rattle.fisca_commands.specs.declared.style.RowStyle.{RowStyle}
 use Rattle.fisca_params.specs.declared.fault.ParamFault.{ParamFault}
 use Rattle.fisca_rule_files.specs.Modules.{FileFault, IsRefusalOf, rules_by}

@@ -16,7 +16,7 @@ use Rattle.fisca_writer.specs.declared.fault.RunFault.{RunFault}
 use Rattle.fisca_writer.specs.declared.fault.RunFault.TheVariants as run
 use Rattle.fisca_commands.specs.Forms.{header_of, line_form_of}
 use Rattle.fisca_commands.specs.Listed.{AreListed, IsListedIn}
-use Rattle.fisca_commands.specs.declared.options.TableForm.{TableForm}
+use Rattle.fisca_command_line.specs.declared.options.TableForm.{TableForm}
 
 module _ (form : Form) (modules : List Source) (r : Rules) (lines : range_lines (listed_row form modules r) (length r.variables) 0 no_limit ≡ listing form modules r) (old new : Option (List ℕ)) where
   pub all_listed : (end : RunEnd) → IsRun (listed_row form modules r) (length r.variables) 0 no_limit old new (Ok end) → Appends old new (texts (listing form modules r))

@@ -29,8 +29,8 @@ use Rattle.fisca_commands.specs.Forms.{IsHeaderRefused, asked_names, header_of, 
 use Rattle.fisca_commands.specs.Remembered.{AreCounts}
 use Rattle.fisca_commands.specs.Run.{AreLinesTold, IsCounted, IsEndedIn, IsLinesTold, IsRunning, IsStyleOf, RefusesNames, RefusesRunText, Running, start_of}
 use Rattle.fisca_commands.specs.Runs.{LacksValue, positions}
-use Rattle.fisca_commands.specs.declared.options.RunOptions.{RunOptions}
-use Rattle.fisca_commands.specs.declared.options.TableForm.{TableForm}
+use Rattle.fisca_command_line.specs.declared.options.RunOptions.{RunOptions}
+use Rattle.fisca_command_line.specs.declared.options.TableForm.{TableForm}
 use Rattle.fisca_commands.specs.declared.style.RowStyle.{RowStyle}
 
 -- a start or a stop that is not there

@@ -21,7 +21,7 @@ use Rattle.fisca_commands.specs.declared.many_files.LineFault.{LineFault}
 use Rattle.fisca_commands.specs.declared.many_files.LineFault.TheVariants as fault
 use Rattle.fisca_commands.specs.declared.many_files.LineStop.{LineStop}
 use Rattle.fisca_commands.specs.declared.many_files.LineStop.TheVariants as stop
-use Rattle.fisca_commands.specs.declared.options.TableForm.{TableForm}
+use Rattle.fisca_command_line.specs.declared.options.TableForm.{TableForm}
 
 -- Where lines come from, and where they go
 

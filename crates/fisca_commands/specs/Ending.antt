@@ -7,8 +7,8 @@ use Rattle.fisca_evaluator.specs.declared.counts.Counts.{Counts}
 use Rattle.fisca_params.specs.Source.{Source}
 use Rattle.fisca_rule_files.specs.declared.refusal.Refusal.{Refusal}
 use Rattle.fisca_rule_files.specs.declared.refusal.Refusal.TheVariants.{Write, Memory}
-use Rattle.fisca_commands.specs.declared.task.Task.{Task}
-use Rattle.fisca_commands.specs.declared.task.Task.TheVariants as task
+use Rattle.fisca_command_line.specs.declared.task.Task.{Task}
+use Rattle.fisca_command_line.specs.declared.task.Task.TheVariants as task
 use Rattle.fisca_commands.specs.AxesRun.{IsAxesAnswer}
 use Rattle.fisca_commands.specs.Calc.{IsCalc}
 use Rattle.fisca_rule_files.specs.Check.{IsCheck}
@@ -17,8 +17,8 @@ use Rattle.fisca_commands.specs.LastLine.{end_text, last_line}
 use Rattle.fisca_commands.specs.Listed.{IsList}
 use Rattle.fisca_commands.specs.Run.{IsCounted, IsRunAnswer}
 use Rattle.fisca_commands.specs.Size.{IsSize}
-use Rattle.fisca_commands.specs.declared.options.RunOptions.{RunOptions}
-use Rattle.fisca_commands.specs.declared.options.TableForm.{TableForm}
+use Rattle.fisca_command_line.specs.declared.options.RunOptions.{RunOptions}
+use Rattle.fisca_command_line.specs.declared.options.TableForm.{TableForm}
 use Rattle.fisca_commands.specs.Test.{IsTest}
 use Rattle.fisca_test_file.specs.declared.all.Verdict.{Verdict}
 use Rattle.fisca_rule_files.specs.Refusal.{status_of, line_of}

@@ -7,7 +7,7 @@ use Rattle.fisca_forms.specs.declared.form.Format.TheVariants.{Tsv}
 use Rattle.fisca_rule_files.specs.declared.refusal.Refusal.{Refusal}
 use Rattle.fisca_rule_files.specs.declared.refusal.Refusal.TheVariants.{Write, Memory}
 use Rattle.fisca_writer.specs.Run.{AppendsPart}
-use Rattle.fisca_commands.specs.declared.options.TableForm.{TableForm}
+use Rattle.fisca_command_line.specs.declared.options.TableForm.{TableForm}
 
 -- standard output is a table: it has a first line of names, or a form is asked for
 abbrev pub is_table : TableForm → Bool

@@ -22,8 +22,8 @@ use Rattle.fisca_rules.specs.Views.{rule_set}
 use Rattle.fisca_rules.specs.declared.rule_set.RuleSet.{RuleSet}
 use Rattle.fisca_commands.specs.Ends.{stop_of}
 use Rattle.fisca_commands.specs.Forms.{IsHeaderRefused, header_of, is_asked, line_form_of}
-use Rattle.fisca_commands.specs.declared.options.RunOptions.{RunOptions}
-use Rattle.fisca_commands.specs.declared.options.TableForm.{TableForm}
+use Rattle.fisca_command_line.specs.declared.options.RunOptions.{RunOptions}
+use Rattle.fisca_command_line.specs.declared.options.TableForm.{TableForm}
 use Rattle.fisca_commands.specs.declared.style.RowStyle.{RowStyle}
 use Rattle.fisca_commands.specs.declared.style.RowStyle.TheVariants.{Plain, Formed, Going}
 use Rattle.fisca_run_file.specs.Named.{names_of}

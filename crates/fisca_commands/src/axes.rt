@@ -11,7 +11,7 @@ ghost use Rattle.fisca_commands.specs.Forms.{asked_names, shown_form};
 ghost use Rattle.fisca_rule_files.specs.Refusal.{is_write};
 
 use super::forms::begin_table;
-use super::options::{RunOptions, TableForm};
+use fisca_command_line::{RunOptions, TableForm};
 use fisca_forms::LineForm;
 use fisca_grid::{
     Axes, AxesFault, AxisRows, AxisSpec, Filter, axis_names, has_twins, own_groups, read_axes,

@@ -13,10 +13,10 @@ ghost use Rattle.fisca_commands.specs.Yaml.{IsYamlRefused};
 ghost use Rattle.fisca_rule_files.specs.Refusal.{is_write};
 
 use super::forms::begin_table;
-use super::options::TableForm;
 use super::unanswered::unanswered;
 use crate::calc_inputs_fit;
 use fisca_columns::{CalcFile, RunFileKind, write_columns};
+use fisca_command_line::TableForm;
 use fisca_evaluator::{Evaluator, IndexRecall};
 use fisca_forms::LineForm;
 use fisca_model::EvalFault;

@@ -7,7 +7,7 @@ ghost use Rattle.fisca_forms.specs.LineForms.{names_line};
 ghost use Rattle.fisca_rule_files.specs.Refusal.{is_write};
 ghost use Rattle.fisca_writer.specs.Sink.{CountsFailure};
 
-use super::options::TableForm;
+use fisca_command_line::TableForm;
 use fisca_forms::{Format, LineForm};
 use fisca_rule_files::Refusal;
 use fisca_writer::{RowSink, hand_over};

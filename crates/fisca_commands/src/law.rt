@@ -7,7 +7,7 @@ ghost use Rattle.fisca_commands.specs.declared.style.RowStyle.{RowStyle};
 ghost use Rattle.fisca_commands.specs.declared.style.RowStyle.TheVariants.{Plain};
 ghost use Rattle.fisca_commands.specs.Forms.{header_of};
 ghost use Rattle.std.specs.Io.KnownBytes.{Appends};
-ghost use Rattle.fisca_commands.specs.declared.options.RunOptions.{RunOptions};
+ghost use Rattle.fisca_command_line.specs.declared.options.RunOptions.{RunOptions};
 ghost use Rattle.fisca_writer.specs.declared.fault.RunEnd.{RunEnd};
 ghost use Rattle.fisca_writer.specs.declared.fault.RunFault.TheVariants.{Eval};
 ghost use Rattle.fisca_params.specs.Source.{Source};

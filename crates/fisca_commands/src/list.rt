@@ -8,7 +8,7 @@ ghost use Rattle.fisca_rules.specs.Views.{rule_set};
 ghost use Rattle.fisca_writer.specs.Sink.{CountsFailure};
 
 use super::forms::begin_table;
-use super::options::TableForm;
+use fisca_command_line::TableForm;
 use fisca_forms::LineForm;
 use fisca_params::SourceFile;
 use fisca_rule_files::{

@@ -17,11 +17,11 @@ ghost use Rattle.fisca_yaml.specs.Views.{node};
 
 use super::calc::read_tree;
 use super::forms::begin_table;
-use super::options::{RunOptions, TableForm};
 use super::unanswered::unanswered;
 use crate::grid_run::run_from;
 use crate::style::RowStyle;
 use fisca_columns::RunFileKind;
+use fisca_command_line::{RunOptions, TableForm};
 use fisca_evaluator::Counts;
 use fisca_forms::LineForm;
 use fisca_model::EvalFault;

@@ -1,4 +1,4 @@
-//! What a command line asks for, and the running of it.
+//! The running of what a command line asks for.
 
 ghost use Rattle.std.specs.Prelude.{◌≡◌, ◌==◌, ◌&&◌, is_ok, map, option_map, string_bytes};
 ghost use Rattle.fisca_writer.specs.Sink.{CountsFailure};
@@ -11,58 +11,16 @@ use super::calc::calc_rules;
 use super::ending::Ending;
 use super::last_line::write_end;
 use super::list::list_rules;
-use super::options::{RunOptions, TableForm};
 use super::run::run_rules;
 use super::size::size_rules;
 use super::test::test_rules;
+use fisca_command_line::{RunOptions, TableForm, Task};
 use fisca_evaluator::Counts;
 use fisca_params::SourceFile;
 use fisca_rule_files::{Refusal, check_rules};
 use fisca_test_file::Verdict;
 use fisca_writer::{RowSink, RunEnd};
 use std::alloc::Global;
-
-/// What a command line asks for.
-#[derive(Debug, Drop)]
-pub enum Task<'a> {
-    /// `check`: check the rule files of a folder.
-    Check {
-        rules: &'a str,
-    },
-    /// `calc`: work out the columns of a file under the rule files of a folder.
-    Calc {
-        rules: &'a str,
-        file: &'a str,
-        form: TableForm,
-    },
-    /// `test`: work out the tests of a file under the rule files of a folder.
-    Test {
-        rules: &'a str,
-        file: &'a str,
-    },
-    /// `run`: write the lines of a run file under the rule files of a folder.
-    Run {
-        rules: &'a str,
-        file: &'a str,
-        options: RunOptions,
-    },
-    /// `size`: write the number of positions of a run file under the rule files of a folder.
-    Size {
-        rules: &'a str,
-        file: &'a str,
-    },
-    /// `list`: list the variables of the rule files of a folder.
-    List {
-        rules: &'a str,
-        form: TableForm,
-    },
-    /// `axes`: list the values of axes.
-    Axes {
-        words: Vec<String>,
-        keep: Option<&'a str>,
-        options: RunOptions,
-    },
-}
 
 /// Runs a task, and answers how it ended: the exit status, and the line for standard error where the task was refused or
 /// failed. `files` are those of the task's folder, in any order, and none where it names no folder; `text` is that of the file that the task

@@ -1,6 +1,6 @@
 use Rattle.std.proofs.Common.{map, option_map, string_bytes, sym, subst}
 use Rattle.fisca_commands.specs.Ending.{IsTaskEnding, IsAxesEnding}
-use Rattle.fisca_commands.specs.declared.task.Task.{Task}
+use Rattle.fisca_command_line.specs.declared.task.Task.{Task}
 use Rattle.fisca_commands.proofs.task.run_task.Goals as goal
 
 pub returns-in-Calc-clause-ending : goal.returns-in-Calc-clause-ending

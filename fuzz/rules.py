@@ -3,9 +3,11 @@
 Each rule set of the repository with one file that lacks a line, has it twice, or has one word in the place of another;
 and rule sets with as many attributes, members of an Enum, roles, subroles, locals, conditions of a `select`, entities,
 formulas and names that differ in case alone as 1 MiB holds. Each has to be accepted, or refused by one line that names
-a file of the rule set (or `entities.py`), one of its lines and a kind; and the large ones take linear time.
+a file of the rule set (or `entities.py`), one of its lines and a kind; and the large ones take linear time. So do sums
+over years of a variable of days that has as many formulas as 1 MiB holds.
 """
 import collections
+import datetime
 import re
 
 import common
@@ -136,6 +138,30 @@ def try_large(fuzz):
         fuzz.is_linear(f"{name}, {kind}", whole, half)
 
 
+def started(place):
+    """A formula from a day on."""
+    day = datetime.date(2000, 1, 1) + datetime.timedelta(place)
+    return f"    def formula_{day:%Y_%m_%d}(p, t):\n        return {place}\n"
+
+
+def try_started(fuzz):
+    """Sums values of days over years, of which the first have a formula a day: with twice the formulas twice the years."""
+    sums = FORMULA.replace("class v", "class w").replace("MONTH", "YEAR")
+    sums += "        return person('v', period, options=[ADD])\n"
+    folder, file = fuzz.room / "rules", fuzz.room / "sums.yaml"
+    times = []
+    for parts in (1, 2):
+        days = many(started, common.MOST_BYTES * parts // 2, CLASS.replace("MONTH", "DAY"))
+        common.put(folder, {"entities.py": PERSON, "variables/a.py": days, "variables/b.py": sums})
+        file.write_text("columns:\n" + "".join(f"- w@{year}\n" for year in range(2000, 2000 + 50 * parts)))
+        out, err, status = fuzz.call("calc", folder, file)
+        first = f"\t2000\t{sum(range(366))}\n"
+        fuzz.check(status == 0 and first in out, f"formulas of days: status {status}: {out[:99]}{err}")
+        times.append(common.least_seconds(lambda: fuzz.call("calc", folder, file)))
+    half, whole = times
+    fuzz.is_linear("formulas of days", whole, half)
+
+
 def run(fuzz):
     """Checks all rule sets."""
     kinds = collections.Counter()
@@ -144,3 +170,4 @@ def run(fuzz):
     told = ", ".join(f"{kind} {count}" for kind, count in sorted(kinds.items()))
     fuzz.note(f"{sum(kinds.values())} changed rule sets: {told}")
     try_large(fuzz)
+    try_started(fuzz)

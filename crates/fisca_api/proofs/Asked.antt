@@ -33,11 +33,12 @@ use Rattle.fisca_api.proofs.Reached.{AsksOnly, HasPoint, IsKnownThere, Same, for
 use Rattle.fisca_api.proofs.SituationMembers.{peopled}
 use Rattle.fisca_api.specs.Members.{AreMembers, AreThere, Follows, HasGroup, IsMember, IsThere}
 use Rattle.fisca_rules.specs.Rules.{Dated, Rules, known_by}
+use Rattle.fisca_rules.specs.Steps.InForce.{has_started, in_force, later, latest_of, latest_with}
 use Rattle.fisca_rules.specs.Steps.Rules.{rules_of}
 use Rattle.fisca_rules.specs.Views.{rule_set}
 use Rattle.fisca_rules.specs.declared.rule_set.RuleSet.{RuleSet}
 use Rattle.fisca_simulation.specs.Simulations.{Simulation, computed, formula_from, formula_of, given_or_computed, if_askable, known_or_refused, source_of, sources, start_point, worked_out}
-use Rattle.fisca_simulation.specs.Steps.InForce.{has_ended, has_started, in_force, later, latest_of, latest_with}
+use Rattle.fisca_simulation.specs.Steps.InForce.{has_ended}
 use Rattle.fisca_simulation.specs.Steps.Simulations.{all_dated}
 use Rattle.fisca_situations.specs.Situations.{Situation}
 use Rattle.fisca_symbols.specs.Known.{tables as known}

@@ -1,16 +1,18 @@
 //! The calls that are declared here, each once with ample memory.
 
+use crate::command_line::{Work, read_task};
+use crate::commands::{run_task, size_rules};
 use crate::eval::{
     AxisValue, Evaluator, Key, ListRecall, Situation, Value, key_text, read_column, read_outputs,
     value_text,
 };
 use crate::formula::{RuleSet, VarId, read_module, rule_sets_are_safe};
-use crate::grid::read_calc_file;
+use crate::grid::{MemorySink, read_calc_file};
 use crate::num::Fraction;
-use crate::params::ParamTree;
+use crate::params::{ParamTree, SourceFile};
 use crate::time::Period;
 use crate::yaml::read;
-use std::alloc::Global;
+use std::alloc::{AllocError, Global};
 use std::test::Fail;
 
 const MODULE: &str = "\
@@ -32,6 +34,12 @@ class double(Variable):
 ";
 
 const INPUT: &str = "persons: {Ann: {salary: {2025-03: 100, 2025: 1200}}, Ben: {}}";
+
+const GRID: &str = "\
+period: 2025-03
+axes: [[{name: salary, count: 3, min: 0, max: 2000}]]
+columns: double
+";
 
 /// The key of a variable of the first member.
 fn key_at(variable: VarId, period: Period) -> Key {
@@ -60,6 +68,15 @@ fn rules_of(alloc: Global) -> Result<RuleSet<'static>, Fail> {
     let parameters = ParamTree::read(alloc, &[])?;
     let modules = vec![in alloc; read_module(alloc, MODULE)?]?;
     Ok(RuleSet::build(alloc, parameters, modules)?)
+}
+
+/// Copies of words.
+fn words_of(alloc: Global, words: &[&str]) -> Result<Vec<String>, AllocError> {
+    let mut copies = Vec::new(alloc);
+    for word in words {
+        copies.push(String::from_str(alloc, word)?)?;
+    }
+    Ok(copies)
 }
 
 #[test]
@@ -198,5 +215,30 @@ fn evaluators_own_their_situation(rt: HostRuntime) -> Result<(), Fail> {
         Some(whole(42))
     );
     assert_eq!(rt; evaluator.counts().bound(), 2);
+    Ok(())
+}
+
+#[test]
+fn words_are_read_and_run(rt: HostRuntime) -> Result<(), Fail> {
+    let alloc = rt.alloc();
+    let words = words_of(alloc, &["fisca", "axes", "salary=0..2000/5", "--rows", "2"])?;
+    let mut sink = MemorySink::new(alloc);
+    let status = match read_task(alloc, words.as_slice()) {
+        Ok(Work::Task(task)) => run_task(alloc, &task, &[], "", &mut sink).status(),
+        Ok(Work::Lines(_)) | Err(_) => 9,
+    };
+    assert_eq!(rt; status, 0);
+    assert_eq!(rt; sink.bytes(), b"0\t0\n1\t500\nmore 2\n".as_slice());
+    Ok(())
+}
+
+#[test]
+fn run_files_have_a_size(rt: HostRuntime) -> Result<(), Fail> {
+    let alloc = rt.alloc();
+    let path = String::from_str(alloc, "entities.py")?;
+    let files = vec![in alloc; SourceFile::new(path, String::from_str(alloc, MODULE)?)]?;
+    let mut sink = MemorySink::new(alloc);
+    assert!(rt; size_rules(alloc, files.as_slice(), GRID, &mut sink).is_ok());
+    assert_eq!(rt; sink.bytes(), b"3\n".as_slice());
     Ok(())
 }

@@ -3,7 +3,6 @@ use Rattle.std.proofs.Common.{◌≡◌, false, inl, inr, ℕ, List, ap}
 use Rattle.fisca_rules.specs.declared.rule_set.RuleSet.{RuleSet}
 use Rattle.fisca_commands.specs.Calc.{RefusesText}
 use Rattle.fisca_commands.specs.Run.{RefusesRunText, RefusesRunTree}
-use Rattle.fisca_commands.specs.Test.{RefusesTree}
 use Rattle.fisca_commands.specs.Yaml.{IsYamlRefused}
 use Rattle.fisca_yaml.specs.Node.{Node}
 use Rattle.fisca_rule_files.specs.Refusal.{is_failed_write}
@@ -15,14 +14,10 @@ text_unwritten rules text r (inl (inl e)) = ap is_failed_write e
 text_unwritten rules text r (inl (inr is)) = ap is_failed_write is.1
 text_unwritten rules text r (inr is) = ap is_failed_write is.2
 
--- nor is a text that is no YAML, or a tree that is no file of tests
+-- nor is a text that is no YAML
 pub yaml_unwritten : (text : List ℕ) (r : Refusal) → IsYamlRefused text r → is_failed_write r ≡ false
 yaml_unwritten text r (inl e) = ap is_failed_write e
 yaml_unwritten text r (inr is) = ap is_failed_write is.1
-
-pub tests_unwritten : (rules : RuleSet) (n : Node) (r : Refusal) → RefusesTree rules n r → is_failed_write r ≡ false
-tests_unwritten rules n r (inl e) = ap is_failed_write e
-tests_unwritten rules n r (inr is) = ap is_failed_write is.1
 
 -- nor is a tree that is no run file
 run_unwritten : (rules : RuleSet) (n : Node) (r : Refusal) → RefusesRunTree rules n r → is_failed_write r ≡ false

@@ -1,13 +1,12 @@
 -- What is known of the tests of a file once it is read: each is worked out in a situation whose inputs are of their types.
-use Rattle.std.proofs.Common.{◌≡◌, ◌∙◌, ℕ, List, Ok, Err, ap, subst}
+use Rattle.std.proofs.Common.{◌≡◌, ◌≢◌, ◌∙◌, ℕ, List, Some, Ok, Err, inl, inr, refl, sym}
 use Rattle.fisca_simulation.specs.Told.{IsReady}
 use Rattle.fisca_params.specs.Source.{Source}
 use Rattle.fisca_params.specs.Tree.{TreeNode}
 use Rattle.fisca_rule_files.proofs.Built.{built}
 use Rattle.fisca_rule_files.specs.RuleFiles.{IsAccepted}
-use Rattle.std.specs.Prelude.{Option, Result}
-use Rattle.std.specs.Io.KnownBytes.{Appends}
-use Rattle.fisca_writer.specs.Run.{AppendsPart}
+use Rattle.std.specs.Prelude.{◌⊎◌, Option, Result}
+use Rattle.std.specs.Io.KnownBytes.{Keeps}
 use Rattle.fisca_rules.specs.Rules.{Rules}
 use Rattle.fisca_rules.specs.Steps.Rules.{rules_of}
 use Rattle.fisca_rules.specs.Views.{rule_set}
@@ -19,11 +18,17 @@ use Rattle.fisca_ast.specs.Modules.{Statement}
 use Rattle.fisca_time.specs.Period.{Span}
 use Rattle.fisca_test_file.specs.Read.{IsRead}
 use Rattle.fisca_yaml.specs.Node.{Node}
-use Rattle.fisca_test_file.specs.Report.{IsReport, failed_of, passed_of, report_text}
+use Rattle.fisca_test_file.specs.Handing.{IsPartOf, IsReported}
 use Rattle.fisca_test_file.specs.Steps.Tests.{tests_of}
+use Rattle.fisca_test_file.specs.Tests.{Test}
+use Rattle.fisca_test_file.specs.declared.fault.TestFault.{TestFault}
+use Rattle.fisca_test_file.specs.declared.fault.TestKind.TheVariants as kind
+use Rattle.fisca_test_file.specs.declared.report_fault.ReportFault.TheVariants as report
+use Rattle.fisca_yaml.specs.Grouping.{document}
 use Rattle.fisca_test_file.specs.declared.all.Verdict.{Verdict}
 use Rattle.fisca_rule_files.specs.declared.refusal.Refusal.{Refusal}
-use Rattle.fisca_commands.specs.Test.{IsTested, IsWritten, Testing, test_context_in, simulation_in}
+use Rattle.fisca_rule_files.specs.declared.refusal.Refusal.TheVariants.{Tests, Write, Memory}
+use Rattle.fisca_commands.specs.Test.{IsTest, IsTreeTested, test_context_in, simulation_in}
 
 -- what an evaluator needs is known of each test that was read
 pub ready : (files : List Source) (rules : RuleSet)
@@ -35,14 +40,37 @@ ready files rules safe fit accepted s from =
     let is_safe = safe made.0 made.1.0 (rule_set rules) made.1.1 in
     record { safe = is_safe; fit = fit rules is_safe from.default from.line from.input _ from.is }
 
--- a report that is written, or broken off, is that of the tests
-pub tested : (t : Testing) (n : Node) (verdict : Verdict) (text : List ℕ) (old new : Option (List ℕ)) (answer : Result Verdict Refusal)
-    → (h : IsReport (test_context_in t.rules) (tests_of t.rules.tables n) verdict text) → h.0 ≡ t.tests → IsWritten verdict text old new answer → IsTested t old new answer
-tested t n verdict text old new (Ok v) h same w =
-    let passed = ap (λ (x : Verdict). x.passed) w.0 ∙ h.2 ∙ ap (λ ts. passed_of (test_context_in t.rules) ts) same in
-    let failed = ap (λ (x : Verdict). x.failed) w.0 ∙ h.3 ∙ ap (λ ts. failed_of (test_context_in t.rules) ts) same in
-    let told = h.4 ∙ ap (λ ts. report_text (test_context_in t.rules) ts) same in
-    (passed, failed, subst (λ x. Appends old new x) told w.1)
-tested t n verdict text old new (Err r) h same w =
-    let told = h.4 ∙ ap (λ ts. report_text (test_context_in t.rules) ts) same in
-    (w.0, subst (λ x. AppendsPart x old new) told w.1)
+err_ok : {X : Type 0} {f : TestFault} {x : X} → Err f ≡ Ok x → ⊥
+err_ok e = cc
+
+-- what is answered for a report that was handed over
+module _ (rules : RuleSet) (n : Node) (old new : Option (List ℕ)) where
+  part_tested : (refusal : Refusal) → (refusal ≡ Write) ⊎ (refusal ≡ Memory) → IsPartOf (test_context_in rules) (tests_of rules.tables n) old new → IsTreeTested rules n old new (Err refusal)
+  part_tested refusal which is = inr (is.0, is.1, (which, is.2))
+
+  pub ok_tested : (verdict : Verdict) → IsReported (test_context_in rules) (tests_of rules.tables n) old new (Ok verdict) → IsTreeTested rules n old new (Ok verdict)
+  ok_tested verdict is = inr (is.0, is.1, (is.2, is.3, is.4))
+
+  pub write_tested : IsReported (test_context_in rules) (tests_of rules.tables n) old new (Err report.Write) → IsTreeTested rules n old new (Err Write)
+  write_tested is = part_tested Write (inl refl) is
+
+  memory_told : (fault : TestFault) → Keeps old new ⊎ IsPartOf (test_context_in rules) (tests_of rules.tables n) old new → IsTreeTested rules n old new (Err Memory)
+  memory_told fault (inl keeps) = inl (Memory, refl, inl refl, keeps)
+  memory_told fault (inr is) = part_tested Memory (inr refl) is
+
+  pub memory_tested : (fault : TestFault) → IsReported (test_context_in rules) (tests_of rules.tables n) old new (Err (report.Tests fault)) → IsTreeTested rules n old new (Err Memory)
+  memory_tested fault is = memory_told fault is.1
+
+  fault_told : (fault : TestFault) → fault.kind ≢ kind.Memory → tests_of rules.tables n ≡ Err fault → Keeps old new ⊎ IsPartOf (test_context_in rules) (tests_of rules.tables n) old new
+      → IsTreeTested rules n old new (Err (Tests fault))
+  fault_told fault other told (inl keeps) = inl (Tests fault, refl, inr (fault, refl, other, told), keeps)
+  fault_told fault other told (inr is) = absurd (err_ok (sym told ∙ is.1))
+
+  pub fault_tested : (fault : TestFault) → fault.kind ≢ kind.Memory → IsReported (test_context_in rules) (tests_of rules.tables n) old new (Err (report.Tests fault)) → IsTreeTested rules n old new (Err (Tests fault))
+  fault_tested fault other is = fault_told fault other (is.0.0 other) is.1
+
+-- what was answered for the tree is answered for the text
+pub tree_tested : (files : List Source) (text : List ℕ) (rules : RuleSet) (n : Node) (old new : Option (List ℕ)) (answer : Result Verdict Refusal)
+    → IsAccepted files (rule_set rules) → document text ≡ Some n → IsTreeTested rules n old new answer → IsTest files text old new answer
+tree_tested files text rules n old new answer accepted tree (inl is) = inl (is.0, is.1, inr (rules, accepted, inr (n, tree, is.2)), is.3)
+tree_tested files text rules n old new answer accepted tree (inr is) = inr (record { rules = rules; tests = is.0 }, (accepted, (n, tree, is.1)), is.2)

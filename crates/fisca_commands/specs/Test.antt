@@ -46,20 +46,22 @@ simulation_in rules s = record { rules = rule_set rules; situation = s; neutral 
 abbrev pub test_context_in : RuleSet → Test → TestContext EvalFault
 test_context_in rules = test_context_of (known rules.tables) (λ s. told_in (simulation_in rules s)) name_of key_told
 
--- this verdict is answered, and the text is written; or the sink failed, and has a proper beginning of it
-abbrev pub IsWritten : Verdict → List ℕ → Option (List ℕ) → Option (List ℕ) → Result Verdict Refusal → Type 0
-IsWritten verdict text old new (Ok answer) = (answer ≡ verdict) × Appends old new text
-IsWritten verdict text old new (Err refusal) = (refusal ≡ Write) × AppendsPart text old new
-
--- what is answered once it is known which tests there are: how many pass and fail, and their report is written; or the sink failed
+-- what is answered once it is known which tests there are: how many pass and fail, and their report is written; or the sink failed, or memory was
+-- refused, and a proper beginning of it is written
 abbrev pub IsTested : Testing → Option (List ℕ) → Option (List ℕ) → Result Verdict Refusal → Type 0
 IsTested t old new (Ok verdict) =
     (verdict.passed ≡ passed_of (test_context_in t.rules) t.tests) × (verdict.failed ≡ failed_of (test_context_in t.rules) t.tests) × Appends old new (report_text (test_context_in t.rules) t.tests)
-IsTested t old new (Err refusal) = (refusal ≡ Write) × AppendsPart (report_text (test_context_in t.rules) t.tests) old new
+IsTested t old new (Err refusal) = ((refusal ≡ Write) ⊎ (refusal ≡ Memory)) × AppendsPart (report_text (test_context_in t.rules) t.tests) old new
 
 -- the tree is refused as a file of tests, or memory was refused
 abbrev pub RefusesTree : RuleSet → Node → Refusal → Type 0
 RefusesTree rules n refusal = (refusal ≡ Memory) ⊎ ((fault : TestFault) × (refusal ≡ Tests fault) × (fault.kind ≢ kind.Memory) × (tests_of rules.tables n ≡ Err fault))
+
+-- what is answered for a tree: it is refused and nothing is written, or its tests are worked out in order
+abbrev pub IsTreeTested : RuleSet → Node → Option (List ℕ) → Option (List ℕ) → Result Verdict Refusal → Type 0
+IsTreeTested rules n old new answer =
+    ((refusal : Refusal) × (answer ≡ Err refusal) × RefusesTree rules n refusal × Keeps old new)
+    ⊎ ((ts : List Test) × (tests_of rules.tables n ≡ Ok ts) × IsTested (record { rules = rules; tests = ts }) old new answer)
 
 -- the text is refused under a rule set: it is no YAML, else no file of tests; or memory was refused
 abbrev pub RefusesTests : RuleSet → List ℕ → Refusal → Type 0

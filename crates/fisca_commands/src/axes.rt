@@ -10,7 +10,7 @@ ghost use Rattle.fisca_commands.specs.AxesRun.{axes_of_words, axes_row_in, axes_
 ghost use Rattle.fisca_commands.specs.Forms.{asked_names, shown_form};
 ghost use Rattle.fisca_rule_files.specs.Refusal.{is_write};
 
-use super::forms::begin_table;
+use super::forms::{begin_table, is_asked};
 use fisca_command_line::{RunOptions, TableForm};
 use fisca_forms::LineForm;
 use fisca_grid::{
@@ -125,7 +125,7 @@ fn names_of(alloc: Global, form: TableForm, words: &[String]) -> Result<Vec<Stri
     ensures { IfOk result (λ names. map (λ name. string_bytes name) names.items ≡ asked_names form (axes_names (map (λ word. string_bytes word) words.now))) }
 {
     let mut names = Vec::new(alloc);
-    if !form.is_asked() {
+    if !is_asked(form) {
         return Ok(names);
     }
     names.push(String::from_str(alloc, "position")?)?;

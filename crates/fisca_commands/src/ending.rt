@@ -35,20 +35,14 @@ impl Ending {
     pub fn done() -> Self
         ensures { result ≡ done }
     {
-        Ending {
-            status: 0,
-            told: None,
-        }
+        Ending::of_status(0)
     }
 
     /// The ending of a run that wrote its last line: 4 where a word stands in the place of a value, else 0.
     pub fn run(lacks: bool) -> Self
         ensures { result ≡ run_done lacks }
     {
-        Ending {
-            status: run_status(lacks),
-            told: None,
-        }
+        Ending::of_status(run_status(lacks))
     }
 
     /// The ending of a run whose lines are a table: its last line is told, or that there is no memory for it.

@@ -13,27 +13,25 @@ use fisca_rule_files::Refusal;
 use fisca_writer::{RowSink, hand_over};
 use std::alloc::{AllocError, Global};
 
-impl TableForm {
-    /// Whether standard output is a table, so that it has no last line of a run.
-    pub(crate) fn is_table(self) -> bool
-        ensures { result ≡ is_table self }
-    {
-        self.header || self.format.is_some()
-    }
+/// Whether standard output is a table, so that it has no last line of a run.
+pub(crate) fn is_table(form: TableForm) -> bool
+    ensures { result ≡ is_table form }
+{
+    form.header || form.format.is_some()
+}
 
-    /// Whether a form is asked for.
-    pub(crate) fn is_asked(self) -> bool
-        ensures { result ≡ is_asked self }
-    {
-        self.is_table() || self.decimals.is_some()
-    }
+/// Whether a form is asked for.
+pub(crate) fn is_asked(form: TableForm) -> bool
+    ensures { result ≡ is_asked form }
+{
+    is_table(form) || form.decimals.is_some()
+}
 
-    /// The form of each line with cells of these names.
-    fn line_form(self, names: Vec<String>) -> LineForm
-        ensures { result ≡ line_form_of self (map (λ name. string_bytes name) names.items) }
-    {
-        LineForm::new(self.format.unwrap_or(Format::Tsv), self.decimals, names)
-    }
+/// The form of each line with cells of these names.
+fn line_form(form: TableForm, names: Vec<String>) -> LineForm
+    ensures { result ≡ line_form_of form (map (λ name. string_bytes name) names.items) }
+{
+    LineForm::new(form.format.unwrap_or(Format::Tsv), form.decimals, names)
 }
 
 /// Writes the line of the names where the options ask for one, and answers the form of the lines. `Write` only where the sink failed in this call;
@@ -49,7 +47,7 @@ pub(crate) fn begin_table<S: RowSink>(
     ensures failures { CountsFailure (is_write result) (S.failures sink.old) (S.failures sink.new) }
 {
     let is_headed = form.header;
-    let made = form.line_form(names);
+    let made = line_form(form, names);
     if !is_headed {
         return Ok(made);
     }

@@ -16,7 +16,7 @@ ghost use Rattle.fisca_yaml.specs.Node.{Node};
 ghost use Rattle.fisca_yaml.specs.Views.{node};
 
 use super::calc::read_tree;
-use super::forms::begin_table;
+use super::forms::{begin_table, is_asked};
 use super::unanswered::unanswered;
 use crate::grid_run::run_from;
 use crate::style::RowStyle;
@@ -57,7 +57,7 @@ fn names_of(alloc: Global, form: TableForm, tree: &Tree<'_>) -> Result<Vec<Strin
     ensures ok { IfOk result (λ names. IsNamedFor form (node tree.now) (map (λ name. string_bytes name) names.items)) }
     ensures err { IfErr result (RefusesNames (node tree.now)) }
 {
-    if !form.is_asked() {
+    if !is_asked(form) {
         return Ok(Vec::new(alloc));
     }
     match cell_names(alloc, tree) {

@@ -9,6 +9,7 @@ ghost use Rattle.fisca_commands.specs.Forms.{is_table};
 use super::axes::axes_words;
 use super::calc::calc_rules;
 use super::ending::Ending;
+use super::forms::is_table;
 use super::last_line::write_end;
 use super::list::list_rules;
 use super::run::run_rules;
@@ -221,7 +222,7 @@ fn end_run<S: RowSink>(
     ensures failures { CountsFailure (is_ok answer && (result.status == 5)) (S.failures sink.old) (S.failures sink.new) }
 {
     match answer {
-        Ok(end) if form.is_table() => Ending::ended(alloc, end, lacks),
+        Ok(end) if is_table(form) => Ending::ended(alloc, end, lacks),
         Ok(end) => match write_end(end, sink) {
             Ok(()) => Ending::run(lacks),
             Err(_) => Ending::refused(alloc, &Refusal::Write, path),

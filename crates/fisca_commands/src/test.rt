@@ -1,13 +1,12 @@
 //! `fisca test`: the verdicts of the tests of a file.
 
-ghost use Rattle.std.specs.Prelude.{◌≡◌, ℕ, string_bytes, IfOk, IfErr, Ok};
-ghost use Rattle.fisca_commands.specs.Test.{IsTest, IsWritten, RefusesTree, test_context_in, simulation_in};
+ghost use Rattle.std.specs.Prelude.{◌≡◌, ℕ, Ok};
+ghost use Rattle.fisca_commands.specs.Test.{IsTest, IsTreeTested, simulation_in};
 ghost use Rattle.fisca_simulation.specs.Told.{IsReady};
 ghost use Rattle.fisca_writer.specs.Sink.{CountsFailure};
 ghost use Rattle.fisca_rule_files.specs.Refusal.{is_write};
-ghost use Rattle.fisca_test_file.specs.Report.{IsReport};
 ghost use Rattle.fisca_test_file.specs.Tests.{Test};
-ghost use Rattle.fisca_test_file.specs.Steps.Tests.{test_of, tests_of};
+ghost use Rattle.fisca_test_file.specs.Steps.Tests.{test_of};
 ghost use Rattle.fisca_yaml.specs.Node.{Node};
 ghost use Rattle.fisca_yaml.specs.Views.{node};
 
@@ -19,9 +18,9 @@ use fisca_rules::RuleSet;
 use fisca_simulation::{inputs_fit, rule_sets_are_safe};
 use fisca_situations::Situation;
 use fisca_test_file::{
-    Report, SimulationBuilder, TestKind, Verdict, report_on, situations_are_read,
+    ReportFault, SimulationBuilder, TestKind, Verdict, report_on, situations_are_read,
 };
-use fisca_writer::{RowSink, hand_over};
+use fisca_writer::RowSink;
 use fisca_yaml::Tree;
 use std::alloc::{AllocError, Global};
 
@@ -47,43 +46,43 @@ impl<'r, 't> SimulationBuilder<Evaluator<'r, 't, IndexRecall>> for EvaluatorBuil
         let recall = IndexRecall::new(alloc);
         Ok(Evaluator::new(alloc, self.rules, &[], &[], situation, recall))
     }
-}
 
-/// The report on the tests that a tree says under a rule set.
-fn report_of(alloc: Global, rules: &RuleSet<'_>, tree: &Tree<'_>) -> Result<Report, Refusal>
-    requires { (line : ℕ) (n : Node) (t : Test) → test_of rules.now.tables line n ≡ Ok t → IsReady (simulation_in rules.now t.situation) }
-    ensures report { IfOk result (λ r. IsReport (test_context_in rules.now) (tests_of rules.now.tables (node tree.now)) r.verdict (string_bytes r.text)) }
-    ensures err { IfErr result (RefusesTree rules.now (node tree.now)) }
-{
-    let builder = EvaluatorBuilder { rules };
-    match report_on(alloc, &rules.tables, tree, &builder) {
-        Ok(report) => Ok(report),
-        Err(fault) if fault.kind == TestKind::Memory => Err(Refusal::Memory),
-        Err(fault) => Err(Refusal::Tests(fault)),
+    fn remembered(&self, answers: &Evaluator<'r, 't, IndexRecall>) -> u64 {
+        answers.counts().free()
     }
 }
 
-/// Writes a report, and answers its verdict.
-fn write_report<S: RowSink>(report: &Report, sink: &mut S) -> Result<Verdict, Refusal>
-    ensures written { IsWritten report.now.verdict (string_bytes report.now.text) (S.taken sink.old) (S.taken sink.new) result }
+/// Hands over the report on the tests that a tree says under a rule set, and answers its verdict.
+#[tactic(auto, using(crate::proofs::Tested::ok_tested, crate::proofs::Tested::write_tested, crate::proofs::Tested::memory_tested, crate::proofs::Tested::fault_tested))]
+fn report_of<S: RowSink>(
+    alloc: Global,
+    rules: &RuleSet<'_>,
+    tree: &Tree<'_>,
+    sink: &mut S,
+) -> Result<Verdict, Refusal>
+    requires { (line : ℕ) (n : Node) (t : Test) → test_of rules.now.tables line n ≡ Ok t → IsReady (simulation_in rules.now t.situation) }
+    ensures answer { IsTreeTested rules.now (node tree.now) (S.taken sink.old) (S.taken sink.new) result }
     ensures failures { CountsFailure (is_write result) (S.failures sink.old) (S.failures sink.new) }
 {
-    match hand_over(sink, report.text.as_bytes()) {
-        Ok(()) => Ok(report.verdict),
-        Err(_) => Err(Refusal::Write),
+    let builder = EvaluatorBuilder { rules };
+    match report_on(alloc, &rules.tables, tree, &builder, sink) {
+        Ok(verdict) => Ok(verdict),
+        Err(ReportFault::Write) => Err(Refusal::Write),
+        Err(ReportFault::Tests(fault)) if fault.kind == TestKind::Memory => Err(Refusal::Memory),
+        Err(ReportFault::Tests(fault)) => Err(Refusal::Tests(fault)),
     }
 }
 
 /// Works out the tests of a file under a rule set, in order, and writes for each `ok` or `failed` and its name, below a test that failed a line
 /// for each output that did, and last how many passed and failed; these are answered. The text is a test or a list of tests, as of [`report_on`].
 ///
-/// The first refusal in this order is told, and nothing is written before all tests are worked out:
+/// The first refusal in this order is told, and nothing is written before all tests are read:
 ///
 /// - `TooManyFiles`, `Params` and `Formula` as of `check_rules`: the files make no rule set.
 /// - `Yaml` exactly where the text has no tree, with the line and the kind that `fisca_yaml::read` tells.
 /// - `Tests` exactly where the tree is no such file under the rule set, with the line and the kind of its first fault.
 /// - `Write` only where the sink failed in this call: it has a proper beginning of the report.
-/// - `Memory` only where memory was refused: nothing is written.
+/// - `Memory` only where memory was refused: nothing is written, or a proper beginning of the report.
 ///
 /// The values are those of OpenFisca's rules by exact fractions, the tests those of its YAML tests; the report is this project's own.
 pub fn test_rules<S: RowSink>(
@@ -100,6 +99,5 @@ pub fn test_rules<S: RowSink>(
     rule_sets_are_safe();
     inputs_fit();
     situations_are_read();
-    let report = report_of(alloc, &rules, &tree)?;
-    write_report(&report, sink)
+    report_of(alloc, &rules, &tree, sink)
 }

@@ -15,6 +15,6 @@ mod whom;
 
 pub use fault::OutputFault;
 pub use member_scope::MemberScope;
-pub use outputs::Outputs;
+pub use outputs::{ExpectedOutput, Outputs};
 pub use reading::read_outputs;
 pub use whom::ExpectedMembers;

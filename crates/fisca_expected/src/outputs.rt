@@ -1,9 +1,9 @@
 //! Expected values, in the order in which they are written.
 
-ghost use Rattle.std.specs.Prelude.{◌≡◌, [], ◌∷◌, ◌++◌, map, length, slice_get, IfOk};
-ghost use Rattle.std.specs.List.{range_with_len};
+ghost use Rattle.std.specs.Prelude.{◌≡◌, [], ◌∷◌, ◌++◌, map, IfOk};
+ghost use Rattle.std.specs.List.{flat_map};
 ghost use Rattle.fisca_expected.specs.Outputs as spec;
-ghost use Rattle.fisca_expected.specs.Views.{subject as subject_view};
+ghost use Rattle.fisca_expected.specs.Views.{expected_outputs, output_of, subject as subject_view};
 
 use crate::subject::Subject;
 use crate::whom::ExpectedMembers;
@@ -12,31 +12,49 @@ use fisca_time::Period;
 use std::alloc::{AllocError, Global};
 use std::marker::Model;
 
+/// A value that is expected of a variable at a period, of one member or of each of all. It stands for an output of each of these.
+#[derive(Clone, Copy, Debug, PartialEq, Eq)]
+pub struct ExpectedOutput {
+    /// The place of the variable among all.
+    pub variable: usize,
+    /// Whose value it is.
+    pub whom: ExpectedMembers,
+    /// The period.
+    pub period: Period,
+    /// The value.
+    pub value: Value,
+}
+
+impl ExpectedOutput {
+    /// What is expected of the member at this place: a key with its value.
+    pub fn of_member(&self, member: u32) -> (Key, Value)
+        ensures { result ≡ output_of self.now member }
+    {
+        let key = Key {
+            variable: self.variable,
+            member,
+            period: self.period,
+        };
+        (key, self.value)
+    }
+}
+
 /// The values that a test expects of keys, in the order in which they are written; seen as a list of keys with their values. It may
-/// expect several of one key.
+/// expect several of one key. What is expected of all members is kept once.
 #[derive(Drop)]
 pub struct Outputs {
-    items: Vec<(Key, Value)>,
+    items: Vec<ExpectedOutput>,
 }
 
 impl Model for Outputs {
     ghost use Rattle.std.specs.Prelude.{List};
+    ghost use Rattle.std.specs.List.{flat_map};
     ghost use Rattle.fisca_expected.specs.Outputs.{Output};
+    ghost use Rattle.fisca_expected.specs.Views.{expected_outputs};
 
     ghost Value = { List Output };
 
-    ghost view = { λ o. o.items.items };
-}
-
-/// The key of a variable of a member at a period.
-fn key_of(subject: &Subject<'_, '_>, period: Period, member: u32) -> Key
-    ensures { result ≡ record { variable = subject.now.variable; member = member; period = period } }
-{
-    Key {
-        variable: subject.variable,
-        member,
-        period,
-    }
+    ghost view = { λ o. flat_map expected_outputs o.items.items };
 }
 
 impl Outputs {
@@ -49,25 +67,32 @@ impl Outputs {
         }
     }
 
-    /// How many there are.
-    pub fn len(&self) -> usize
-        ensures { result ≡ length self.now }
-    {
-        self.items.as_slice().len()
-    }
-
-    /// The keys with their values, in order.
-    pub fn as_slice(&self) -> &[(Key, Value)]
-        ensures { result.now ≡ self.now }
+    /// What is expected, in order: the keys with their values are those of each, one after another.
+    pub fn as_slice(&self) -> &[ExpectedOutput]
+        ensures { flat_map expected_outputs result.now ≡ self.now }
     {
         self.items.as_slice()
     }
 
-    /// The key at a place, and the value that is expected of it; none from the length on.
-    pub fn get(&self, place: usize) -> Option<(Key, Value)>
-        ensures { result ≡ slice_get self.now place }
+    /// One more of each of these members, in their order.
+    fn with_each(
+        self,
+        subject: &Subject<'_, '_>,
+        period: Period,
+        value: &Value,
+        whom: ExpectedMembers,
+    ) -> Result<Outputs, AllocError>
+        ensures { IfOk result (λ o. o ≡ self ++ map (spec.output (subject_view subject.now) period value.now) (spec.members_of whom)) }
     {
-        self.items.as_slice().get(place).copied()
+        let mut items = self.items;
+        let output = ExpectedOutput {
+            variable: subject.variable,
+            whom,
+            period,
+            value: *value,
+        };
+        items.push(output).map_err(AllocError::from)?;
+        Ok(Outputs { items })
     }
 
     /// One more, of a member.
@@ -80,28 +105,7 @@ impl Outputs {
     ) -> Result<Outputs, AllocError>
         ensures { IfOk result (λ o. o ≡ self ++ spec.output (subject_view subject.now) period value.now member ∷ []) }
     {
-        let mut items = self.items;
-        items
-            .push((key_of(subject, period, member), *value))
-            .map_err(AllocError::from)?;
-        Ok(Outputs { items })
-    }
-
-    /// One more of each of so many members.
-    fn with_each(
-        self,
-        subject: &Subject<'_, '_>,
-        period: Period,
-        value: &Value,
-        count: u32,
-    ) -> Result<Outputs, AllocError>
-        ensures { IfOk result (λ o. o ≡ self ++ map (spec.output (subject_view subject.now) period value.now) (range_with_len 0 count)) }
-    {
-        let mut outputs = self;
-        for member in 0..count {
-            outputs = outputs.with(subject, period, value, member)?;
-        }
-        Ok(outputs)
+        self.with_each(subject, period, value, ExpectedMembers::One(member))
     }
 
     /// One more of each member that is meant, in their order.
@@ -113,9 +117,6 @@ impl Outputs {
     ) -> Result<Outputs, AllocError>
         ensures { IfOk result (λ o. o ≡ self ++ spec.of_each (subject_view subject.now) period value.now) }
     {
-        match subject.whom {
-            ExpectedMembers::Each(count) => self.with_each(subject, period, value, count),
-            ExpectedMembers::One(member) => self.with(subject, period, value, member),
-        }
+        self.with_each(subject, period, value, subject.whom)
     }
 }

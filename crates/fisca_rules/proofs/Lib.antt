@@ -9,6 +9,7 @@ mod Members
 mod Named
 mod Safe
 pub mod Scans
+pub mod Search
 pub mod Walk
 pub mod Worked
 mod WorkedRules

@@ -4,6 +4,7 @@ pub mod Names
 pub mod Rules
 pub mod Safety
 pub mod Scans
+pub mod Starts
 pub mod Steps
 pub mod Views
 pub mod Walk

@@ -1,3 +1,4 @@
 pub mod Build
+pub mod InForce
 pub mod Passes
 pub mod Rules

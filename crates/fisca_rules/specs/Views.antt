@@ -17,5 +17,5 @@ rule_set r = record {
   variables = r.tables.variables;
   declarations = map written r.declarations.items;
   parameters = r.tables.parameters;
-  formulas = map (λ gs. map dated gs.items) r.formulas.items;
+  formulas = map (λ gs. map dated gs.items.items) r.formulas.items;
 }

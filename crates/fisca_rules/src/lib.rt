@@ -6,7 +6,9 @@ mod dated;
 mod entities;
 mod enums;
 mod faults;
+mod formulas;
 mod found;
+mod in_force;
 mod law;
 mod lines;
 mod persons;
@@ -16,6 +18,7 @@ mod tables;
 mod typed;
 
 pub use dated::Dated;
+pub use formulas::Formulas;
 pub use law::{
     days_and_texts_have_no_formulas, defaults_are_of_their_types, rule_sets_are_never_stuck,
 };

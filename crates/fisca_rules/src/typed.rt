@@ -13,6 +13,7 @@ ghost use Rattle.fisca_symbols.specs.KnownVariables.{value_type as known_type};
 ghost use Rattle.fisca_typing.specs.Formulas as typing;
 
 use crate::dated::Dated;
+use crate::formulas::Formulas;
 use fisca_ast::{ClassLine, Formula};
 use fisca_check::{FormulaRefusal, FormulaScope, TypedFormula as Typed, formula_of};
 use fisca_check_calls::Locals;
@@ -147,6 +148,20 @@ fn formulas_by<'n, 'a>(
     Ok(made)
 }
 
+/// The same, so that the one in force can be found.
+fn formulas_made<'n, 'a>(
+    alloc: Global,
+    tables: &'n Tables<'a>,
+    variable: &'n Variable<'a>,
+    declaration: &'n Declaration<'a>,
+    value_type: ValueType,
+) -> Result<Formulas, BuildFault>
+    ensures { Tells (λ fs. map dated fs.items.items) (steps.formulas_by (known tables.now) variable.now.entity (written declaration.now) (Some value_type)) result }
+{
+    let made = formulas_by(alloc, tables, variable, declaration, value_type)?;
+    Ok(Formulas::of(alloc, made)?)
+}
+
 /// The type of a variable's values in formulas. Days and texts have none.
 fn type_in_formulas(value_type: DeclaredType) -> Option<ValueType>
     ensures { result ≡ known_type value_type }
@@ -165,12 +180,12 @@ fn formulas_of<'n, 'a>(
     tables: &'n Tables<'a>,
     variable: &'n Variable<'a>,
     declaration: &'n Declaration<'a>,
-) -> Result<Vec<Dated>, BuildFault>
-    ensures { Tells (λ fs. map dated fs.items) (steps.formulas_of (known tables.now) (variable.now, written declaration.now)) result }
+) -> Result<Formulas, BuildFault>
+    ensures { Tells (λ fs. map dated fs.items.items) (steps.formulas_of (known tables.now) (variable.now, written declaration.now)) result }
 {
     match type_in_formulas(variable.value_type) {
-        Some(value_type) => formulas_by(alloc, tables, variable, declaration, value_type),
-        None => Ok(Vec::new(alloc)),
+        Some(value_type) => formulas_made(alloc, tables, variable, declaration, value_type),
+        None => Ok(Formulas::none(alloc)),
     }
 }
 
@@ -180,8 +195,8 @@ pub(crate) fn formulas_of_all<'n, 'a>(
     alloc: Global,
     tables: &'n Tables<'a>,
     declarations: &'n [Declaration<'a>],
-) -> Result<Vec<Vec<Dated>>, BuildFault>
-    ensures { Tells (λ fs. map (λ gs. map dated gs.items) fs.items) (steps.all_formulas (known tables.now) tables.now.variables (map written declarations.now)) result }
+) -> Result<Vec<Formulas>, BuildFault>
+    ensures { Tells (λ fs. map (λ gs. map dated gs.items.items) fs.items) (steps.all_formulas (known tables.now) tables.now.variables (map written declarations.now)) result }
 {
     let variables = tables.variables.as_slice();
     let mut made = Vec::with_capacity(alloc, variables.len())?;

@@ -9,7 +9,7 @@ use Rattle.fisca_params.proofs.Latest.{date_total}
 use Rattle.fisca_rules.specs.Rules.{Dated}
 use Rattle.fisca_time.specs.Instant.{CivilDate, date_cmp}
 use Rattle.fisca_simulation.specs.InForce.{IsAmong, IsLast, IsInForce}
-use Rattle.fisca_simulation.specs.Steps.InForce.{has_started, latest_of, in_force}
+use Rattle.fisca_rules.specs.Steps.InForce.{has_started, latest_of, in_force}
 
 not_back : (a b : CivilDate) → is_gt (date_cmp a b) ≡ true → is_gt (date_cmp b a) ≡ false
 not_back a b h = ap is_gt (date_total.antisymm b a) ∙ by (date_cmp a b) h

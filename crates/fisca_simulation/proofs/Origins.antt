@@ -14,7 +14,8 @@ use Rattle.fisca_inputs.specs.Steps.Inputs.{is_marked}
 use Rattle.fisca_rules.specs.Rules.{Dated}
 use Rattle.fisca_time.specs.Instant.{CivilDate}
 use Rattle.fisca_time.specs.Period.{start_of}
-use Rattle.fisca_simulation.specs.Steps.InForce.{has_ended, in_force}
+use Rattle.fisca_rules.specs.Steps.InForce.{in_force}
+use Rattle.fisca_simulation.specs.Steps.InForce.{has_ended}
 use Rattle.fisca_simulation.specs.Simulations.{Simulation, computed, formula_from, formula_of, given_or_computed, known_or_refused, source_of, sources, variable_of, worked_out}
 use Rattle.fisca_simulation.specs.Steps.Simulations.{all_dated, are_some, has_formulas}
 

@@ -31,7 +31,8 @@ use Rattle.fisca_model.specs.Tables.{Choices, Tables}
 use Rattle.fisca_model.specs.declared.value_type.ValueType.{ValueType}
 use Rattle.fisca_ops.specs.Casts.{cast}
 use Rattle.fisca_symbols.specs.declared.variable.Variable.{Variable}
-use Rattle.fisca_simulation.specs.Steps.InForce.{has_started, has_ended, later, latest_with, latest_of, in_force}
+use Rattle.fisca_rules.specs.Steps.InForce.{has_started, later, latest_with, latest_of, in_force}
+use Rattle.fisca_simulation.specs.Steps.InForce.{has_ended}
 use Rattle.fisca_simulation.specs.Simulations.{Simulation, formula_from, formula_of, start_point, worked_out, known_or_refused, computed, given_or_computed, if_askable, variable_of, source_of, sources}
 use Rattle.fisca_simulation.specs.Steps.Simulations.{all_dated}
 use Rattle.fisca_simulation.specs.Sound.{GivesOnly, IsSound, AreSound, IsSafeRules, InputsFit}

@@ -3,7 +3,7 @@ use Rattle.std.specs.Prelude.{◌≡◌, ⊤, ◌⊎◌, List, [], ◌∷◌, tr
 use Rattle.std.specs.Ordering.{is_gt}
 use Rattle.fisca_rules.specs.Rules.{Dated}
 use Rattle.fisca_time.specs.Instant.{CivilDate, date_cmp}
-use Rattle.fisca_simulation.specs.Steps.InForce.{has_started}
+use Rattle.fisca_rules.specs.Steps.InForce.{has_started}
 
 -- What that means
 

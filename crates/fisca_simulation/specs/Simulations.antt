@@ -20,7 +20,8 @@ use Rattle.fisca_time.specs.Period.{start_of}
 use Rattle.fisca_typing.specs.Formulas.{Formula}
 use Rattle.fisca_ops.specs.Casts.{cast}
 use Rattle.fisca_symbols.specs.declared.variable.Variable.{Variable}
-use Rattle.fisca_simulation.specs.Steps.InForce.{has_ended, in_force}
+use Rattle.fisca_rules.specs.Steps.InForce.{in_force}
+use Rattle.fisca_simulation.specs.Steps.InForce.{has_ended}
 use Rattle.fisca_simulation.specs.Steps.Simulations.{all_dated, own_key}
 
 -- a rule set, a situation, and marks of the variables that are neutralised, by their places

@@ -71,7 +71,7 @@ impl<'r, 't, 's> Simulation<'r, 't, 's> {
         if has_ended(variable.end, day) {
             return None;
         }
-        match in_force(day, formulas_at(self.rules, key.variable)) {
+        match in_force(self.rules, key.variable, day) {
             Some(dated) => Some(&dated.formula),
             None => None,
         }

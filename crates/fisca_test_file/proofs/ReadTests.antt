@@ -1,5 +1,5 @@
 -- The situation of a test was read.
-use Rattle.std.proofs.Common.{◌≡◌, ℕ, ap, subst}
+use Rattle.std.proofs.Common.{◌≡◌, ◌∙◌, ℕ, ap, subst, sym}
 use Rattle.std.specs.Option.{unwrap_or}
 use Rattle.std.specs.Prelude.{codes, Result, Ok, Err}
 use Rattle.fisca_columns.specs.Steps.Calc.{default_in}
@@ -41,3 +41,14 @@ test_read c line n t h =
     let shape = then_ok (shape_checked line n) (λ u. and_then (situation_in c line n) (test_by c line n)) t h in
     let step = then_ok (situation_in c line n) (test_by c line n) t shape.2 in
     subst (IsRead c) (same_situation c line n step.0 t step.2) (situation_read c line n step.0 step.1)
+
+-- the situation that is read from the test's item is the test's
+pub situation_of_test : (c : Tables) (line : ℕ) (n : Node) (t : Test) (s : Situation) → test_of c line n ≡ Ok t → situation_in c line n ≡ Ok s → t.situation ≡ s
+unfolding test_of
+situation_of_test c line n t s h is =
+    let shape = then_ok (shape_checked line n) (λ u. and_then (situation_in c line n) (test_by c line n)) t h in
+    let step = then_ok (situation_in c line n) (test_by c line n) t shape.2 in
+    let own : step.0 ≡ t.situation = same_situation c line n step.0 t step.2 in
+    let read : situation_in c line n ≡ Ok step.0 = step.1 in
+    let same : step.0 ≡ s = cc in
+    sym own ∙ same

@@ -1,4 +1,5 @@
 pub mod Faults
+pub mod Handing
 pub mod KeyFaults
 pub mod Outcomes
 pub mod Read

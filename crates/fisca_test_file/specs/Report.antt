@@ -12,7 +12,6 @@ use Rattle.fisca_model.specs.Tables.{Tables}
 use Rattle.fisca_test_file.specs.Tests.{Test}
 use Rattle.fisca_test_file.specs.Steps.Verdicts.{is_passed, outcome_of}
 use Rattle.fisca_test_file.specs.declared.all.Verdict.{Verdict}
-use Rattle.fisca_test_file.specs.declared.fault.TestFault.{TestFault}
 use Rattle.fisca_test_file.specs.declared.margins.Margins.{Margins}
 use Rattle.fisca_test_file.specs.declared.outcome.Outcome.{Outcome}
 use Rattle.fisca_test_file.specs.declared.outcome.Outcome.TheVariants.{Passed, Missed, TooWide, Faulted}
@@ -120,15 +119,3 @@ counted false v = record { passed = v.passed; failed = v.failed + 1 }
 
 abbrev pub report_text : {F : Type 0} → (Test → TestContext F) → List Test → List ℕ
 report_text test_context ts = tests_text test_context 1 ts ++ counts_text (passed_of test_context ts) (failed_of test_context ts)
-
--- What is told
-
--- the tests that this outcome has are told behind what was there, and so many pass and fail
-abbrev pub AreTold : {F : Type 0} → (Test → TestContext F) → Result (List Test) TestFault → List ℕ → List ℕ → Verdict → Type 0
-AreTold test_context outcome old new v =
-    (ts : List Test) × (outcome ≡ Ok ts) × (v.passed ≡ passed_of test_context ts) × (v.failed ≡ failed_of test_context ts) × (new ≡ old ++ tests_text test_context 1 ts)
-
--- the same of the whole report
-abbrev pub IsReport : {F : Type 0} → (Test → TestContext F) → Result (List Test) TestFault → Verdict → List ℕ → Type 0
-IsReport test_context outcome v text =
-    (ts : List Test) × (outcome ≡ Ok ts) × (v.passed ≡ passed_of test_context ts) × (v.failed ≡ failed_of test_context ts) × (text ≡ report_text test_context ts)

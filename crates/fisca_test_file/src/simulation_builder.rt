@@ -23,4 +23,7 @@ pub trait SimulationBuilder<A: Answers> {
         ensures ready { IfOk result (λ a. A.ready a) }
         ensures answers { IfOk result (λ a. A.answer a ≡ answer_in self.now (situation_view situation)) }
         ensures members { IfOk result (λ a. A.members a ≡ (situation_view situation).members) };
+
+    /// How many values these answers remember. It decides when they are made anew, and nothing that is told.
+    fn remembered(&self, answers: &A) -> u64;
 }

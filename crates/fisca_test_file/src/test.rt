@@ -51,7 +51,7 @@ fn situation_at(
 }
 
 /// The situation of a test.
-fn situation_in(
+pub(crate) fn situation_in(
     alloc: Global,
     tables: &Tables<'_>,
     line: usize,

@@ -1,31 +1,9 @@
--- The steps of code behind `InForce`:
--- The formula that is in force on a day.
-use Rattle.std.specs.Prelude.{List, [], ◌∷◌, Bool, false, not, if◌then◌else◌, Option, Some, None}
-use Rattle.std.specs.Ordering.{is_gt, is_lt}
-use Rattle.fisca_rules.specs.Rules.{Dated}
+-- The steps of code behind the formulas of a variable.
+use Rattle.std.specs.Prelude.{Bool, false, Option, Some, None}
+use Rattle.std.specs.Ordering.{is_lt}
 use Rattle.fisca_time.specs.Instant.{CivilDate, date_cmp}
-
--- it starts on the day or before it
-abbrev pub has_started : CivilDate → Dated → Bool
-has_started day d = not (is_gt (date_cmp d.start day))
 
 -- the last day on which there are formulas lies before the day
 abbrev pub has_ended : Option CivilDate → CivilDate → Bool
 has_ended None day = false
 has_ended (Some end) day = is_lt (date_cmp end day)
-
--- of two the one that starts later; of two that start on one day the upper
-abbrev pub later : Option Dated → Dated → Dated
-later None d = d
-later (Some e) d = if is_gt (date_cmp d.start e.start) then d else e
-
-abbrev pub latest_with : CivilDate → Option Dated → Dated → Option Dated
-latest_with day found d = if has_started day d then Some (later found d) else found
-
-abbrev pub latest_of : CivilDate → Option Dated → List Dated → Option Dated
-latest_of day found [] = found
-latest_of day found (d ∷ ds) = latest_of day (latest_with day found d) ds
-
--- of the formulas that start by the day the one that starts last
-abbrev pub in_force : CivilDate → List Dated → Option Dated
-in_force day ds = latest_of day None ds

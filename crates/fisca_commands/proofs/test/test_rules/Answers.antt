@@ -4,9 +4,8 @@ use Rattle.std.specs.Io.KnownBytes.{Keeps}
 use Rattle.fisca_writer.specs.Steps.Sink.{one_more}
 use Rattle.fisca_rule_files.specs.Refusal.{is_write}
 use Rattle.fisca_yaml.specs.Views.{node}
-use Rattle.fisca_commands.specs.Test.{Testing}
-use Rattle.fisca_commands.proofs.Telling.{tests_unwritten, yaml_unwritten}
-use Rattle.fisca_commands.proofs.Tested.{ready, tested}
+use Rattle.fisca_commands.proofs.Telling.{yaml_unwritten}
+use Rattle.fisca_commands.proofs.Tested.{ready, tree_tested}
 use Rattle.fisca_commands.proofs.test.test_rules.Goals as goal
 
 pub returns-in_err-rules-clause-answer : goal.returns-in_err-rules-clause-answer
@@ -27,18 +26,6 @@ returns-in_err-tree-clause-failures g c =
     let unwritten : is_write c.from_residual-in_err-tree.result ≡ false = ap is_write (told.1 ∙ ap Err told.2) ∙ yaml_unwritten c.args.text.now c.in_err-tree.field-0.0 c.in_err-tree.ensures.err in
     ap (λ failed. cond failed (one_more (g.S.RowSink.failures c.args.sink.now)) (g.S.RowSink.failures c.args.sink.now)) (sym unwritten)
 
-pub returns-in_err-report-clause-answer : goal.returns-in_err-report-clause-answer
-returns-in_err-report-clause-answer g c =
-    let told = err_from_is_err_and c.from_residual-in_err-report.result c.from_residual-in_err-report.ensures.1 in
-    let keeps : Keeps (g.S.RowSink.taken c.args.sink.now) (g.S.RowSink.taken c.args.sink.now) = search rules in
-    inl (c.in_err-report.field-0.0, told.1 ∙ ap Err told.2, inr (c.in_ok-rules.rules, c.in_ok-rules.ensures.ok, inr (node c.in_ok-tree.tree, c.in_ok-tree.ensures.ok, c.in_err-report.ensures.err)), keeps)
-
-pub returns-in_err-report-clause-failures : goal.returns-in_err-report-clause-failures
-returns-in_err-report-clause-failures g c =
-    let told = err_from_is_err_and c.from_residual-in_err-report.result c.from_residual-in_err-report.ensures.1 in
-    let unwritten : is_write c.from_residual-in_err-report.result ≡ false = ap is_write (told.1 ∙ ap Err told.2) ∙ tests_unwritten c.in_ok-rules.rules (node c.in_ok-tree.tree) c.in_err-report.field-0.0 c.in_err-report.ensures.err in
-    ap (λ failed. cond failed (one_more (g.S.RowSink.failures c.args.sink.now)) (g.S.RowSink.failures c.args.sink.now)) (sym unwritten)
-
 pub report_of-requires : goal.report_of-requires
 report_of-requires g c line n t read =
     ready c.args.files.now c.in_ok-rules.rules c.rule_sets_are_safe.ensures c.inputs_fit.ensures c.in_ok-rules.ensures.ok t.situation
@@ -46,7 +33,4 @@ report_of-requires g c line n t read =
 
 pub returns-clause-answer : goal.returns-clause-answer
 returns-clause-answer g c =
-    let report = c.in_ok-report.ensures.report in
-    let testing : Testing = record { rules = c.in_ok-rules.rules; tests = report.0 } in
-    let is = tested testing (node c.in_ok-tree.tree) _ _ _ _ _ report refl c.write_report.ensures.written in
-    inr (testing, (c.in_ok-rules.ensures.ok, (node c.in_ok-tree.tree, c.in_ok-tree.ensures.ok, report.1)), is)
+    tree_tested c.args.files.now c.args.text.now c.in_ok-rules.rules (node c.in_ok-tree.tree) _ _ _ c.in_ok-rules.ensures.ok c.in_ok-tree.ensures.ok c.report_of.ensures.answer

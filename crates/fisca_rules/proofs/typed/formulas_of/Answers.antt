@@ -4,8 +4,8 @@ use Rattle.fisca_rules.proofs.typed.formulas_of.Goals as goal
 
 pub returns-in-Some : goal.returns-in-Some
 unfolding formulas_of
-returns-in-Some c = rw (← c.type_in_formulas.ensures, c.in-Some.is) c.formulas_by.ensures
+returns-in-Some c = rw (← c.type_in_formulas.ensures, c.in-Some.is) c.formulas_made.ensures
 
 pub returns-in-None : goal.returns-in-None
 unfolding formulas_of
-returns-in-None c = rw (← c.type_in_formulas.ensures, c.in-None.is, c.new.ensures.items) refl
+returns-in-None c = rw (← c.type_in_formulas.ensures, c.in-None.is, c.none.ensures) refl

@@ -23,4 +23,4 @@ returns-in_err-formulas c =
 pub returns : goal.returns
 returns c =
     let tables : Tables = record { entities = c.in_ok-entities.entities; enums = c.in_ok-entities.enums; variables = c.in_ok-entities.variables; parameters = c.args.parameters } in
-    built (map statements c.args.modules.items) tables c.in_ok-entities.declarations.items _ c.in_ok-entities.ensures (subst (λ ds. all_formulas (known tables) c.in_ok-entities.variables (map written ds) ≡ Ok (map (λ gs. map dated gs.items) c.in_ok-formulas.formulas.items)) c.as_slice.ensures.value c.in_ok-formulas.ensures)
+    built (map statements c.args.modules.items) tables c.in_ok-entities.declarations.items _ c.in_ok-entities.ensures (subst (λ ds. all_formulas (known tables) c.in_ok-entities.variables (map written ds) ≡ Ok (map (λ gs. map dated gs.items.items) c.in_ok-formulas.formulas.items)) c.as_slice.ensures.value c.in_ok-formulas.ensures)

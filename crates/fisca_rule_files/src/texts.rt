@@ -134,7 +134,7 @@ pub(crate) fn formulas_at(
     ensures { IfOk result (λ text. string_bytes text ≡ spec.formulas_text (spec.formulas_in (slice_get (rule_set rules.now).formulas place))) }
 {
     match rules.formulas.get(place) {
-        Some(formulas) => formulas_text(alloc, formulas.as_slice()),
+        Some(formulas) => formulas_text(alloc, formulas.items.as_slice()),
         None => String::from_str(alloc, "input"),
     }
 }

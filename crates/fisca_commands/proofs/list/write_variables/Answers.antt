@@ -18,8 +18,8 @@ returns-in-Ok-clause-answer g c =
     all_listed form modules r (c.each_variable_has_its_line.ensures.lines form modules r) old new c.in-Ok.field-0
     (subst (IsRun (listed_row form modules r) (length r.variables) 0 no_limit old new) c.in-Ok.is c.write_listing.ensures.run)
 
-pub returns-clause-answer : goal.returns-clause-answer
-returns-clause-answer g c =
+pub returns-in-Err-clause-answer : goal.returns-in-Err-clause-answer
+returns-in-Err-clause-answer g c =
     let form = c.args.form.now in
     let modules = map (λ f. f.now) c.args.modules.now in
     let r = rule_set c.args.rules.now in

@@ -177,7 +177,7 @@ fn outputs_take_a_rule_set(rt: HostRuntime) -> Result<(), Fail> {
     let situation = Situation::read(alloc, &rules, &input, None)?;
     let outputs = read(alloc, "double: {2025-03: [1, 2]}")?;
     let outputs = read_outputs(alloc, &rules, &situation, &outputs, None)?;
-    assert_eq!(rt; outputs.len(), 2);
+    assert_eq!(rt; outputs.as_slice().len(), 2);
     Ok(())
 }
 

@@ -62,6 +62,9 @@ fn a_value_and_a_grid(rt: HostRuntime) -> Result<(), Fail> {
     let (mut lacks, mut sink) = (false, MemorySink::new(alloc));
     let ended = run_grid(alloc, &rules, run, style, &mut lacks, 0, limit, &mut sink);
     assert!(rt; ended.is_ok());
-    assert_eq!(rt; sink.bytes(), b"0\t0\t0\n1\t1000\t250\n2\t2000\t500\n".as_slice());
+    assert_eq!(rt;
+        sink.bytes(),
+        b"0\t0\t0\n1\t1000\t250\n2\t2000\t500\n".as_slice()
+    );
     Ok(())
 }

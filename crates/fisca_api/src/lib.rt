@@ -11,8 +11,6 @@ pub mod commands;
 mod eternal_laws;
 pub mod eval;
 mod evaluator;
-#[cfg(test)]
-mod example;
 pub mod formula;
 mod given;
 pub mod grid;
@@ -25,7 +23,5 @@ mod position_laws;
 mod readers;
 mod situation;
 mod situation_laws;
-#[cfg(test)]
-mod tests;
 pub mod time;
 pub mod yaml;

@@ -1,4 +1,9 @@
-"""Files at a limit and just beyond it: what the program has to answer to each stands here."""
+"""Files at a limit and just beyond it: what the program has to answer to each stands here; and a file of tests whose
+report is 270 MB, which has to be written in 200 MiB of memory.
+"""
+import resource
+import subprocess
+
 import common
 import growths
 
@@ -19,6 +24,19 @@ MADE = [
     ("pack", "Household", "household", 'household.sum(household.members("chase", period))'),
 ]
 PAIR = "input: {persons: {Ann: {}, Bob: {}}, households: {home: {parents: [Ann, Bob]}}}\n"
+
+# a fault of a household, which each of its persons asks for
+ASKED = {
+    "entities.py": """\
+Household = build_entity(key="household", plural="households", roles=[{"key": "member", "plural": "members"}])
+Person = build_entity(key="person", plural="persons", is_person=True)
+""",
+    "variables/all.py": VARIABLE.format("none", "Household", "household", "0")
+    + VARIABLE.format("share", "Household", "household", '1 / household("none", period)')
+    + VARIABLE.format("asks", "Person", "person", 'person.household("share", period)'),
+}
+# the bytes that the program may take for 1 MiB of tests
+TESTS_MEMORY = 200 << 20
 
 
 def persons(count, inputs="{}"):
@@ -78,7 +96,30 @@ def try_check(fuzz):
         fuzz.same(tuple(fuzz.call("check", fuzz.room / "rules")), told, name)
 
 
+def limit_tests():
+    """Limits the memory of a program that works tests out."""
+    resource.setrlimit(resource.RLIMIT_AS, (TESTS_MEMORY,) * 2)
+
+
+def try_long_report(fuzz):
+    """A test of 300 persons that fail, each by a line with the name of their household, which is 900 kB long."""
+    rules, path = fuzz.room / "asked", fuzz.room / "tests.yaml"
+    names, home = [f"p{place}" for place in range(300)], "h" * 900_000
+    common.put(rules, ASKED)
+    given = "persons: {" + ", ".join(f"{name}: {{}}" for name in names) + "}"
+    homes = f"households: {{{home}: {{members: [{', '.join(names)}]}}}}"
+    path.write_text(f"period: 2017-01\ninput: {{{given}, {homes}}}\noutput: {{asks: 1}}\n")
+    lines = [f"  asks {name} 2017-01: ZeroDivisor share {home} 2017-01\n" for name in names]
+    wanted = ["failed test 1\n", *lines, "passed 0, failed 1\n"]
+    command = [fuzz.program("fisca"), "test", rules, path]
+    with subprocess.Popen(command, stdout=subprocess.PIPE, preexec_fn=limit_tests) as ran:
+        right = sum(line.decode() == it for line, it in zip(ran.stdout, wanted))
+    is_whole = right == len(wanted) and ran.returncode == 1
+    fuzz.check(is_whole, f"a report of 270 MB: {right} lines, status {ran.returncode}")
+
+
 def run(fuzz):
     """Tries all."""
     try_check(fuzz)
     try_calc(fuzz)
+    try_long_report(fuzz)

@@ -32,7 +32,7 @@ use Rattle.fisca_api.proofs.PlacedRules.{AllPlaced, EachPlaced, rules_placed}
 use Rattle.fisca_api.proofs.Reached.{AsksOnly, HasPoint, IsKnownThere, Same, formula_like, quiet_computed, quiet_if, quiet_member, quiet_number, same_then}
 use Rattle.fisca_api.proofs.SituationMembers.{peopled}
 use Rattle.fisca_api.specs.Members.{AreMembers, AreThere, Follows, HasGroup, IsMember, IsThere}
-use Rattle.fisca_rules.specs.Rules.{Dated, Rules, known_by}
+use Rattle.fisca_rules.specs.Rules.{DatedFormula, Rules, known_by}
 use Rattle.fisca_rules.specs.Steps.InForce.{has_started, in_force, later, latest_of, latest_with}
 use Rattle.fisca_rules.specs.Steps.Rules.{rules_of}
 use Rattle.fisca_rules.specs.Views.{rule_set}
@@ -60,11 +60,11 @@ some_same x y e = cc
 -- The formula in force
 
 module _ (c : typing.Tables) (own : ℕ) where
-  abbrev Holds : Option Dated → Type 0
+  abbrev Holds : Option DatedFormula → Type 0
   Holds None = ⊤
   Holds (Some d) = IsPlacedFormula c own d.formula
 
-  later_placed : (found : Option Dated) (d : Dated) → Holds found → IsPlacedFormula c own d.formula → IsPlacedFormula c own (later found d).formula
+  later_placed : (found : Option DatedFormula) (d : DatedFormula) → Holds found → IsPlacedFormula c own d.formula → IsPlacedFormula c own (later found d).formula
   later_placed None d f p = p
   later_placed (Some e) d f p = by (is_gt (date_cmp d.start e.start))
     where
@@ -72,19 +72,19 @@ module _ (c : typing.Tables) (own : ℕ) where
       by true = p
       by false = f
 
-  with_placed : (day : CivilDate) (found : Option Dated) (d : Dated) → Holds found → IsPlacedFormula c own d.formula → Holds (latest_with day found d)
+  with_placed : (day : CivilDate) (found : Option DatedFormula) (d : DatedFormula) → Holds found → IsPlacedFormula c own d.formula → Holds (latest_with day found d)
   with_placed day found d f p = by (has_started day d)
     where
       by : (b : Bool) → Holds (if b then Some (later found d) else found)
       by true = later_placed found d f p
       by false = f
 
-  latest_placed : (day : CivilDate) (found : Option Dated) (ds : List Dated) → Holds found → AllPlaced c own ds → Holds (latest_of day found ds)
+  latest_placed : (day : CivilDate) (found : Option DatedFormula) (ds : List DatedFormula) → Holds found → AllPlaced c own ds → Holds (latest_of day found ds)
   latest_placed day found [] f all = f
   latest_placed day found (d ∷ ds) f all = latest_placed day (latest_with day found d) ds (with_placed day found d f all.0) all.1
 
-  module _ (w : Variable) (ds : List Dated) (all : AllPlaced c own ds) (f : Formula) where
-    force_placed : (o : Option Dated) → Holds o → option_map (λ d. d.formula) o ≡ Some f → IsPlacedFormula c own f
+  module _ (w : Variable) (ds : List DatedFormula) (all : AllPlaced c own ds) (f : Formula) where
+    force_placed : (o : Option DatedFormula) → Holds o → option_map (λ d. d.formula) o ≡ Some f → IsPlacedFormula c own f
     force_placed None holds h = cc
     force_placed (Some d) holds h = subst (IsPlacedFormula c own) (some_same d.formula f h) holds
 
@@ -100,7 +100,7 @@ module _ (c : typing.Tables) (own : ℕ) where
     unmarked_placed day true h = cc
     unmarked_placed day false h = from_placed day h
 
-each_at : (c : typing.Tables) (vs : List Variable) (fs : List (List Dated)) → EachPlaced c vs fs → (i : ℕ) (w : Variable) → slice_get vs i ≡ Some w → AllPlaced c w.entity (all_dated (slice_get fs i))
+each_at : (c : typing.Tables) (vs : List Variable) (fs : List (List DatedFormula)) → EachPlaced c vs fs → (i : ℕ) (w : Variable) → slice_get vs i ≡ Some w → AllPlaced c w.entity (all_dated (slice_get fs i))
 each_at c [] fs e i w h = cc
 each_at c (v ∷ vs) [] e i w h = tt
 each_at c (v ∷ vs) (ds ∷ more) e zero w h = subst (λ (z : Variable). AllPlaced c z.entity ds) (some_same v w h) e.0

@@ -1,15 +1,13 @@
 -- Inputs rest they are given, and one that is put in among them.
 use Rattle.std.proofs.Common.{◌≡◌, true≢false, ℕ, List, [], ◌∷◌, ◌++◌, Bool, true, false, not, Option, Some, slice_get, refl, sym, ap, ap₂, subst, ◌∙◌, if◌then◌else◌, ◌||◌, ◌&&◌}
-use Rattle.std.specs.Prelude.{◌==◌, Ok, Err}
-use Rattle.std.specs.Cmp.{both_ways, unsigned_ties}
+use Rattle.std.specs.Prelude.{Ok, Err}
 use Rattle.std.specs.List.{list_any}
-use Rattle.std.specs.Ordering.{eq_by_cmp, is_eq, nat_cmp, ordering_then}
-use Rattle.std.proofs.lemmas.Bool.{eqb-true, eq-eqb, or_parts}
+use Rattle.std.specs.Ordering.{eq_by_cmp}
+use Rattle.std.proofs.lemmas.Bool.{or_parts}
 use Rattle.fisca_inputs.proofs.Numbered.{key_parts}
 use Rattle.fisca_inputs.specs.Entries.{key, same_key}
 use Rattle.fisca_inputs.specs.Faults.{at_line}
 use Rattle.fisca_inputs.specs.Inputs.{key_given}
-use Rattle.fisca_inputs.specs.Overlaps.{shares_day, starts_before}
 use Rattle.fisca_inputs.specs.Steps.Overlaps.{is_across, is_other, overlaps}
 use Rattle.fisca_inputs.specs.Typed.{GivensTyped, IsValueOf, is_typed}
 use Rattle.fisca_inputs.specs.declared.fault.SituationKind.TheVariants.{InconsistentInput}
@@ -29,16 +27,15 @@ use Rattle.fisca_situations.specs.Steps.Axes.{put_in}
 use Rattle.fisca_situations.specs.Steps.Situations.{reading_of}
 use Rattle.fisca_situations.specs.Steps.Slots.{has_numbers}
 use Rattle.fisca_situations.specs.declared.reading.Reading.{Reading}
-use Rattle.fisca_slots.proofs.Parts.{both_equal}
+use Rattle.fisca_slots.proofs.Placed.{equal_turned, shares_turned}
+use Rattle.fisca_slots.proofs.Standing.{same_period}
 use Rattle.fisca_symbols.specs.Known.{tables as known}
 use Rattle.fisca_symbols.specs.KnownVariables.{value_type}
 use Rattle.fisca_symbols.specs.declared.tables.Tables.{Tables}
 use Rattle.fisca_symbols.specs.declared.variable.DeclaredType.{DeclaredType}
 use Rattle.fisca_symbols.specs.declared.variable.DeclaredType.TheVariants as type
 use Rattle.fisca_symbols.specs.declared.variable.Variable.{Variable}
-use Rattle.fisca_time.specs.Kept.{span_of}
-use Rattle.fisca_time.specs.Period.{Span, eternity, months, days, first_of, is_period, size_of, span_cmp, unit_of}
-use Rattle.fisca_time.specs.Unit.{rank, unit_ranked}
+use Rattle.fisca_time.specs.Period.{Span, eternity, is_period, span_cmp}
 use Rattle.fisca_time.specs.declared.unit.Unit.{Unit}
 use Rattle.fisca_time.specs.declared.unit.Unit.TheVariants.{Day, Month, Year, Eternity}
 use Rattle.fisca_yaml.specs.Node.{Node}
@@ -56,33 +53,6 @@ key_eternal Day p h = cc
 key_eternal Month p h = cc
 key_eternal Year p h = cc
 key_eternal Eternity p h = refl
-
-span_back : (p : Span) → is_period p ≡ true → span_of (unit_of p) (first_of p) (size_of p) ≡ p
-span_back eternity h = refl
-span_back (months Day first size) h = cc
-span_back (months Month first size) h = refl
-span_back (months Year first size) h = refl
-span_back (months Eternity first size) h = cc
-span_back (days first size) h = refl
-
-rank_of : (u : Unit) → unit_ranked (rank u) ≡ u
-rank_of Day = refl
-rank_of Month = refl
-rank_of Year = refl
-rank_of Eternity = refl
-
--- equal periods are the same
-same_period : (p q : Span) → is_period p ≡ true → is_period q ≡ true → eq_by_cmp span_cmp p q ≡ true → p ≡ q
-same_period p q hp hq h =
-    let units = both_equal (nat_cmp (rank (unit_of p)) (rank (unit_of q))) (ordering_then (nat_cmp (first_of p) (first_of q)) (nat_cmp (size_of p) (size_of q))) h in
-    let sizes = both_equal (nat_cmp (first_of p) (first_of q)) (nat_cmp (size_of p) (size_of q)) units.1 in
-    let unit : unit_of p ≡ unit_of q = sym (rank_of (unit_of p)) ∙ (ap unit_ranked (tied (rank (unit_of p)) (rank (unit_of q)) units.0) ∙ rank_of (unit_of q)) in
-    let first : first_of p ≡ first_of q = tied (first_of p) (first_of q) sizes.0 in
-    let size : size_of p ≡ size_of q = tied (size_of p) (size_of q) sizes.1 in
-    sym (span_back p hp) ∙ ((λ i. span_of (unit i) (first i) (size i)) ∙ span_back q hq)
-  where
-    tied : (x y : ℕ) → is_eq (nat_cmp x y) ≡ true → x ≡ y
-    tied x y h = eqb-true x y (unsigned_ties x y ∙ h)
 
 -- Putting in
 
@@ -157,21 +127,6 @@ none_put test (a ∷ rest) g none one =
     by false first rest more = ap₂ (λ x y. x || y) first more
 
 -- Days in common
-
-equal_turned : (x y : ℕ) → (x == y) ≡ (y == x)
-equal_turned x y = both_ways (x == y) (y == x) (λ h. eq-eqb y x (sym (eqb-true x y h))) (λ h. eq-eqb x y (sym (eqb-true y x h)))
-
-shares_turned : (p q : Span) → shares_day p q ≡ shares_day q p
-shares_turned p q = by (starts_before p p) (starts_before q q) (starts_before p q) (starts_before q p)
-  where
-    by : (a b c d : Bool) → ((a && b) && (c && d)) ≡ ((b && a) && (d && c))
-    by true true true true = refl
-    by true true true false = refl
-    by true true false true = refl
-    by true true false false = refl
-    by true false c d = refl
-    by false true c d = refl
-    by false false c d = refl
 
 equal_periods : (p q : Span) → eq_by_cmp span_cmp p q ≡ eq_by_cmp span_cmp q p
 equal_periods p q = laws-law.symm (key 0 0 p) (key 0 0 q)

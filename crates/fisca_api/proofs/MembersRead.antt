@@ -10,7 +10,7 @@ use Rattle.fisca_members.specs.Sections.{Input}
 use Rattle.fisca_members.specs.Steps.Members.{members_in, members_of}
 use Rattle.fisca_members.specs.Steps.Sections.{input_of, titles_of}
 use Rattle.fisca_members.specs.declared.fault.MembersFault.{MembersFault}
-use Rattle.fisca_params.specs.Results.{and_then}
+use Rattle.fisca_num.specs.Results.{and_then}
 use Rattle.fisca_api.specs.Members.{AreMembers}
 use Rattle.fisca_run.proofs.Files.{read_from}
 use Rattle.fisca_run_file.specs.Positions.{situation_with}

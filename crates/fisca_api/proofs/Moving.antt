@@ -10,7 +10,7 @@ use Rattle.fisca_inputs.specs.declared.given.Given.{Given}
 use Rattle.fisca_memo_theory.specs.Reads.{Moves, reads_wheel}
 use Rattle.fisca_model.specs.Values as meaning
 use Rattle.fisca_model.specs.declared.key.Key.{Key}
-use Rattle.fisca_params.specs.Results.{and_then}
+use Rattle.fisca_num.specs.Results.{and_then}
 use Rattle.fisca_situations.specs.Axes as axes
 use Rattle.fisca_situations.specs.Situations as situations
 use Rattle.fisca_situations.specs.Slots.{Slot}

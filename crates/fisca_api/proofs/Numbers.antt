@@ -37,7 +37,7 @@ use Rattle.fisca_model.specs.declared.value_type.ValueType.TheVariants as vt
 use Rattle.fisca_num.specs.Number.{Number}
 use Rattle.fisca_num.specs.Operations.{number_of}
 use Rattle.fisca_num.specs.declared.faults.NumFault.{NumFault}
-use Rattle.fisca_params.specs.Results.{and_then}
+use Rattle.fisca_num.specs.Results.{and_then}
 use Rattle.fisca_api.proofs.Fits.{given_fit}
 use Rattle.fisca_api.proofs.Givens.{has_type, is_same}
 use Rattle.fisca_api.proofs.Turns.{shared as shared_from}

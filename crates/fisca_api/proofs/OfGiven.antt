@@ -15,7 +15,7 @@ use Rattle.fisca_inputs.specs.declared.given.Given.{Given}
 use Rattle.fisca_model.specs.declared.key.Key.{Key}
 use Rattle.fisca_model.specs.declared.value.Value.TheVariants as v
 use Rattle.fisca_num.specs.Number.{Number}
-use Rattle.fisca_params.specs.Results.{and_then}
+use Rattle.fisca_num.specs.Results.{and_then}
 use Rattle.fisca_rules.specs.Views.{rule_set}
 use Rattle.fisca_rules.specs.declared.rule_set.RuleSet.{RuleSet}
 use Rattle.fisca_simulation.specs.Sound.{IsSafeRules}

@@ -11,8 +11,8 @@ use Rattle.fisca_params.specs.Answers.{Refuses}
 use Rattle.fisca_params.specs.Source.{Source}
 use Rattle.fisca_params.specs.Steps.Files.{tree_of}
 use Rattle.fisca_params.specs.Tree.{TreeNode}
-use Rattle.fisca_params.specs.declared.fault.ParamFault.{ParamFault}
-use Rattle.fisca_params.specs.declared.fault.ParamFault.TheVariants as params
+use Rattle.fisca_scales.specs.declared.fault.ParamFault.{ParamFault}
+use Rattle.fisca_scales.specs.declared.fault.ParamFault.TheVariants as params
 use Rattle.fisca_api.proofs.Alike.{same_calc, same_run, same_tests}
 use Rattle.fisca_api.specs.Alike.{AreAlike}
 use Rattle.fisca_rule_files.specs.Modules.{FileFault, IsRefusalOf, rules_by}

@@ -3,12 +3,13 @@ use Rattle.std.proofs.Common.{◌≡◌, ℕ, zero, suc, ◌+◌, List, [], ◌�
 use Rattle.std.specs.Prelude.{slice_get, Result, Ok, Err}
 use Rattle.fisca_ast.specs.Tree.{Tree}
 use Rattle.fisca_ast.specs.declared.fault.FormulaKind.{FormulaKind}
+use Rattle.fisca_formula_semantics.proofs.Good.{OkIs, if_is, then_is}
 use Rattle.fisca_model.specs.Tables.{Tables}
 use Rattle.fisca_model.specs.declared.value_type.ValueType.{ValueType}
-use Rattle.fisca_params.specs.Results.{and_then}
+use Rattle.fisca_num.specs.Results.{and_then}
 use Rattle.fisca_api.proofs.Placed.{Extends, IsPlaced, IsPlacedFormula, IsPlacedFrom, RolesFit, extended, weaken, weaken_all}
 use Rattle.fisca_api.proofs.PlacedNames.{LocalsGood, thing-good}
-use Rattle.fisca_api.proofs.PlacedThings.{AreGood, IsGood, IsGoodValue, OkIs, if_is, then_is, value-good}
+use Rattle.fisca_api.proofs.PlacedThings.{AreGood, IsGood, IsGoodValue, value-good}
 use Rattle.fisca_typing.specs.Formulas.{Assigned, Formula, Kept, RefusedFormula, Scope, at, behind_local, formula_from, formula_of, if_small, kept, of_entity, of_type, returned, returns, start_of, with_local}
 use Rattle.fisca_typing.specs.Names.{Local, Names}
 use Rattle.fisca_typing.specs.Nodes.{Node}

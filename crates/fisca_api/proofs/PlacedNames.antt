@@ -9,11 +9,13 @@ use Rattle.fisca_ast.specs.Tree as tree
 use Rattle.fisca_ast.specs.Words.{is}
 use Rattle.fisca_ast.specs.declared.fault.FormulaKind.{FormulaKind}
 use Rattle.fisca_ast.specs.declared.fault.FormulaKind.TheVariants as kind
-use Rattle.fisca_ast.specs.declared.tree.Bracket.{Bracket}
-use Rattle.fisca_ast.specs.declared.tree.Bracket.TheVariants as bracket
+use Rattle.fisca_ast.specs.declared.tree.Delimiter.{Delimiter}
+use Rattle.fisca_ast.specs.declared.tree.Delimiter.TheVariants as bracket
 use Rattle.fisca_ast.specs.declared.tree.Suffix.{Suffix}
 use Rattle.fisca_ast.specs.declared.tree.Suffix.TheVariants as suffix
-use Rattle.fisca_model.specs.Tables.{Entity, Tables, Variable, first_where, if_single, is_group_of, is_person_at, member_named, otherwise, place_in, role_of_constant, role_of_key, roles_at, roles_of, variable_named}
+use Rattle.fisca_formula_semantics.proofs.Good.{OkIs, if_is, then_any, then_eq, then_is}
+use Rattle.fisca_formula_semantics.proofs.GoodAsks.{StandsAt, first-at}
+use Rattle.fisca_model.specs.Tables.{Entity, Tables, Variable, if_single, is_group_of, is_person_at, member_named, otherwise, place_in, role_of_constant, role_of_key, roles_at, roles_of, variable_named}
 use Rattle.fisca_model.specs.declared.role_place.RolePlace.{RolePlace}
 use Rattle.fisca_model.specs.declared.value_type.ValueType.{ValueType}
 use Rattle.fisca_model.specs.declared.value_type.ValueType.TheVariants as vt
@@ -21,7 +23,7 @@ use Rattle.fisca_num.specs.Literal.{number_of_literal}
 use Rattle.fisca_num.specs.Number.{Number}
 use Rattle.fisca_num.specs.declared.faults.NumFault.{NumFault}
 use Rattle.fisca_api.proofs.Placed.{IsCounted, IsFor, IsGroup, IsPlaced, RolesFit}
-use Rattle.fisca_api.proofs.PlacedThings.{AllGiven, AreGood, AreGoodNodes, GoodPositions, IsGood, IsGoodMethod, IsGoodRelation, IsGoodValue, OkIs, alone-good, comparison-good, function-good, if_is, node_attribute-good, nodes-good, numeric_then, ok, operated-good, operation-good, prefixed-good, root-good, settled_then, subscripted-good, then_any, then_eq, then_is, value-good}
+use Rattle.fisca_api.proofs.PlacedThings.{AllGiven, AreGood, AreGoodNodes, GoodPositions, IsGood, IsGoodMethod, IsGoodRelation, IsGoodValue, alone-good, comparison-good, function-good, node_attribute-good, nodes-good, numeric_then, ok, operated-good, operation-good, prefixed-good, root-good, settled_then, subscripted-good, value-good}
 use Rattle.fisca_typing.specs.Asks.{asked, asked_type, asked_with, asker_attribute, begins_with_text, count_behind, count_by, group_led_to, group_method, group_of_whom, has_role_by, is_members, is_options, is_positional as is_by_position, method_attribute, method_by, method_called, method_named, options_of, person_method, relation_named, role_by, role_in, settled_positions, some_method, takes, to_group, to_holder, to_person, to_self, total_by, total_of, usable, variable_of}
 use Rattle.fisca_typing.specs.Calls.{CallArgument, Positions, and_keyword, alone, by_position, calculation_by, function_by, more_keywords, offset_of, reader_by, settled}
 use Rattle.fisca_typing.specs.Names.{Local, Names, added_function, added_word, argument_named, declared, has_name, known_word, library_function, local_named, named}
@@ -44,17 +46,6 @@ use Rattle.fisca_typing.specs.declared.operations.Total.{Total}
 
 some-is : {X : Type 0} (p q : X) → Some p ≡ Some q → p ≡ q
 some-is p q e = cc
-
-abbrev StandsAt : {X : Type 0} → List X → ℕ → ℕ × X → Type 0
-StandsAt xs k p = (j : ℕ) × (p.0 ≡ k + j) × (slice_get xs j ≡ Some p.1)
-
-first-by : {X : Type 0} (b : Bool) (k : ℕ) (x : X) (p : ℕ × X) (o : Option (ℕ × X)) (xs : List X) → (if b then Some (k, x) else o) ≡ Some p → (o ≡ Some p → StandsAt xs (suc k) p) → StandsAt (x ∷ xs) k p
-first-by true k x p o xs e rest = subst (λ r. StandsAt (x ∷ xs) k r) (some-is (k, x) p e) (0, omega arith, refl)
-first-by false k x p o xs e rest = let r = rest e in (suc r.0, omega (arith, r.1), r.2)
-
-first-at : {X : Type 0} (is : X → Bool) (k : ℕ) (xs : List X) (p : ℕ × X) → first_where is k xs ≡ Some p → StandsAt xs k p
-first-at is k [] p e = cc
-first-at is k (x ∷ xs) p e = first-by (is x) k x p (first_where is (suc k) xs) xs e (λ h. first-at is (suc k) xs p h)
 
 -- the item at a place passes the test
 abbrev Passes : {X : Type 0} → (X → Bool) → List X → ℕ → ℕ → Type 0
@@ -449,7 +440,7 @@ module _ (c : Tables) (own : ℕ) (G : List Bool) where
   only-good (g ∷ []) all = if_is (IsGood c own G) (is_positional g.keyword) g.thing _ (λ _. all.0) (λ _. tt)
   only-good (g ∷ h ∷ gs) all = tt
 
-  brackets-good : (b : Bracket) (gs : List CallArgument) → AllGiven c own G gs → OkIs (IsGood c own G) (in_brackets b gs)
+  brackets-good : (b : Delimiter) (gs : List CallArgument) → AllGiven c own G gs → OkIs (IsGood c own G) (in_brackets b gs)
   brackets-good bracket.Round gs all = only-good gs all
   brackets-good bracket.Square gs all = then_is (AreGood c own G) (IsGood c own G) (elements gs) _ (elements-good gs all) (λ xs a. a)
   brackets-good bracket.Curly gs all = tt

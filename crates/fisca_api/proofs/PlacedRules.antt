@@ -16,12 +16,12 @@ use Rattle.fisca_model.specs.Tables as typing
 use Rattle.fisca_model.specs.declared.value_type.ValueType.{ValueType}
 use Rattle.fisca_names.specs.Names.{Placed, fault_at, names_from, placed_from, told_at}
 use Rattle.fisca_names.specs.declared.fault.BuildFault.{BuildFault}
-use Rattle.fisca_params.specs.Results.{and_then}
+use Rattle.fisca_num.specs.Results.{and_then}
 use Rattle.fisca_params.specs.Tree.{TreeNode}
 use Rattle.fisca_api.proofs.Placed.{IsPlacedFormula, RolesFit}
 use Rattle.fisca_api.proofs.PlacedFormulas.{formula-placed}
 use Rattle.fisca_rules.specs.Build.{Found, Whole, none_yet, with_variable}
-use Rattle.fisca_rules.specs.Rules.{Dated, Rules, all_of, assigned_of, known, known_by}
+use Rattle.fisca_rules.specs.Rules.{DatedFormula, Rules, all_of, assigned_of, known, known_by}
 use Rattle.fisca_rules.specs.Steps.Build.{declared_in, entities_fit, enums_in, found_from, members_fit, second_pass, statement_found, tables_of, variable_in, with_entity, with_person}
 use Rattle.fisca_rules.specs.Steps.Rules.{all_formulas, dated_of, formulas_by, formulas_of, names_for, rules_of, told_in, with_formulas}
 use Rattle.fisca_symbols.specs.KnownEntities.{entity as known_entity}
@@ -144,11 +144,11 @@ fit_at (e ∷ es) all (suc i) x is person = fit_at es all.1 i x is person
 -- Formulas are placed
 
 -- each formula of a variable
-abbrev pub AllPlaced : typing.Tables → ℕ → List Dated → Type 0
+abbrev pub AllPlaced : typing.Tables → ℕ → List DatedFormula → Type 0
 AllPlaced c own [] = ⊤
 AllPlaced c own (d ∷ ds) = IsPlacedFormula c own d.formula × AllPlaced c own ds
 
-abbrev pub EachPlaced : typing.Tables → List Variable → List (List Dated) → Type 0
+abbrev pub EachPlaced : typing.Tables → List Variable → List (List DatedFormula) → Type 0
 EachPlaced c vs [] = ⊤
 EachPlaced c [] (ds ∷ more) = ⊤
 EachPlaced c (v ∷ vs) (ds ∷ more) = AllPlaced c v.entity ds × EachPlaced c vs more
@@ -158,27 +158,27 @@ told_in_ok place f (Ok y) x h = let same : y ≡ x = cc in ap (λ z. Ok z) same
 told_in_ok place f (Err r) x h = cc
 
 module _ (c : typing.Tables) (fit : RolesFit c) where
-  dated_placed : (own : ℕ) (t : ValueType) (place : ℕ) (f : Formula) (d : Dated) → dated_of c place own t f ≡ Ok d → IsPlacedFormula c own d.formula
+  dated_placed : (own : ℕ) (t : ValueType) (place : ℕ) (f : Formula) (d : DatedFormula) → dated_of c place own t f ≡ Ok d → IsPlacedFormula c own d.formula
   unfolding dated_of
   dated_placed own t place f d h =
       let formula = formulas.formula_of (names_for c own f) t (map assigned_of f.locals) f.returned.value in
       let one = then_ok (told_in place f formula) (λ g. Ok (record { start = f.start; formula = g })) d h in
       let typed = told_in_ok place f formula one.0 one.1 in
-      let made : one.0 ≡ d.formula = ap (λ (x : Dated). x.formula) (ok_same (record { start = f.start; formula = one.0 }) d one.2) in
+      let made : one.0 ≡ d.formula = ap (λ (x : DatedFormula). x.formula) (ok_same (record { start = f.start; formula = one.0 }) d one.2) in
       subst (λ g. IsPlacedFormula c own g) made (formula-placed (names_for c own f) t (map assigned_of f.locals) f.returned.value one.0 fit refl typed)
 
-  all_placed : (own : ℕ) (t : ValueType) (place : ℕ) (fs : List Formula) (ds : List Dated) → all_of (dated_of c place own t) fs ≡ Ok ds → AllPlaced c own ds
+  all_placed : (own : ℕ) (t : ValueType) (place : ℕ) (fs : List Formula) (ds : List DatedFormula) → all_of (dated_of c place own t) fs ≡ Ok ds → AllPlaced c own ds
   all_placed own t place [] ds h = subst (AllPlaced c own) (ok_same [] ds h) tt
   all_placed own t place (f ∷ fs) ds h =
       let one = then_ok (dated_of c place own t f) (λ y. and_then (all_of (dated_of c place own t) fs) (λ ys. Ok (y ∷ ys))) ds h in
       let rest = then_ok (all_of (dated_of c place own t) fs) (λ ys. Ok (one.0 ∷ ys)) ds one.2 in
       subst (AllPlaced c own) (ok_same (one.0 ∷ rest.0) ds rest.2) (dated_placed own t place f one.0 one.1, all_placed own t place fs rest.0 rest.1)
 
-  variable_placed : (own : ℕ) (w : Written) (o : Option ValueType) (ds : List Dated) → formulas_by c own w o ≡ Ok ds → AllPlaced c own ds
+  variable_placed : (own : ℕ) (w : Written) (o : Option ValueType) (ds : List DatedFormula) → formulas_by c own w o ≡ Ok ds → AllPlaced c own ds
   variable_placed own w None ds h = subst (AllPlaced c own) (ok_same [] ds h) tt
   variable_placed own w (Some t) ds h = all_placed own t w.module w.formulas ds h
 
-  variables_placed : (vs : List Variable) (ws : List Written) (fs : List (List Dated)) → all_formulas c vs ws ≡ Ok fs → EachPlaced c vs fs
+  variables_placed : (vs : List Variable) (ws : List Written) (fs : List (List DatedFormula)) → all_formulas c vs ws ≡ Ok fs → EachPlaced c vs fs
   unfolding formulas_of
   variables_placed [] ws fs h = subst (EachPlaced c []) (ok_same [] fs h) tt
   variables_placed (v ∷ vs) [] fs h = subst (EachPlaced c (v ∷ vs)) (ok_same [] fs h) tt

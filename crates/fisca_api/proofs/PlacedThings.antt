@@ -11,11 +11,12 @@ use Rattle.fisca_ast.specs.declared.tree.Operator.{Operator}
 use Rattle.fisca_ast.specs.declared.tree.Operator.TheVariants as operator
 use Rattle.fisca_ast.specs.declared.tree.Prefix.{Prefix}
 use Rattle.fisca_ast.specs.declared.tree.Prefix.TheVariants as prefix
+use Rattle.fisca_formula_semantics.proofs.Good.{OkIs, if_is, then_any, then_eq, then_is}
 use Rattle.fisca_formula_semantics.specs.Wellformed.{Within}
 use Rattle.fisca_model.specs.Tables.{Tables, is_person_at, members_at}
 use Rattle.fisca_model.specs.declared.value_type.ValueType.{ValueType}
 use Rattle.fisca_model.specs.declared.value_type.ValueType.TheVariants as vt
-use Rattle.fisca_params.specs.Results.{and_then}
+use Rattle.fisca_num.specs.Results.{and_then}
 use Rattle.fisca_params.specs.declared.content.NodeKind.{NodeKind}
 use Rattle.fisca_params.specs.declared.content.NodeKind.TheVariants as found
 use Rattle.fisca_api.proofs.Placed.{ArePlaced, IsFor, IsGroup, IsPlaced, weaken, weaken_all}
@@ -36,32 +37,10 @@ use Rattle.fisca_typing.specs.declared.operations.Logic.{Logic}
 use Rattle.fisca_typing.specs.declared.operations.Logic.TheVariants as logic
 use Rattle.fisca_typing.specs.declared.operations.Method.{Method}
 use Rattle.fisca_typing.specs.declared.operations.Method.TheVariants as method_of
-use Rattle.fisca_typing.specs.declared.operations.Total.{Total}
 use Rattle.fisca_typing.specs.declared.operations.Unary.{Unary}
 use Rattle.fisca_typing.specs.declared.operations.Unary.TheVariants as unary
 
 -- Results
-
--- what a result is, if it is none of the faults
-abbrev pub OkIs : {X : Type 0} → (X → Type 0) → Result X FormulaKind → Type 0
-OkIs P (Ok x) = P x
-OkIs P (Err k) = ⊤
-
-pub then_is : {X Y : Type 0} (P : X → Type 0) (Q : Y → Type 0) (r : Result X FormulaKind) (f : X → Result Y FormulaKind) → OkIs P r → ((x : X) → P x → OkIs Q (f x)) → OkIs Q (and_then r f)
-then_is P Q (Ok x) f is on = on x is
-then_is P Q (Err k) f is on = tt
-
-pub then_any : {X Y : Type 0} (Q : Y → Type 0) (r : Result X FormulaKind) (f : X → Result Y FormulaKind) → ((x : X) → OkIs Q (f x)) → OkIs Q (and_then r f)
-then_any Q (Ok x) f on = on x
-then_any Q (Err k) f on = tt
-
-pub then_eq : {X Y : Type 0} (Q : Y → Type 0) (r : Result X FormulaKind) (f : X → Result Y FormulaKind) → ((x : X) → r ≡ Ok x → OkIs Q (f x)) → OkIs Q (and_then r f)
-then_eq Q (Ok x) f on = on x refl
-then_eq Q (Err k) f on = tt
-
-pub if_is : {X : Type 0} (Q : X → Type 0) (b : Bool) (r s : Result X FormulaKind) → (b ≡ true → OkIs Q r) → (b ≡ false → OkIs Q s) → OkIs Q (if b then r else s)
-if_is Q true r s one other = one refl
-if_is Q false r s one other = other refl
 
 abbrev pub ok : {X : Type 0} → X → Result X FormulaKind
 ok x = Ok x

@@ -23,7 +23,7 @@ use Rattle.fisca_params.specs.Lookup.{sum_in, value_in}
 use Rattle.fisca_params.specs.Tree.{content_at}
 use Rattle.fisca_params.specs.declared.content.ParamValue.{ParamValue}
 use Rattle.fisca_params.specs.declared.content.ParamValue.TheVariants as param
-use Rattle.fisca_params.specs.declared.fault.ParamFault.{ParamFault}
+use Rattle.fisca_scales.specs.declared.fault.ParamFault.{ParamFault}
 use Rattle.fisca_api.proofs.Peopled.{AllOf, IsHeld, IsPeopled, all_map, persons_held, with_role_held, with_role_same}
 use Rattle.fisca_api.proofs.Placed.{ArePlaced, IsCounted, IsFor, IsGroup, IsPlaced, IsPlacedFormula, IsPlacedFrom}
 use Rattle.fisca_api.specs.Members.{Follows, IsMember}

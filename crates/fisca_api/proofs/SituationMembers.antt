@@ -21,7 +21,7 @@ use Rattle.fisca_members.specs.declared.fault.MembersFault.{MembersFault}
 use Rattle.fisca_members.specs.declared.person.Person.{Person}
 use Rattle.fisca_model.specs.Tables.{Entity, Role, Tables, is_person, most, person_by, place_in}
 use Rattle.fisca_model.specs.declared.role_place.RolePlace.{RolePlace}
-use Rattle.fisca_params.specs.Results.{and_then}
+use Rattle.fisca_num.specs.Results.{and_then}
 use Rattle.fisca_api.proofs.Peopled.{IsPeopled}
 use Rattle.fisca_typing.specs.Asks.{person_place}
 use Rattle.fisca_yaml.specs.Node.{Entries, Items, Node, entry, item, list, map as map_node, no_entries, no_items, null, scalar}

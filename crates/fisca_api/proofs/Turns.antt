@@ -15,7 +15,7 @@ use Rattle.fisca_inputs.specs.declared.given.Given.{Given}
 use Rattle.fisca_model.specs.Periods.{is_eternity}
 use Rattle.fisca_model.specs.declared.key.Key.{Key}
 use Rattle.fisca_num.specs.Number.{Number, zero_number}
-use Rattle.fisca_params.specs.Results.{and_then}
+use Rattle.fisca_num.specs.Results.{and_then}
 use Rattle.fisca_api.proofs.Givens.{given_put, input_given, moved_put, own_put}
 use Rattle.fisca_api.specs.Axes.{AreApart, AreGiven, HasParts, IsGiven, IsMoved, IsOther, input_with, own_period}
 use Rattle.fisca_run.proofs.Normal.{rule_at}

@@ -7,7 +7,7 @@ use Rattle.fisca_model.specs.Periods.{key_period}
 use Rattle.fisca_model.specs.declared.key.Key.{Key}
 use Rattle.fisca_model.specs.declared.value.Value.TheVariants as value
 use Rattle.fisca_num.specs.Number.{Number}
-use Rattle.fisca_params.specs.Results.{and_then}
+use Rattle.fisca_num.specs.Results.{and_then}
 use Rattle.fisca_situations.specs.AllAxes.{put_all_in}
 use Rattle.fisca_situations.specs.Axes as axes
 use Rattle.fisca_situations.specs.Steps.Axes.{shared_anew}

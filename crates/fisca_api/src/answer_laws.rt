@@ -11,7 +11,7 @@ ghost use Rattle.fisca_commands.specs.Size.{IsSize, IsSizeTold};
 ghost use Rattle.fisca_commands.specs.Test.{IsTest, IsTested, IsTesting, Testing, test_context_in};
 ghost use Rattle.fisca_command_line.specs.declared.options.RunOptions.{RunOptions};
 ghost use Rattle.fisca_command_line.specs.declared.options.TableForm.{TableForm};
-ghost use Rattle.fisca_commands.specs.declared.style.RowStyle.{RowStyle};
+ghost use Rattle.fisca_rows.specs.declared.style.RowStyle.{RowStyle};
 ghost use Rattle.fisca_forms.specs.LineForms.{Form};
 ghost use Rattle.fisca_params.specs.Source.{Source};
 ghost use Rattle.fisca_api.specs.Alike.{AreAlike};

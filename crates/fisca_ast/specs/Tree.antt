@@ -3,7 +3,7 @@ use Rattle.std.specs.Prelude.{ℕ, suc, max, List}
 use Rattle.fisca_ast.specs.declared.tree.Operator.{Operator}
 use Rattle.fisca_ast.specs.declared.tree.Comparison.{Comparison}
 use Rattle.fisca_ast.specs.declared.tree.Prefix.{Prefix}
-use Rattle.fisca_ast.specs.declared.tree.Bracket.{Bracket}
+use Rattle.fisca_ast.specs.declared.tree.Delimiter.{Delimiter}
 use Rattle.fisca_ast.specs.declared.tree.Suffix.{Suffix}
 
 mutual
@@ -11,7 +11,7 @@ mutual
     name : List ℕ → Tree
     number : List ℕ → Tree
     text : List ℕ → Tree
-    bracketed : Bracket → Series → Tree
+    bracketed : Delimiter → Series → Tree
     attribute : Tree → List ℕ → Tree
     applied : Suffix → Tree → Series → Tree
     prefixed : Prefix → Tree → Tree

@@ -4,7 +4,7 @@ ghost use Rattle.std.specs.Prelude.{◌≡◌, map, option_map};
 ghost use Rattle.fisca_ast.specs.Steps.Groups as spec;
 ghost use Rattle.fisca_ast.specs.Views.{tree, argument_view, series_of, series_view};
 
-use crate::tree::{Argument, Arguments, Bracket, Expr};
+use crate::tree::{Argument, Arguments, Delimiter, Expr};
 
 /// An expression without the parentheses around it, however many: they group, and do nothing else.
 #[cycle(bare)]
@@ -12,8 +12,8 @@ pub fn bare<'e, 'a>(value: &'e Expr<'a>) -> &'e Expr<'a>
     ensures { tree result.now ≡ spec.bare (tree value.now) }
 {
     match value {
-        Expr::Bracketed(Bracket::Round, inside) => alone(inside).unwrap_or(value),
-        Expr::Bracketed(Bracket::Square | Bracket::Curly, _)
+        Expr::Bracketed(Delimiter::Round, inside) => alone(inside).unwrap_or(value),
+        Expr::Bracketed(Delimiter::Square | Delimiter::Curly, _)
         | Expr::Name(_)
         | Expr::Number(_)
         | Expr::Text(_)

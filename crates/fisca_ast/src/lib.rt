@@ -21,7 +21,7 @@ pub use module::{
 pub use slice::Slice;
 pub use strings::{begins, string_len};
 pub use tree::{
-    Access, Application, Argument, Arguments, Bracket, Comparison, Expr, Operands, Operator,
+    Access, Application, Argument, Arguments, Comparison, Delimiter, Expr, Operands, Operator,
     Prefix, Suffix,
 };
 pub use words::is_name;

@@ -49,7 +49,7 @@ pub enum Prefix {
 
 /// A pair of brackets that begins an expression.
 #[derive(Clone, Copy, Debug, PartialEq, Eq)]
-pub enum Bracket {
+pub enum Delimiter {
     /// `( )`: a value in parentheses, or a tuple.
     Round,
     /// `[ ]`: a list.
@@ -78,7 +78,7 @@ pub enum Expr<'a> {
     /// Texts in quotes, side by side.
     Text(Slice<'a>),
     /// What stands in brackets.
-    Bracketed(Bracket, Box<Arguments<'a>>),
+    Bracketed(Delimiter, Box<Arguments<'a>>),
     /// An expression, a point and a name.
     Attribute(Box<Access<'a>>),
     /// An expression, and what stands in brackets behind it.

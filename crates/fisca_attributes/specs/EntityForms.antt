@@ -1,8 +1,8 @@
 -- Entities and their roles, as they are written.
 use Rattle.std.specs.Prelude.{ℕ, List, [], ◌∷◌, Bool, true, false, not, Result, Ok, codes}
 use Rattle.fisca_ast.specs.Steps.Groups.{bare}
-use Rattle.fisca_ast.specs.declared.tree.Bracket.{Bracket}
-use Rattle.fisca_ast.specs.declared.tree.Bracket.TheVariants as bracket
+use Rattle.fisca_ast.specs.declared.tree.Delimiter.{Delimiter}
+use Rattle.fisca_ast.specs.declared.tree.Delimiter.TheVariants as bracket
 use Rattle.fisca_ast.specs.Tree.{Tree, Series, Argument, bracketed}
 use Rattle.fisca_ast.specs.declared.fault.FormulaKind.{FormulaKind}
 use Rattle.fisca_attributes.specs.Values.{bad_attribute, items}
@@ -10,7 +10,7 @@ use Rattle.fisca_attributes.specs.Values.{bad_attribute, items}
 abbrev pub role_labels : List (List ℕ)
 role_labels = codes "key" ∷ codes "plural" ∷ codes "label" ∷ codes "doc" ∷ codes "max" ∷ codes "subroles" ∷ []
 
-abbrev pub in_curly : Bracket → Series → Result (List Argument) FormulaKind
+abbrev pub in_curly : Delimiter → Series → Result (List Argument) FormulaKind
 in_curly bracket.Round xs = bad_attribute
 in_curly bracket.Square xs = bad_attribute
 in_curly bracket.Curly xs = Ok (items xs)

@@ -1,11 +1,11 @@
 -- Values of arguments and attributes, as they are written.
 use Rattle.std.specs.Prelude.{ℕ, List, [], ◌∷◌, ◌++◌, Bool, true, false, if◌then◌else◌, Option, Some, None, Result, Ok, Err}
-use Rattle.fisca_ast.specs.declared.tree.Bracket.{Bracket}
-use Rattle.fisca_ast.specs.declared.tree.Bracket.TheVariants as bracket
+use Rattle.fisca_ast.specs.declared.tree.Delimiter.{Delimiter}
+use Rattle.fisca_ast.specs.declared.tree.Delimiter.TheVariants as bracket
 use Rattle.fisca_ast.specs.Tree.{Tree, Series, Argument, bracketed, nothing, last, next, positional, keyword, entry}
 use Rattle.fisca_ast.specs.Steps.Groups.{bare}
 use Rattle.fisca_ast.specs.Words.{is}
-use Rattle.fisca_params.specs.Results.{and_then}
+use Rattle.fisca_num.specs.Results.{and_then}
 use Rattle.fisca_ast.specs.declared.fault.FormulaKind.{FormulaKind}
 use Rattle.fisca_ast.specs.declared.fault.FormulaKind.TheVariants as kind
 
@@ -34,7 +34,7 @@ each_behind read xs (a ∷ more) = and_then (position a) (λ e. and_then (read e
 abbrev pub each : {X : Type 0} → (Tree → Result X FormulaKind) → List Argument → Result (List X) FormulaKind
 each read = each_behind read []
 
-abbrev pub in_square : Bracket → Series → Result (List Argument) FormulaKind
+abbrev pub in_square : Delimiter → Series → Result (List Argument) FormulaKind
 in_square bracket.Square xs = Ok (items xs)
 in_square bracket.Round xs = bad_attribute
 in_square bracket.Curly xs = bad_attribute

@@ -14,7 +14,7 @@ ghost use Rattle.fisca_attributes.specs.Steps.Values.{text_value as text_said, t
 use crate::fields::{Field, Form, read_fields, value_of};
 use crate::lists::{items_of, list_of, positional, texts_value};
 use crate::values::{count_value, text_value, truth_value};
-use fisca_ast::{Argument, Assignment, Bracket, Expr, FormulaKind, bare};
+use fisca_ast::{Argument, Assignment, Delimiter, Expr, FormulaKind, bare};
 use fisca_symbols::{Entity, Role, Roles, SourceText, Texts};
 use std::alloc::Global;
 
@@ -96,8 +96,8 @@ pub fn map_of<'e, 'a>(value: &'e Expr<'a>) -> Result<&'e [Argument<'a>], Formula
     ensures { Gives (λ xs. map argument_view xs.now) (spec.mapped (tree value.now)) result }
 {
     match bare(value) {
-        Expr::Bracketed(Bracket::Curly, inside) => { Ok(items_of(inside)) }
-        Expr::Bracketed(Bracket::Round | Bracket::Square, _)
+        Expr::Bracketed(Delimiter::Curly, inside) => { Ok(items_of(inside)) }
+        Expr::Bracketed(Delimiter::Round | Delimiter::Square, _)
         | Expr::Name(_)
         | Expr::Number(_)
         | Expr::Text(_)

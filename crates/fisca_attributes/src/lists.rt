@@ -7,7 +7,7 @@ ghost use Rattle.fisca_attributes.specs.Values as spec;
 ghost use Rattle.fisca_attributes.specs.Steps.Values as steps;
 
 use crate::values::text_value;
-use fisca_ast::{Argument, Arguments, Bracket, Expr, FormulaKind, bare};
+use fisca_ast::{Argument, Arguments, Delimiter, Expr, FormulaKind, bare};
 use fisca_symbols::{SourceText, Texts};
 use std::alloc::Global;
 
@@ -53,8 +53,8 @@ pub fn list_of<'e, 'a>(value: &'e Expr<'a>) -> Result<&'e [Argument<'a>], Formul
     ensures { Gives (λ xs. map argument_view xs.now) (spec.listed (tree value.now)) result }
 {
     match bare(value) {
-        Expr::Bracketed(Bracket::Square, inside) => { Ok(items_of(inside)) }
-        Expr::Bracketed(Bracket::Round | Bracket::Curly, _)
+        Expr::Bracketed(Delimiter::Square, inside) => { Ok(items_of(inside)) }
+        Expr::Bracketed(Delimiter::Round | Delimiter::Curly, _)
         | Expr::Name(_)
         | Expr::Number(_)
         | Expr::Text(_)
@@ -87,10 +87,10 @@ pub fn references_value<'a>(alloc: Global, value: &Expr<'a>) -> Result<Texts<'a>
             texts.push(text_value(alloc, value)?)?;
             Ok(Texts::new(texts))
         }
-        Expr::Bracketed(Bracket::Square | Bracket::Round, inside) => {
+        Expr::Bracketed(Delimiter::Square | Delimiter::Round, inside) => {
             Ok(Texts::new(each_text(alloc, items_of(inside))?))
         }
-        Expr::Bracketed(Bracket::Curly, _)
+        Expr::Bracketed(Delimiter::Curly, _)
         | Expr::Name(_)
         | Expr::Number(_)
         | Expr::Attribute(_)

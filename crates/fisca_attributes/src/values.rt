@@ -5,7 +5,7 @@ ghost use Rattle.fisca_ast.specs.Views.{tree, argument_view, series_of};
 ghost use Rattle.fisca_ast.specs.Outcomes.{Gives};
 ghost use Rattle.fisca_attributes.specs.Steps.Values as spec;
 
-use fisca_ast::{Argument, Bracket, Expr, FormulaKind, Prefix, bare, content, is_name};
+use fisca_ast::{Argument, Delimiter, Expr, FormulaKind, Prefix, bare, content, is_name};
 use fisca_num::{Fraction, NumFault};
 use fisca_symbols::SourceText;
 use std::alloc::Global;

@@ -4,7 +4,7 @@
 //! A case is a line `LAYER OPERATION WORD..`. A word has no blank, or stands in double quotes, with the escapes `\n`, `\r`,
 //! `\t`, `\"` and `\\`. Lines below it that begin with two blanks are the text that is its last word. Empty lines and lines
 //! with `#` are copied. `file PATH TEXT` adds a file to the rule set that later cases are about, and `rules` begins a new one.
-//! Layers below rule sets are answered by `fisca_cases_base`.
+//! Layers below rule sets are answered by `fisca_cases_base` and `fisca_cases_texts`.
 #![tactic(auto)]
 
 ghost use Rattle.fisca_simulation.specs.Sound.{IsSafeRules};
@@ -118,7 +118,13 @@ fn ask(
             "refusals" => refusals::answer(alloc, operation.as_str(), rest),
             "again" => commands::again(alloc, operation.as_str(), files, rest),
             "failing" => commands::failing(alloc, operation.as_str(), files, rest),
-            other => match fisca_cases_base::answer(alloc, other, operation.as_str(), files, rest) {
+            other => match fisca_cases_texts::answer(
+                alloc,
+                other,
+                operation.as_str(),
+                files,
+                rest,
+            ) {
                 Some(answer) => Ok(answer?),
                 None => Err(malformed()),
             },

@@ -6,7 +6,7 @@ use Rattle.fisca_check_calls.specs.declared.local.Local.{Local}
 use Rattle.fisca_ast.specs.declared.fault.FormulaKind.{FormulaKind}
 use Rattle.fisca_ast.specs.declared.fault.FormulaKind.TheVariants as kind
 use Rattle.fisca_ast.specs.Tree.{Tree}
-use Rattle.fisca_params.specs.Results.{and_then}
+use Rattle.fisca_num.specs.Results.{and_then}
 use Rattle.fisca_model.specs.declared.value_type.ValueType.{ValueType}
 use Rattle.fisca_typing.specs.Formulas.{Assigned, Formula, RefusedFormula, Scope, at, behind_local, formula_from, if_small}
 use Rattle.fisca_check.specs.Formulas.{Tells}

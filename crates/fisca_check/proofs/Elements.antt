@@ -2,11 +2,11 @@
 use Rattle.std.proofs.Common.{◌≡◌, ◌∙◌, sym, ap, arith, ℕ, zero, suc, ◌≤◌, length, take, List, [], ◌∷◌, ◌++◌, map, Bool, true, false, if◌then◌else◌, Result, Ok, Err, refl, append_assoc, append-nil}
 use Rattle.fisca_ast.specs.Tree.{Argument}
 use Rattle.fisca_ast.specs.Views.{series_of}
-use Rattle.fisca_ast.specs.declared.tree.Bracket.TheVariants as bracket
+use Rattle.fisca_ast.specs.declared.tree.Delimiter.TheVariants as bracket
 use Rattle.fisca_ast.specs.Outcomes.{Gives}
 use Rattle.fisca_ir.specs.Views.{all_things, thing}
 use Rattle.fisca_ir.specs.declared.thing.Thing.{Thing as Held}
-use Rattle.fisca_params.specs.Results.{and_then}
+use Rattle.fisca_num.specs.Results.{and_then}
 use Rattle.fisca_ast.specs.declared.fault.FormulaKind.{FormulaKind}
 use Rattle.fisca_typing.specs.Calls.{CallArgument}
 use Rattle.fisca_typing.specs.Names.{Names}

@@ -4,7 +4,7 @@ use Rattle.fisca_check_calls.specs.Steps.Arguments.{single}
 use Rattle.fisca_check.specs.Steps.Questions.{asked_by}
 use Rattle.fisca_ir.specs.Views.{listed}
 use Rattle.fisca_ir.specs.declared.thing.Thing.{Thing as Held}
-use Rattle.fisca_params.specs.Results.{and_then}
+use Rattle.fisca_num.specs.Results.{and_then}
 use Rattle.fisca_ast.specs.declared.fault.FormulaKind.TheVariants as kind
 use Rattle.fisca_typing.specs.declared.kinds.Level.{Level}
 use Rattle.fisca_typing.specs.declared.operations.Total.{Total}

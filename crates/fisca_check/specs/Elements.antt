@@ -1,7 +1,7 @@
 -- Elements of lists, one after another.
 use Rattle.std.specs.Prelude.{ℕ, List, [], ◌∷◌, Result, Ok, if◌then◌else◌}
 use Rattle.fisca_ir.specs.Views.{all_things}
-use Rattle.fisca_params.specs.Results.{and_then}
+use Rattle.fisca_num.specs.Results.{and_then}
 use Rattle.fisca_ast.specs.declared.fault.FormulaKind.{FormulaKind}
 use Rattle.fisca_typing.specs.Calls.{CallArgument}
 use Rattle.fisca_ast.specs.Steps.Contents.{content}

@@ -3,7 +3,7 @@ use Rattle.std.specs.Borrow.{Bor}
 use Rattle.std.specs.Prelude.{ℕ, List, Option, option_map, Result, Ok}
 use Rattle.fisca_check_calls.specs.Arguments.{given}
 use Rattle.fisca_check_calls.specs.declared.arguments.GivenArgument.{GivenArgument as Held}
-use Rattle.fisca_params.specs.Results.{and_then}
+use Rattle.fisca_num.specs.Results.{and_then}
 use Rattle.fisca_ast.specs.declared.fault.FormulaKind.{FormulaKind}
 use Rattle.fisca_model.specs.declared.role_place.RolePlace.{RolePlace}
 use Rattle.fisca_typing.specs.declared.kinds.Level.TheVariants as level

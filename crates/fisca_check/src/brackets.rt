@@ -10,7 +10,7 @@ ghost use Rattle.fisca_typing.specs.Typing as spec;
 use crate::calls::called;
 use crate::scope::FormulaScope;
 use crate::subscripts::subscripted;
-use fisca_ast::{Bracket, FormulaKind, Suffix};
+use fisca_ast::{Delimiter, FormulaKind, Suffix};
 use fisca_check_calls::GivenArgument;
 use fisca_ir::{Thing, nodes_of, value_of};
 use std::alloc::Global;
@@ -61,15 +61,15 @@ fn only(mut arguments: Vec<GivenArgument>) -> Result<Thing, FormulaKind>
 #[tactic(auto, using(crate::proofs::Elements::in_square))]
 pub fn in_brackets(
     alloc: Global,
-    bracket: Bracket,
+    bracket: Delimiter,
     arguments: Vec<GivenArgument>,
 ) -> Result<Thing, FormulaKind>
     ensures { Gives thing_of (spec.in_brackets bracket (all_given arguments.entry.items)) result }
 {
     match bracket {
-        Bracket::Round => only(arguments),
-        Bracket::Square => list_of(alloc, arguments),
-        Bracket::Curly => Err(FormulaKind::BadType),
+        Delimiter::Round => only(arguments),
+        Delimiter::Square => list_of(alloc, arguments),
+        Delimiter::Curly => Err(FormulaKind::BadType),
     }
 }
 

@@ -6,7 +6,7 @@ ghost use Rattle.fisca_check.specs.Views.{names as names_of};
 ghost use Rattle.fisca_ir.specs.Operations.{by};
 ghost use Rattle.fisca_ast.specs.Outcomes.{Gives};
 ghost use Rattle.fisca_ir.specs.Views.{thing};
-ghost use Rattle.fisca_params.specs.Results.{and_then};
+ghost use Rattle.fisca_num.specs.Results.{and_then};
 ghost use Rattle.fisca_ast.specs.declared.fault.FormulaKind.{FormulaKind};
 ghost use Rattle.fisca_typing.specs.Operations as operations;
 ghost use Rattle.fisca_typing.specs.Things as things;
@@ -17,7 +17,7 @@ use crate::attributes::attribute_of;
 use crate::brackets::{in_brackets, with_suffix};
 use crate::names::named;
 use crate::scope::FormulaScope;
-use fisca_ast::{Argument, Arguments, Bracket, Expr, FormulaKind, Prefix, Suffix};
+use fisca_ast::{Argument, Arguments, Delimiter, Expr, FormulaKind, Prefix, Suffix};
 use fisca_check_calls::GivenArgument;
 use fisca_ir::{Dyadic, Thing, operated, prefixed_value};
 use std::alloc::{AllocError, Global};
@@ -64,14 +64,14 @@ pub fn thing_of<'a, 't>(
 fn bracketed<'a, 't>(
     alloc: Global,
     names: &FormulaScope,
-    bracket: Bracket,
+    bracket: Delimiter,
     inside: &'t Arguments<'a>,
 ) -> Result<Thing, FormulaKind>
     ensures { Gives thing (spec.in_brackets bracket (spec.all_given (names_of names.now) (series_view inside.now))) result }
 {
     match (bracket, inside) {
-        (Bracket::Round, Arguments::One(only)) => parenthesised(alloc, names, only),
-        (Bracket::Round | Bracket::Square | Bracket::Curly, _) => {
+        (Delimiter::Round, Arguments::One(only)) => parenthesised(alloc, names, only),
+        (Delimiter::Round | Delimiter::Square | Delimiter::Curly, _) => {
             in_brackets(alloc, bracket, given_inside(alloc, names, inside)?)
         }
     }

@@ -3,7 +3,7 @@ use Rattle.std.proofs.Common.{◌≡◌, ℕ, length, arith, List, [], ◌∷◌
 use Rattle.std.specs.Prelude.{ok_or}
 use Rattle.fisca_ir.specs.Views.{listed, thing}
 use Rattle.fisca_ir.specs.declared.thing.Thing.{Thing as Held}
-use Rattle.fisca_params.specs.Results.{and_then}
+use Rattle.fisca_num.specs.Results.{and_then}
 use Rattle.fisca_params.specs.Tree.{TreeNode, child_of}
 use Rattle.fisca_ast.specs.declared.fault.FormulaKind.{FormulaKind}
 use Rattle.fisca_ast.specs.declared.fault.FormulaKind.TheVariants as kind

@@ -1,7 +1,7 @@
 -- How many arguments there are.
 use Rattle.std.proofs.Common.{◌≡◌, ◌≢◌, ℕ, List, [], ◌∷◌, length, None, Result, Ok, refl, arith}
 use Rattle.std.specs.Prelude.{pos}
-use Rattle.fisca_params.specs.Results.{and_then}
+use Rattle.fisca_num.specs.Results.{and_then}
 use Rattle.fisca_ast.specs.declared.fault.FormulaKind.{FormulaKind}
 use Rattle.fisca_typing.specs.Calls.{Settled, by_position, and_keyword, alone, clip_by, clipped, default_in, places_of, round_by, rounded, select_by, select_of, two, where_by}
 use Rattle.fisca_typing.specs.Operations.{where_of}

@@ -4,7 +4,7 @@ use Rattle.std.specs.Prelude.{ℕ, List, [], ◌∷◌, map, Bool, false, ◌||�
 use Rattle.fisca_ast.specs.Views.{tree}
 use Rattle.fisca_ir.specs.Views.{thing}
 use Rattle.fisca_ir.specs.declared.thing.Thing.{Thing}
-use Rattle.fisca_params.specs.Results.{and_then}
+use Rattle.fisca_num.specs.Results.{and_then}
 use Rattle.fisca_params.specs.Tree.{TreeNode}
 use Rattle.fisca_ast.specs.declared.fault.FormulaKind.{FormulaKind}
 use Rattle.fisca_typing.specs.Calls as typing

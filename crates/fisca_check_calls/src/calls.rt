@@ -2,7 +2,7 @@
 ghost use Rattle.std.specs.Prelude.{◌≡◌, length, map, Ok, option_map};
 ghost use Rattle.fisca_check_calls.specs.Arguments.{all_settled, default_given, positions as positions_view, reader_at};
 ghost use Rattle.fisca_check_calls.specs.Steps.Arguments.{pair as pair_of};
-ghost use Rattle.fisca_params.specs.Results.{and_then};
+ghost use Rattle.fisca_num.specs.Results.{and_then};
 ghost use Rattle.fisca_ast.specs.Outcomes.{Gives};
 ghost use Rattle.fisca_ir.specs.Views.{listed, node, thing, typed};
 ghost use Rattle.fisca_typing.specs.Calls as spec;

@@ -2,7 +2,7 @@
 -- input, then its columns; the first fault is told.
 use Rattle.std.specs.Prelude.{List, [], if◌then◌else◌, Result, Ok}
 use Rattle.fisca_model.specs.declared.key.Key.{Key}
-use Rattle.fisca_params.specs.Results.{and_then}
+use Rattle.fisca_num.specs.Results.{and_then}
 use Rattle.fisca_situations.specs.Situations.{Situation}
 use Rattle.fisca_symbols.specs.declared.tables.Tables.{Tables}
 use Rattle.fisca_yaml.specs.Node.{Node, null, scalar, list, map, Entries, no_entries, entry}

@@ -19,7 +19,7 @@ use Rattle.fisca_commands.proofs.Lacking.{none_lack}
 use Rattle.fisca_commands.specs.Ends.{HasLacked, IsAtOnce, stop_of}
 use Rattle.fisca_commands.specs.Remembered.{AreCounts}
 use Rattle.fisca_commands.specs.Runs.{positions}
-use Rattle.fisca_commands.specs.declared.style.RowStyle.{RowStyle}
+use Rattle.fisca_rows.specs.declared.style.RowStyle.{RowStyle}
 
 kept : (old : Option (List ℕ)) → Keeps old old
 kept None = tt

@@ -1,5 +1,5 @@
 -- The values of axes at a position, taken one after another.
-use Rattle.std.proofs.Common.{◌≡◌, ℕ, zero, suc, ◌<◌, List, [], ◌∷◌, map, drop, length, false, if◌then◌else◌, Some, Ok, slice_get, slice_index_or, refl, sym, ap, ◌∙◌, arith}
+use Rattle.std.proofs.Common.{◌≡◌, ℕ, zero, suc, ◌<◌, List, [], ◌∷◌, map, drop, length, false, if◌then◌else◌, Some, Ok, slice_get, refl, sym, ap, ◌∙◌, arith}
 use Rattle.std.specs.Option.{ForSome}
 use Rattle.std.specs.Prelude.{nat_lt}
 use Rattle.fisca_grid.proofs.Values.{before_some}
@@ -54,9 +54,3 @@ one_passed t (x ∷ ss) (w ∷ vs) zero s es h k =
     ap (λ b. turned_below t (map slot_view ss) vs (if b then turned (slot_view x) w es else es)) (ap (λ (s : Slot). nat_lt s.wheel t) slot ∙ k)
 one_passed t (x ∷ ss) [] (suc i) s es h k = no_values t (map slot_view (drop i ss)) es ∙ sym (no_values t (map slot_view (drop (suc i) ss)) es)
 one_passed t (x ∷ ss) (w ∷ vs) (suc i) s es h k = one_passed t ss vs i s es h k
-
--- an item that is looked up by its place
-pub get_there : {X : Type 0} (xs : List X) (i : ℕ) (x : X) → i < length xs → x ≡ slice_index_or xs i x → slice_get xs i ≡ Some x
-get_there [] i x less is = absurd (omega arith)
-get_there (y ∷ xs) zero x less is = ap Some (sym is)
-get_there (y ∷ xs) (suc i) x less is = get_there xs i x (omega arith) is

@@ -6,7 +6,7 @@ use Rattle.fisca_columns.specs.Steps.Calc.{columns_in, default_in, situation_in}
 use Rattle.fisca_columns.specs.Faults.{told}
 use Rattle.fisca_inputs.proofs.Typed.{then_ok}
 use Rattle.fisca_inputs.specs.declared.fault.SituationFault.{SituationFault}
-use Rattle.fisca_params.specs.Results.{and_then}
+use Rattle.fisca_num.specs.Results.{and_then}
 use Rattle.fisca_rules.specs.Views.{rule_set}
 use Rattle.fisca_rules.specs.declared.rule_set.RuleSet.{RuleSet}
 use Rattle.fisca_situations.specs.Steps.Situations.{situation_of}

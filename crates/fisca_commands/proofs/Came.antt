@@ -21,7 +21,7 @@ use Rattle.fisca_commands.specs.Ends.{HasLacked, stop_of}
 use Rattle.fisca_commands.specs.Kept.{AreMoved, IsKept}
 use Rattle.fisca_commands.specs.Remembered.{HasEnded, HasRun, IsPassed, IsRefused, IsStillWork, IsStillWorkIn}
 use Rattle.fisca_commands.specs.Runs.{LacksValue, lacks_at, positions}
-use Rattle.fisca_commands.specs.declared.style.RowStyle.{RowStyle}
+use Rattle.fisca_rows.specs.declared.style.RowStyle.{RowStyle}
 use Rattle.fisca_commands.specs.declared.kept_rows.KeptRows.{KeptRows}
 use Rattle.fisca_run_file.specs.RunFiles.{RunFile}
 use Rattle.fisca_run_file.specs.Views.{file_with}

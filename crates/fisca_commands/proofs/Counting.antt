@@ -9,7 +9,7 @@ use Rattle.fisca_evaluator.specs.Evaluators.{marks_in}
 use Rattle.fisca_evaluator.specs.declared.evaluator.Evaluator.{Evaluator}
 use Rattle.fisca_evaluator.specs.Counted.{no_counts}
 use Rattle.fisca_evaluator.specs.declared.counts.Counts.{Counts}
-use Rattle.fisca_commands.specs.declared.style.RowStyle.{RowStyle}
+use Rattle.fisca_rows.specs.declared.style.RowStyle.{RowStyle}
 use Rattle.fisca_rules.specs.declared.rule_set.RuleSet.{RuleSet}
 use Rattle.fisca_commands.specs.Remembered.{AreCounts, HasRun, IsStillWorkIn, marks_of_run}
 use Rattle.fisca_run_file.specs.RunFiles.{RunFile}

@@ -12,7 +12,8 @@ use Rattle.fisca_grid.specs.NamedAxes.{specs_of, filter_from}
 use Rattle.fisca_grid.specs.Steps.NamedAxes.{name_of, own_groups}
 use Rattle.fisca_grid.specs.declared.condition.Filter.{Filter}
 use Rattle.fisca_commands.specs.AxesRun.{required_filter, optional_filter, filtered_axes, axes_within_limits, named_fault, required_axes, axes_of_words}
-use Rattle.fisca_commands.specs.Ending.{IsAnswered, IsEndTold, IsJudged, IsRunEnding, IsTold, TaskOutcome, run_done, run_status}
+use Rattle.fisca_rule_files.specs.Ending.{IsEndTold, IsTold, TaskOutcome, run_done, run_status}
+use Rattle.fisca_commands.specs.Ending.{IsAnswered, IsJudged, IsRunEnding}
 use Rattle.fisca_test_file.specs.declared.all.Verdict.{Verdict}
 use Rattle.fisca_rule_files.specs.Refusal.{is_failed_write, is_write, status_of}
 use Rattle.fisca_rule_files.specs.declared.refusal.Refusal.{Refusal}

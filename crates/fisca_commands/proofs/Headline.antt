@@ -22,8 +22,8 @@ use Rattle.fisca_commands.specs.Forms.{IsHeaderRefused, header_of}
 use Rattle.fisca_commands.specs.Run.{IsGridRun, IsLinesTold, IsRunAnswer, IsRunToldBy, IsRunning, IsStopTold, IsStyleIn, RefusesRunText, RefusesRunTree, RefusesRunning, Running, limit_of, start_of}
 use Rattle.fisca_command_line.specs.declared.options.RunOptions.{RunOptions}
 use Rattle.fisca_command_line.specs.declared.options.TableForm.{TableForm}
-use Rattle.fisca_commands.specs.declared.style.RowStyle.{RowStyle}
-use Rattle.fisca_params.specs.declared.fault.ParamFault.{ParamFault}
+use Rattle.fisca_rows.specs.declared.style.RowStyle.{RowStyle}
+use Rattle.fisca_scales.specs.declared.fault.ParamFault.{ParamFault}
 use Rattle.fisca_rule_files.specs.Modules.{FileFault, IsRefusalOf, rules_by}
 use Rattle.fisca_rule_files.specs.RuleFiles.{IsToldOf, RefusesFiles}
 use Rattle.fisca_rules.specs.Rules.{Rules}

@@ -14,10 +14,10 @@ use Rattle.fisca_writer.specs.Came.{IsStep}
 use Rattle.fisca_writer.specs.declared.fault.RowFault.{RowFault}
 use Rattle.fisca_writer.specs.declared.fault.RowFault.TheVariants as fault
 use Rattle.fisca_writer.specs.declared.rows.Selection.{Selection}
-use Rattle.fisca_commands.specs.Going.{lacks_in, styled_row}
+use Rattle.fisca_rows.specs.Going.{lacks_in, styled_row}
 use Rattle.fisca_commands.specs.Kept.{IsSituated}
 use Rattle.fisca_commands.specs.Runs.{LacksValue, lacks_at, lacks_of, lacks_with, row_in, row_with, run_row, simulation_in}
-use Rattle.fisca_commands.specs.declared.style.RowStyle.{RowStyle}
+use Rattle.fisca_rows.specs.declared.style.RowStyle.{RowStyle}
 
 pub or_none : (b : Bool) → b ≡ (b || false)
 or_none true = refl

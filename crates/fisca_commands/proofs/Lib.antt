@@ -1,4 +1,3 @@
-pub mod Asking
 mod AtOnce
 mod AxisValues
 mod Begun
@@ -9,8 +8,6 @@ mod Counting
 mod Endings
 mod First
 pub mod Fitting
-mod FormedCells
-mod GoingCells
 mod Gone
 mod Headline
 mod Lacking
@@ -21,7 +18,6 @@ mod Listed
 mod Named
 pub mod Numbers
 mod OnTheWay
-mod Parts
 mod Passing
 mod Placing
 mod PlainRuns
@@ -30,4 +26,3 @@ mod Stepping
 mod Still
 mod Telling
 mod Tested
-mod Worked

@@ -12,7 +12,7 @@ use Rattle.fisca_forms.specs.LineForms.{Form}
 use Rattle.fisca_rules.specs.declared.rule_set.RuleSet.{RuleSet}
 use Rattle.fisca_writer.specs.Steps.Sink.{one_more}
 use Rattle.fisca_commands.specs.CalcLines.{AreLines, AreWorkedOut, IsEndedBy, IsHanded, IsLine, IsStopped, LineOutcome, Streams, Takes, is_write, worst_of}
-use Rattle.fisca_commands.specs.Ending.{TaskOutcome}
+use Rattle.fisca_rule_files.specs.Ending.{TaskOutcome}
 use Rattle.fisca_commands.specs.Steps.CalcLines.{AreFew, IsNextDone}
 use Rattle.fisca_commands.specs.declared.many_files.LineStop.{LineStop}
 use Rattle.fisca_commands.specs.declared.many_files.LineStop.TheVariants as stop

@@ -16,8 +16,8 @@ use Rattle.fisca_evaluator.specs.declared.counts.Counts.{Counts}
 use Rattle.fisca_rules.specs.declared.rule_set.RuleSet.{RuleSet}
 use Rattle.fisca_commands.proofs.Gone.{HaveAllWorked, HaveSomeWorked}
 use Rattle.fisca_commands.proofs.Still.{free_read, read_free}
-use Rattle.fisca_commands.specs.Going.{keys_styled}
-use Rattle.fisca_commands.specs.declared.style.RowStyle.{RowStyle}
+use Rattle.fisca_rows.specs.Going.{keys_styled}
+use Rattle.fisca_rows.specs.declared.style.RowStyle.{RowStyle}
 use Rattle.fisca_commands.specs.Kept.{IsSituated}
 use Rattle.fisca_commands.specs.Remembered.{AreJust, AreRaised, IsStillWork, WorkOfOne}
 use Rattle.fisca_commands.specs.Runs.{simulation_in}

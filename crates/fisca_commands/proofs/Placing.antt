@@ -9,7 +9,7 @@ use Rattle.fisca_inputs.specs.Entries.{Entries}
 use Rattle.fisca_inputs.specs.declared.given.Given.{Given}
 use Rattle.fisca_writer.specs.Odometer.{IsNear, places_at}
 use Rattle.fisca_num.specs.Number.{Number}
-use Rattle.fisca_params.specs.Results.{and_then}
+use Rattle.fisca_num.specs.Results.{and_then}
 use Rattle.fisca_rules.specs.Views.{rule_set}
 use Rattle.fisca_rules.specs.declared.rule_set.RuleSet.{RuleSet}
 use Rattle.fisca_commands.specs.Kept.{AreMoved, IsSituated, with_inputs}

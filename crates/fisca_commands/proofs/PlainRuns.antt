@@ -19,8 +19,8 @@ use Rattle.fisca_commands.specs.Forms.{header_of, line_form_of}
 use Rattle.fisca_commands.specs.Headline.{ArePlain, IsFaulted, IsWhole}
 use Rattle.fisca_commands.specs.Run.{IsRunAnswer, IsRunning, IsStyleIn, IsStyleOf, Running, limit_of, start_of}
 use Rattle.fisca_command_line.specs.declared.options.RunOptions.{RunOptions}
-use Rattle.fisca_commands.specs.declared.style.RowStyle.{RowStyle}
-use Rattle.fisca_commands.specs.declared.style.RowStyle.TheVariants.{Plain, Formed, Going}
+use Rattle.fisca_rows.specs.declared.style.RowStyle.{RowStyle}
+use Rattle.fisca_rows.specs.declared.style.RowStyle.TheVariants.{Plain, Formed, Going}
 
 module _ (options : RunOptions) (plain : ArePlain options) (names : List (List ℕ)) where
   form_plain : is_plain (line_form_of options.form names) ≡ true

@@ -8,7 +8,7 @@ use Rattle.fisca_evaluator.specs.declared.counts.Counts.{Counts}
 use Rattle.fisca_forms.specs.LineForms.{Form, is_plain, names_line}
 use Rattle.fisca_forms.specs.declared.form.Format.TheVariants.{Tsv}
 use Rattle.fisca_grid.specs.Grid.{size_of}
-use Rattle.fisca_params.specs.Results.{and_then}
+use Rattle.fisca_num.specs.Results.{and_then}
 use Rattle.fisca_params.specs.Source.{Source}
 use Rattle.fisca_rule_files.specs.declared.refusal.Refusal.{Refusal}
 use Rattle.fisca_rules.specs.declared.rule_set.RuleSet.{RuleSet}
@@ -31,7 +31,7 @@ use Rattle.fisca_commands.specs.Run.{AreLinesTold, IsCounted, IsEndedIn, IsLines
 use Rattle.fisca_commands.specs.Runs.{LacksValue, positions}
 use Rattle.fisca_command_line.specs.declared.options.RunOptions.{RunOptions}
 use Rattle.fisca_command_line.specs.declared.options.TableForm.{TableForm}
-use Rattle.fisca_commands.specs.declared.style.RowStyle.{RowStyle}
+use Rattle.fisca_rows.specs.declared.style.RowStyle.{RowStyle}
 
 -- a start or a stop that is not there
 beyond : (size from : ℕ) (limit : Limit) → (IsInside size from limit → ⊥) → IsBeyond size from limit

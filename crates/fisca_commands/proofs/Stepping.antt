@@ -28,8 +28,8 @@ use Rattle.fisca_rules.specs.declared.rule_set.RuleSet.{RuleSet}
 use Rattle.fisca_commands.proofs.Gone.{HaveAllWorked, HaveSomeWorked, all_gone, some_gone}
 use Rattle.fisca_commands.proofs.Passing.{asked_just, just_for, just_on, some_kept, work_back, work_to}
 use Rattle.fisca_commands.proofs.Placing.{turned_situated}
-use Rattle.fisca_commands.specs.Going.{keys_styled}
-use Rattle.fisca_commands.specs.declared.style.RowStyle.{RowStyle}
+use Rattle.fisca_rows.specs.Going.{keys_styled}
+use Rattle.fisca_rows.specs.declared.style.RowStyle.{RowStyle}
 use Rattle.fisca_commands.specs.Kept.{AllMarked, IsKept, IsSituated, with_inputs}
 use Rattle.fisca_commands.specs.Remembered.{AreJust, IsPassed, IsRefused, IsStillWork, WorkOfOne}
 use Rattle.fisca_commands.specs.Runs.{positions}

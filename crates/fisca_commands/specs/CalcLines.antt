@@ -3,7 +3,6 @@ use Rattle.std.specs.Prelude.{◌≡◌, ◌≢◌, ◌⊎◌, ⊤, ℕ, ◌+◌
 use Rattle.std.specs.Io.KnownBytes.{Appends}
 use Rattle.std.specs.List.{AllZip, FoldsTo, enumerate_from, flat_map, fold}
 use Rattle.std.specs.Str.{IsUtf8}
-use Rattle.fisca_folder.specs.Shown.{shown}
 use Rattle.fisca_forms.specs.LineForms.{Form}
 use Rattle.fisca_params.specs.Source.{Source}
 use Rattle.fisca_rule_files.specs.Refusal.{is_failed_write, key_of, place_in, reason_of, status_of}
@@ -15,7 +14,7 @@ use Rattle.fisca_rules.specs.declared.rule_set.RuleSet.{RuleSet}
 use Rattle.fisca_writer.specs.Run.{AppendsPart}
 use Rattle.fisca_writer.specs.Sink.{CountsFailure}
 use Rattle.fisca_commands.specs.Calc.{Calculation, IsAsked, IsCalculated, RefusesText, calc_names}
-use Rattle.fisca_commands.specs.Ending.{IsTold, TaskOutcome, told_of}
+use Rattle.fisca_rule_files.specs.Ending.{IsTold, IsUnreadTold, TaskOutcome, told_of}
 use Rattle.fisca_commands.specs.Forms.{IsHeaderRefused, header_of, line_form_of, shown_form}
 use Rattle.fisca_commands.specs.declared.many_files.LineFault.{LineFault}
 use Rattle.fisca_commands.specs.declared.many_files.LineFault.TheVariants as fault
@@ -127,13 +126,6 @@ is_write stop.Over = false
 is_write stop.Unread = false
 is_write stop.Write = true
 is_write stop.Memory = false
-
--- it is told that the file at a path cannot be read further, or that memory was refused
-abbrev pub unread_text : List ℕ → List ℕ
-unread_text path = codes "fisca: " ++ (shown path ++ codes ": cannot read")
-
-abbrev pub IsUnreadTold : List ℕ → TaskOutcome → Type 0
-IsUnreadTold path outcome = (outcome ≡ record { status = 5; told = Some (unread_text path) }) ⊎ (outcome ≡ told_of path Memory)
 
 -- what the command answers then, where this is the greatest status of the lines
 abbrev pub IsEndedBy : List ℕ → ℕ → LineStop → TaskOutcome → Type 0

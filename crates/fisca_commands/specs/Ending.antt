@@ -1,19 +1,20 @@
 -- How a command ends: what it answers, tells and writes.
-use Rattle.std.specs.Prelude.{◌≡◌, ◌≢◌, ◌⊎◌, ℕ, ◌==◌, if◌then◌else◌, Bool, true, false, List, [], map, Option, Some, None, option_map, Result, Ok, Err, IfOk, string_bytes}
+use Rattle.std.specs.Prelude.{◌≡◌, ◌⊎◌, ℕ, Bool, true, false, List, [], map, Option, option_map, Result, Ok, Err, IfOk, string_bytes}
 use Rattle.std.specs.Io.KnownBytes.{Appends, Keeps}
 use Rattle.fisca_writer.specs.Run.{AppendsPart}
 use Rattle.fisca_writer.specs.declared.fault.RunEnd.{RunEnd}
 use Rattle.fisca_evaluator.specs.declared.counts.Counts.{Counts}
 use Rattle.fisca_params.specs.Source.{Source}
+use Rattle.fisca_rule_files.specs.Ending.{TaskOutcome, IsEndTold, IsTold, done, judged, run_done, told_of}
 use Rattle.fisca_rule_files.specs.declared.refusal.Refusal.{Refusal}
-use Rattle.fisca_rule_files.specs.declared.refusal.Refusal.TheVariants.{Write, Memory}
+use Rattle.fisca_rule_files.specs.declared.refusal.Refusal.TheVariants.{Write}
 use Rattle.fisca_command_line.specs.declared.task.Task.{Task}
 use Rattle.fisca_command_line.specs.declared.task.Task.TheVariants as task
 use Rattle.fisca_commands.specs.AxesRun.{IsAxesAnswer}
 use Rattle.fisca_commands.specs.Calc.{IsCalc}
 use Rattle.fisca_rule_files.specs.Check.{IsCheck}
 use Rattle.fisca_commands.specs.Forms.{is_table}
-use Rattle.fisca_commands.specs.LastLine.{end_text, last_line}
+use Rattle.fisca_writer.specs.LastLine.{last_line}
 use Rattle.fisca_commands.specs.Listed.{IsList}
 use Rattle.fisca_commands.specs.Run.{IsCounted, IsRunAnswer}
 use Rattle.fisca_commands.specs.Size.{IsSize}
@@ -21,34 +22,6 @@ use Rattle.fisca_command_line.specs.declared.options.RunOptions.{RunOptions}
 use Rattle.fisca_command_line.specs.declared.options.TableForm.{TableForm}
 use Rattle.fisca_commands.specs.Test.{IsTest}
 use Rattle.fisca_test_file.specs.declared.all.Verdict.{Verdict}
-use Rattle.fisca_rule_files.specs.Refusal.{status_of, line_of}
-
--- an exit status, and what is told on standard error
-pub record TaskOutcome : Type 0 where
-  pub status : ℕ
-  pub told : Option (List ℕ)
-
-abbrev pub done : TaskOutcome
-done = record { status = 0; told = None }
-
--- the status and the line of a refusal; `path` is that of the command's own file
-abbrev pub told_of : List ℕ → Refusal → TaskOutcome
-told_of path refusal = record { status = status_of refusal; told = Some (line_of path refusal) }
-
--- a refusal is told or, where it is no failed write, perhaps that memory was refused
-abbrev pub IsTold : List ℕ → Refusal → TaskOutcome → Type 0
-IsTold path refusal outcome = (outcome ≡ told_of path refusal) ⊎ ((outcome ≡ told_of path Memory) × (status_of refusal ≢ 5))
-
--- the status of a run that nothing stopped says whether a word stands in the place of a value
-abbrev pub run_status : Bool → ℕ
-run_status lacks = if lacks then 4 else 0
-
-abbrev pub run_done : Bool → TaskOutcome
-run_done lacks = record { status = run_status lacks; told = None }
-
--- the last line of a run is told, or that there is no memory for it
-abbrev pub IsEndTold : RunEnd → Bool → TaskOutcome → Type 0
-IsEndTold end lacks outcome = (outcome ≡ record { status = run_status lacks; told = Some (end_text end) }) ⊎ (outcome ≡ told_of [] Memory)
 
 -- how a run over the file at this path, if there is one, ends that gave this answer: it is done with its last line, or the sink fails in that line;
 -- behind a table the last line is told, and no more is written; so is a refusal
@@ -95,10 +68,6 @@ IsSizeEnding files path text old new outcome = (answer : Result Unit Refusal) ×
 -- how `list` ends
 abbrev pub IsListEnding : List Source → TableForm → Option (List ℕ) → Option (List ℕ) → TaskOutcome → Type 0
 IsListEnding files form old new outcome = (answer : Result Unit Refusal) × IsList files form old new answer × IsAnswered [] answer outcome
-
--- the status says whether a test failed
-abbrev pub judged : Verdict → TaskOutcome
-judged verdict = record { status = if verdict.failed == 0 then 0 else 1; told = None }
 
 -- tests that were all worked out are judged, or the refusal is told
 abbrev pub IsJudged : List ℕ → Result Verdict Refusal → TaskOutcome → Type 0

@@ -5,7 +5,7 @@ use Rattle.fisca_writer.specs.declared.limit.Limit.{Limit}
 use Rattle.fisca_writer.specs.declared.fault.RunEnd.{RunEnd}
 use Rattle.fisca_writer.specs.declared.fault.RunEnd.TheVariants as end
 use Rattle.fisca_commands.specs.Runs.{LacksValue, positions}
-use Rattle.fisca_commands.specs.declared.style.RowStyle.{RowStyle}
+use Rattle.fisca_rows.specs.declared.style.RowStyle.{RowStyle}
 use Rattle.fisca_rules.specs.declared.rule_set.RuleSet.{RuleSet}
 use Rattle.fisca_run_file.specs.RunFiles.{RunFile}
 

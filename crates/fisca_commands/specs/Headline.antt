@@ -12,7 +12,7 @@ use Rattle.fisca_writer.specs.declared.fault.RunEnd.TheVariants.{End, More}
 use Rattle.fisca_writer.specs.declared.limit.Limit.{Limit}
 use Rattle.fisca_commands.specs.Runs.{positions, run_row}
 use Rattle.fisca_command_line.specs.declared.options.RunOptions.{RunOptions}
-use Rattle.fisca_commands.specs.declared.style.RowStyle.{RowStyle}
+use Rattle.fisca_rows.specs.declared.style.RowStyle.{RowStyle}
 use Rattle.fisca_commands.specs.Run.{Running}
 use Rattle.fisca_commands.specs.Unanswered.{key_told}
 use Rattle.fisca_rule_files.specs.declared.refusal.Unanswered.{Unanswered}

@@ -22,10 +22,10 @@ use Rattle.fisca_evaluator.specs.declared.evaluator.Evaluator.{Evaluator}
 use Rattle.fisca_evaluator.specs.Counted.{one_more}
 use Rattle.fisca_evaluator.specs.declared.counts.Counts.{Counts}
 use Rattle.fisca_rules.specs.declared.rule_set.RuleSet.{RuleSet}
-use Rattle.fisca_commands.specs.Going.{keys_styled}
+use Rattle.fisca_rows.specs.Going.{keys_styled}
 use Rattle.fisca_commands.specs.Kept.{IsSituated}
 use Rattle.fisca_commands.specs.Runs.{positions}
-use Rattle.fisca_commands.specs.declared.style.RowStyle.{RowStyle}
+use Rattle.fisca_rows.specs.declared.style.RowStyle.{RowStyle}
 use Rattle.fisca_run_file.specs.RunFiles.{RunFile}
 use Rattle.fisca_run_file.specs.Steps.Marks.{wheels_of}
 use Rattle.fisca_run_file.specs.Steps.Slots.{slots_of}

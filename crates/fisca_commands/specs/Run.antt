@@ -24,8 +24,8 @@ use Rattle.fisca_commands.specs.Ends.{stop_of}
 use Rattle.fisca_commands.specs.Forms.{IsHeaderRefused, header_of, is_asked, line_form_of}
 use Rattle.fisca_command_line.specs.declared.options.RunOptions.{RunOptions}
 use Rattle.fisca_command_line.specs.declared.options.TableForm.{TableForm}
-use Rattle.fisca_commands.specs.declared.style.RowStyle.{RowStyle}
-use Rattle.fisca_commands.specs.declared.style.RowStyle.TheVariants.{Plain, Formed, Going}
+use Rattle.fisca_rows.specs.declared.style.RowStyle.{RowStyle}
+use Rattle.fisca_rows.specs.declared.style.RowStyle.TheVariants.{Plain, Formed, Going}
 use Rattle.fisca_run_file.specs.Named.{names_of}
 use Rattle.fisca_commands.specs.Remembered.{AreCounts}
 use Rattle.fisca_commands.specs.Runs.{LacksValue, positions, run_row}

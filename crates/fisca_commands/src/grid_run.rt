@@ -16,9 +16,9 @@ ghost use Rattle.fisca_situations.specs.Steps.Views.{situation as situation_view
 use crate::beginning::evaluator_of;
 use crate::kept::run_with;
 use crate::rows::RunRows;
-use crate::style::RowStyle;
 use fisca_evaluator::{Counts, IndexRecall};
 use fisca_model::EvalFault;
+use fisca_rows::RowStyle;
 use fisca_rules::RuleSet;
 use fisca_run_file::{RunFile, RunStart};
 use fisca_situations::Situation;

@@ -12,9 +12,9 @@ ghost use Rattle.fisca_commands.specs.Ends.{HasLacked};
 ghost use Rattle.fisca_commands.specs.Runs.{positions, run_row};
 
 use crate::kept_rows::{KeptRows, Room};
-use crate::style::RowStyle;
 use fisca_evaluator::{Evaluator, Recall};
 use fisca_model::EvalFault;
+use fisca_rows::RowStyle;
 use fisca_rules::RuleSet;
 use fisca_run_file::RunRequest;
 use fisca_situations::Slot;

@@ -7,10 +7,10 @@ ghost use Rattle.fisca_writer.specs.Came.{IsStep};
 ghost use Rattle.fisca_writer.specs.Row.{IsWorkedOut};
 ghost use Rattle.fisca_evaluator.specs.Asked.{HasRefused, HasWorked};
 ghost use Rattle.fisca_evaluator.specs.Evaluators.{IsMemoryOf, marks_in, simulation_of};
-ghost use Rattle.fisca_commands.specs.Asked.{keys_asked, keys_met};
-ghost use Rattle.fisca_commands.specs.Conditions as spec;
-ghost use Rattle.fisca_commands.specs.FormedLines.{asked_row_in};
-ghost use Rattle.fisca_commands.specs.Going.{columns_if_met, going_row, keys_styled, lacks_by, lacks_in};
+ghost use Rattle.fisca_rows.specs.Asked.{keys_asked, keys_met};
+ghost use Rattle.fisca_rows.specs.Met as spec;
+ghost use Rattle.fisca_rows.specs.FormedLines.{asked_row_in};
+ghost use Rattle.fisca_rows.specs.Going.{columns_if_met, going_row, keys_styled, lacks_by, lacks_in};
 ghost use Rattle.fisca_commands.specs.Begun.{file_in};
 ghost use Rattle.fisca_commands.specs.Kept.{IsRunFile, IsSituated};
 ghost use Rattle.fisca_commands.specs.Runs.{positions, run_row};
@@ -19,16 +19,15 @@ ghost use Rattle.fisca_inputs.specs.declared.given.Given.{Given};
 ghost use Rattle.fisca_run_file.specs.Steps.Positions.{moved_by};
 ghost use Rattle.fisca_symbols.specs.Known.{tables as known};
 
-use crate::conditions::all_met;
-use crate::going::{is_unmet, met_or_fault, write_going_line};
-use crate::row::{Asked, write_line_in};
-use crate::style::RowStyle;
 use crate::turning::turn_slots;
 use fisca_evaluator::{Evaluator, Recall};
 use fisca_forms::LineForm;
 use fisca_inputs::Given;
 use fisca_model::EvalFault;
 use fisca_num::Fraction;
+use fisca_rows::{
+    Asked, RowStyle, all_met, is_unmet, met_or_fault, write_going_line, write_line_in,
+};
 use fisca_rules::RuleSet;
 use fisca_run_file::RunRequest;
 use fisca_situations::{Answers, Slot};

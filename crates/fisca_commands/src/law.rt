@@ -3,8 +3,8 @@
 ghost use Rattle.std.specs.Prelude.{ℕ, List, Option, Ok, Err};
 ghost use Rattle.fisca_commands.specs.Headline.{ArePlain, IsFaulted, IsWhole};
 ghost use Rattle.fisca_commands.specs.Run.{IsRunAnswer, IsRunning, IsStyleIn, Running, limit_of, start_of};
-ghost use Rattle.fisca_commands.specs.declared.style.RowStyle.{RowStyle};
-ghost use Rattle.fisca_commands.specs.declared.style.RowStyle.TheVariants.{Plain};
+ghost use Rattle.fisca_rows.specs.declared.style.RowStyle.{RowStyle};
+ghost use Rattle.fisca_rows.specs.declared.style.RowStyle.TheVariants.{Plain};
 ghost use Rattle.fisca_commands.specs.Forms.{header_of};
 ghost use Rattle.std.specs.Io.KnownBytes.{Appends};
 ghost use Rattle.fisca_command_line.specs.declared.options.RunOptions.{RunOptions};

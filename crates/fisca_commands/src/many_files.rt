@@ -9,14 +9,13 @@ ghost use Rattle.fisca_rule_files.specs.Refusal.{is_write, key_of, reason_of, st
 ghost use Rattle.fisca_writer.specs.Sink.{CountsFailure};
 
 use super::calc::{calc_names, read_file, write_values};
-use super::ending::Ending;
 use super::forms::begin_table;
 use crate::calc_inputs_fit;
 use fisca_command_line::TableForm;
 use fisca_folder::{LONGEST, write_shown};
 use fisca_forms::LineForm;
 use fisca_params::SourceFile;
-use fisca_rule_files::{Refusal, rules_of};
+use fisca_rule_files::{Ending, Refusal, rules_of};
 use fisca_rules::RuleSet;
 use fisca_simulation::rule_sets_are_safe;
 use fisca_writer::{RowSink, RunFault, hand_over};

@@ -8,9 +8,7 @@ ghost use Rattle.fisca_commands.specs.Forms.{is_table};
 
 use super::axes::axes_words;
 use super::calc::calc_rules;
-use super::ending::Ending;
 use super::forms::is_table;
-use super::last_line::write_end;
 use super::list::list_rules;
 use super::run::run_rules;
 use super::size::size_rules;
@@ -18,9 +16,9 @@ use super::test::test_rules;
 use fisca_command_line::{RunOptions, TableForm, Task};
 use fisca_evaluator::Counts;
 use fisca_params::SourceFile;
-use fisca_rule_files::{Refusal, check_rules};
+use fisca_rule_files::{Ending, Refusal, check_rules};
 use fisca_test_file::Verdict;
-use fisca_writer::{RowSink, RunEnd};
+use fisca_writer::{RowSink, RunEnd, write_end};
 use std::alloc::Global;
 
 /// Runs a task, and answers how it ended: the exit status, and the line for standard error where the task was refused or

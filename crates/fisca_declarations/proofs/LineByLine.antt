@@ -9,7 +9,7 @@ use Rattle.fisca_ast.specs.declared.fault.FormulaKind.{FormulaKind}
 use Rattle.fisca_attributes.specs.Steps.AttributeForms.{value_at, type_value, period_value}
 use Rattle.fisca_attributes.specs.Values.{needed}
 use Rattle.fisca_attributes.specs.Steps.Values.{text_value, instant_value, references_value}
-use Rattle.fisca_params.specs.Results.{and_then}
+use Rattle.fisca_num.specs.Results.{and_then}
 use Rattle.fisca_declarations.specs.declared.attributes.Attributes.{Attributes}
 use Rattle.fisca_declarations.specs.declared.declared.Declared.{Declared}
 use Rattle.fisca_declarations.specs.declared.types.TypeLines.{TypeLines}

@@ -1,7 +1,7 @@
 -- One step after another.
 use Rattle.std.proofs.Common.{◌≡◌, ◌∙◌, ap, Result, Ok, Err}
 use Rattle.fisca_ast.specs.Outcomes.{Gives}
-use Rattle.fisca_params.specs.Results.{and_then}
+use Rattle.fisca_num.specs.Results.{and_then}
 use Rattle.fisca_ast.specs.declared.fault.FormulaKind.{FormulaKind}
 
 pub gives_same : {X Y : Type 0} (view : X → Y) (o p : Result Y FormulaKind) (r : Result X FormulaKind) → Gives view o r → p ≡ o → Gives view p r

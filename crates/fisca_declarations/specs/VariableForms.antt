@@ -3,7 +3,7 @@ use Rattle.std.specs.Prelude.{ℕ, List, [], map, Bool, true, false, if◌then�
 use Rattle.std.specs.Str.{bytes_eq}
 use Rattle.fisca_ast.specs.Tree.{Tree, text}
 use Rattle.fisca_ast.specs.Words.{is}
-use Rattle.fisca_params.specs.Results.{and_then}
+use Rattle.fisca_num.specs.Results.{and_then}
 use Rattle.fisca_ast.specs.ModuleViews.{formula_view}
 use Rattle.fisca_ast.specs.Modules.{Formula}
 use Rattle.fisca_ast.specs.declared.fault.FormulaKind.{FormulaKind}

@@ -2,7 +2,7 @@
 use Rattle.std.proofs.Common.{◌≡◌, inl, inr, ℕ, zero, suc, ◌+◌, List, [], ◌∷◌, ◌++◌, length, length-append, Result, Ok, Err, refl, sym, ap, ◌∙◌, subst, arith, ⊎_elim}
 use Rattle.fisca_model.specs.Causes.{Fault}
 use Rattle.fisca_model.specs.Values.{Value, Key}
-use Rattle.fisca_params.specs.Results.{and_then}
+use Rattle.fisca_num.specs.Results.{and_then}
 use Rattle.fisca_key_semantics.specs.Answers.{Halt, fault, out, Sources, Oracle, answer, outcome, settled, value_within, verdict}
 use Rattle.fisca_key_semantics.specs.Chains.{asked, on_value}
 use Rattle.fisca_key_semantics.specs.Inquiry.{Inquiry, gives, fails, asks}

@@ -2,7 +2,7 @@
 use Rattle.std.proofs.Common.{◌≡◌, ◌⊎◌, inl, inr, ℕ, zero, suc, Bool, true, false, List, [], ◌∷◌, ◌++◌, Result, Ok, Err, refl, sym, ap, ◌∙◌, subst, if◌then◌else◌, ⊎_elim}
 use Rattle.std.specs.Prelude.{◌↔◌}
 use Rattle.fisca_model.specs.Values.{Value, Key}
-use Rattle.fisca_params.specs.Results.{and_then}
+use Rattle.fisca_num.specs.Results.{and_then}
 use Rattle.fisca_key_semantics.specs.Answers.{Halt, fault, out, Source, Sources, Oracle, refused, known, formula, answer, at_once, outcome, settled, through, value_within}
 use Rattle.fisca_key_semantics.specs.Chains.{IsDefinite, IsPath, asked, on_value}
 use Rattle.fisca_key_semantics.specs.Inquiry.{Inquiry, gives, fails, asks}

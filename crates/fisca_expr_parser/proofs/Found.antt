@@ -18,8 +18,8 @@ use Rattle.fisca_expr_parser.specs.Marks.{operator_mark, comparison_mark, prefix
 use Rattle.fisca_expr_parser.specs.Steps.Marks.{closing_mark, bracket_of, binds, tightness, beginning_of}
 use Rattle.fisca_ast.specs.Steps.Words.{is_name, is_atom}
 use Rattle.fisca_expr_parser.specs.declared.mode.Mode.{Mode}
-use Rattle.fisca_ast.specs.declared.tree.Bracket.{Bracket}
-use Rattle.fisca_ast.specs.declared.tree.Bracket.TheVariants as bracket
+use Rattle.fisca_ast.specs.declared.tree.Delimiter.{Delimiter}
+use Rattle.fisca_ast.specs.declared.tree.Delimiter.TheVariants as bracket
 use Rattle.fisca_ast.specs.declared.tree.Suffix.{Suffix}
 use Rattle.fisca_ast.specs.declared.tree.Suffix.TheVariants as suffix
 use Rattle.fisca_expr_parser.specs.declared.mode.Place.{Place}

@@ -19,8 +19,8 @@ use Rattle.fisca_expr_parser.specs.Marks.{operator_mark, comparison_mark, prefix
 use Rattle.fisca_expr_parser.specs.Steps.Marks.{closing_mark, bracket_of, binds, same_mark, joint_of, tightness, comparison_of}
 use Rattle.fisca_ast.specs.Steps.Words.{is_name, is_atom}
 use Rattle.fisca_expr_parser.specs.declared.mode.Mode.{Mode}
-use Rattle.fisca_ast.specs.declared.tree.Bracket.{Bracket}
-use Rattle.fisca_ast.specs.declared.tree.Bracket.TheVariants as bracket
+use Rattle.fisca_ast.specs.declared.tree.Delimiter.{Delimiter}
+use Rattle.fisca_ast.specs.declared.tree.Delimiter.TheVariants as bracket
 use Rattle.fisca_ast.specs.declared.tree.Suffix.{Suffix}
 use Rattle.fisca_ast.specs.declared.tree.Suffix.TheVariants as suffix
 use Rattle.fisca_expr_parser.specs.declared.mode.Place.{Place}
@@ -68,7 +68,7 @@ loose rest c = ap tightness c.joint
 
 -- a mark that closes, and begins no expression
 pub record Closer (m : Mark) : Type 0 where
-  pub opening : (b : Bracket) → same_mark (opening_mark b) m ≡ false
+  pub opening : (b : Delimiter) → same_mark (opening_mark b) m ≡ false
   pub prefix : (p : Prefix) → same_mark (prefix_mark p) m ≡ false
   pub joint : joint_of m ≡ joint.Ends
   pub comparison : comparison_of m ≡ None
@@ -78,7 +78,7 @@ pub record Closer (m : Mark) : Type 0 where
 close_round : Closer mark.Close
 unfolding same_mark
 close_round = record { opening = opens; prefix = none; joint = refl; comparison = refl; equal = refl; comma = refl } where
-  opens : (b : Bracket) → same_mark (opening_mark b) mark.Close ≡ false
+  opens : (b : Delimiter) → same_mark (opening_mark b) mark.Close ≡ false
   opens bracket.Round = refl
   opens bracket.Square = refl
   opens bracket.Curly = refl
@@ -91,7 +91,7 @@ close_round = record { opening = opens; prefix = none; joint = refl; comparison 
 close_square : Closer mark.CloseList
 unfolding same_mark
 close_square = record { opening = opens; prefix = none; joint = refl; comparison = refl; equal = refl; comma = refl } where
-  opens : (b : Bracket) → same_mark (opening_mark b) mark.CloseList ≡ false
+  opens : (b : Delimiter) → same_mark (opening_mark b) mark.CloseList ≡ false
   opens bracket.Round = refl
   opens bracket.Square = refl
   opens bracket.Curly = refl
@@ -104,7 +104,7 @@ close_square = record { opening = opens; prefix = none; joint = refl; comparison
 close_curly : Closer mark.CloseMap
 unfolding same_mark
 close_curly = record { opening = opens; prefix = none; joint = refl; comparison = refl; equal = refl; comma = refl } where
-  opens : (b : Bracket) → same_mark (opening_mark b) mark.CloseMap ≡ false
+  opens : (b : Delimiter) → same_mark (opening_mark b) mark.CloseMap ≡ false
   opens bracket.Round = refl
   opens bracket.Square = refl
   opens bracket.Curly = refl
@@ -114,7 +114,7 @@ close_curly = record { opening = opens; prefix = none; joint = refl; comparison 
   none pre.Minus = refl
   none pre.Not = refl
 
-pub closer : (b : Bracket) → Closer (closing_mark b)
+pub closer : (b : Delimiter) → Closer (closing_mark b)
 closer bracket.Round = close_round
 closer bracket.Square = close_square
 closer bracket.Curly = close_curly
@@ -130,7 +130,7 @@ closed-colon : (rest : List Sign) → Closed (sign.Mark mark.Colon ∷ rest)
 unfolding same_mark
 closed-colon rest = record { joint = refl; comparison = refl; equal = refl }
 
-opening-equal : (b : Bracket) → same_mark (opening_mark b) mark.Equal ≡ false
+opening-equal : (b : Delimiter) → same_mark (opening_mark b) mark.Equal ≡ false
 unfolding same_mark
 opening-equal bracket.Round = refl
 opening-equal bracket.Square = refl

@@ -21,8 +21,8 @@ use Rattle.fisca_ast.specs.declared.tree.Prefix.TheVariants as pre
 use Rattle.fisca_expr_parser.specs.Marks.{operator_mark, comparison_mark, prefix_mark, opening_mark}
 use Rattle.fisca_expr_parser.specs.Steps.Marks.{bracket_of, same_mark, joint_of, beginning_of, comparison_of}
 use Rattle.fisca_ast.specs.Steps.Words.{is_name}
-use Rattle.fisca_ast.specs.declared.tree.Bracket.{Bracket}
-use Rattle.fisca_ast.specs.declared.tree.Bracket.TheVariants as bracket
+use Rattle.fisca_ast.specs.declared.tree.Delimiter.{Delimiter}
+use Rattle.fisca_ast.specs.declared.tree.Delimiter.TheVariants as bracket
 use Rattle.fisca_ast.specs.declared.tree.Suffix.{Suffix}
 use Rattle.fisca_ast.specs.declared.tree.Suffix.TheVariants as suffix
 use Rattle.fisca_expr_parser.specs.Reading.{Outcome, Reader, and_then, pure, tail, joint_ahead, comparison_ahead, word_ahead, keyword_ahead, keyed, expect, named, take_name}
@@ -154,7 +154,7 @@ begins-so mark.Minus b e some = ap opening_of e
 begins-so mark.Tilde b e some = ap opening_of e
 begins-so _ b e some = absurd (some (sym e))
 
-pub beginning_of-opening : (b : Bracket) → beginning_of (opening_mark b) ≡ begin.Opens b
+pub beginning_of-opening : (b : Delimiter) → beginning_of (opening_mark b) ≡ begin.Opens b
 beginning_of-opening bracket.Round = refl
 beginning_of-opening bracket.Square = refl
 beginning_of-opening bracket.Curly = refl

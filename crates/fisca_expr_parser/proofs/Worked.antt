@@ -9,7 +9,7 @@ use Rattle.fisca_expr_parser.specs.declared.sign.Sign.TheVariants as sign
 use Rattle.fisca_ast.specs.declared.tree.Operator.TheVariants as op
 use Rattle.fisca_ast.specs.declared.tree.Comparison.TheVariants as cmp
 use Rattle.fisca_ast.specs.declared.tree.Prefix.TheVariants as pre
-use Rattle.fisca_ast.specs.declared.tree.Bracket.TheVariants as bracket
+use Rattle.fisca_ast.specs.declared.tree.Delimiter.TheVariants as bracket
 use Rattle.fisca_ast.specs.declared.tree.Suffix.TheVariants as suffix
 use Rattle.fisca_expr_parser.specs.declared.mode.Mode.TheVariants as mode
 use Rattle.fisca_ast.specs.Tree.{Tree, name, number, bracketed, attribute, applied, prefixed, binary, compare, nothing, last, next, positional, keyword, entry, height}

@@ -7,8 +7,8 @@ use Rattle.fisca_ast.specs.declared.tree.Comparison.{Comparison}
 use Rattle.fisca_ast.specs.declared.tree.Comparison.TheVariants as cmp
 use Rattle.fisca_ast.specs.declared.tree.Prefix.{Prefix}
 use Rattle.fisca_ast.specs.declared.tree.Prefix.TheVariants as pre
-use Rattle.fisca_ast.specs.declared.tree.Bracket.{Bracket}
-use Rattle.fisca_ast.specs.declared.tree.Bracket.TheVariants as bracket
+use Rattle.fisca_ast.specs.declared.tree.Delimiter.{Delimiter}
+use Rattle.fisca_ast.specs.declared.tree.Delimiter.TheVariants as bracket
 
 abbrev pub operator_mark : Operator → Mark
 operator_mark op.Or = mark.Bar
@@ -32,7 +32,7 @@ prefix_mark pre.Minus = mark.Minus
 prefix_mark pre.Not = mark.Tilde
 
 -- the marks of a pair of brackets
-abbrev pub opening_mark : Bracket → Mark
+abbrev pub opening_mark : Delimiter → Mark
 opening_mark bracket.Round = mark.Open
 opening_mark bracket.Square = mark.OpenList
 opening_mark bracket.Curly = mark.OpenMap

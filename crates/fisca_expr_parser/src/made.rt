@@ -7,7 +7,7 @@ ghost use Rattle.fisca_ast.specs.Views.{tree, series_view, argument_view, before
 
 use crate::measured::{Measured, MeasuredArgument, MeasuredArguments};
 use fisca_ast::{
-    Access, Application, Argument, Arguments, Bracket, Comparison, Expr, Operands, Operator,
+    Access, Application, Argument, Arguments, Comparison, Delimiter, Expr, Operands, Operator,
     Prefix, Slice, Suffix,
 };
 use std::alloc::{AllocError, Global};
@@ -138,7 +138,7 @@ pub(crate) fn prefixed<'a>(
 /// What stands in brackets.
 pub(crate) fn bracketed<'a>(
     alloc: Global,
-    bracket: Bracket,
+    bracket: Delimiter,
     inside: MeasuredArguments<'a>,
     limit: usize,
 ) -> Result<Measured<'a>, AllocError>

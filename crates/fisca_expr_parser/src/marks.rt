@@ -3,7 +3,7 @@
 ghost use Rattle.std.specs.Prelude.{◌≡◌};
 ghost use Rattle.fisca_expr_parser.specs.Steps.Marks as spec;
 
-use fisca_ast::{Bracket, Comparison, Operator, Prefix, Suffix};
+use fisca_ast::{Comparison, Delimiter, Operator, Prefix, Suffix};
 use fisca_lexer::Mark;
 
 /// What a mark behind an expression does.
@@ -23,7 +23,7 @@ pub(crate) enum Joint {
 #[derive(Clone, Copy, PartialEq, Eq)]
 pub(crate) enum Beginning {
     /// An expression in brackets.
-    Opens(Bracket),
+    Opens(Delimiter),
     /// An operand behind a prefix.
     Sign(Prefix),
     /// No expression.
@@ -84,9 +84,9 @@ pub(crate) fn beginning_of(mark: Mark) -> Beginning
     ensures { result ≡ spec.beginning_of mark }
 {
     match mark {
-        Mark::Open => Beginning::Opens(Bracket::Round),
-        Mark::OpenList => Beginning::Opens(Bracket::Square),
-        Mark::OpenMap => Beginning::Opens(Bracket::Curly),
+        Mark::Open => Beginning::Opens(Delimiter::Round),
+        Mark::OpenList => Beginning::Opens(Delimiter::Square),
+        Mark::OpenMap => Beginning::Opens(Delimiter::Curly),
         Mark::Plus => Beginning::Sign(Prefix::Plus),
         Mark::Minus => Beginning::Sign(Prefix::Minus),
         Mark::Tilde => Beginning::Sign(Prefix::Not),
@@ -110,22 +110,22 @@ pub(crate) fn comparison_of(mark: Mark) -> Option<Comparison>
 }
 
 /// The mark that closes brackets.
-pub(crate) fn closing_mark(bracket: Bracket) -> Mark
+pub(crate) fn closing_mark(bracket: Delimiter) -> Mark
     ensures { result ≡ spec.closing_mark bracket }
 {
     match bracket {
-        Bracket::Round => Mark::Close,
-        Bracket::Square => Mark::CloseList,
-        Bracket::Curly => Mark::CloseMap,
+        Delimiter::Round => Mark::Close,
+        Delimiter::Square => Mark::CloseList,
+        Delimiter::Curly => Mark::CloseMap,
     }
 }
 
 /// The brackets that stand behind an expression.
-pub(crate) fn bracket_of(suffix: Suffix) -> Bracket
+pub(crate) fn bracket_of(suffix: Suffix) -> Delimiter
     ensures { result ≡ spec.bracket_of suffix }
 {
     match suffix {
-        Suffix::Call => Bracket::Round,
-        Suffix::Subscript => Bracket::Square,
+        Suffix::Call => Delimiter::Round,
+        Suffix::Subscript => Delimiter::Square,
     }
 }

@@ -5,7 +5,7 @@ ghost use Rattle.fisca_expr_parser.specs.Steps.Spelling as spec;
 ghost use Rattle.fisca_ast.specs.Views.{argument_view};
 
 use crate::mode::{Mode, Place};
-use fisca_ast::{Argument, Bracket, Suffix};
+use fisca_ast::{Argument, Delimiter, Suffix};
 
 /// Whether an argument by position may stand here.
 pub(crate) fn takes_positional(place: Place) -> bool
@@ -58,23 +58,23 @@ pub(crate) fn place_behind(place: Place, argument: &Argument<'_>) -> Place
 }
 
 /// What may stand in brackets.
-pub(crate) fn place_in(mode: Mode, bracket: Bracket) -> Place
+pub(crate) fn place_in(mode: Mode, bracket: Delimiter) -> Place
     ensures { result ≡ spec.place_in mode bracket }
 {
     match (mode, bracket) {
-        (Mode::Formula, Bracket::Round) => Place::Alone,
-        (Mode::Value, Bracket::Round) | (_, Bracket::Square) => Place::InList,
-        (_, Bracket::Curly) => Place::InMap,
+        (Mode::Formula, Delimiter::Round) => Place::Alone,
+        (Mode::Value, Delimiter::Round) | (_, Delimiter::Square) => Place::InList,
+        (_, Delimiter::Curly) => Place::InMap,
     }
 }
 
 /// Whether these brackets may begin an expression.
-pub(crate) fn allows(mode: Mode, bracket: Bracket) -> bool
+pub(crate) fn allows(mode: Mode, bracket: Delimiter) -> bool
     ensures { result ≡ spec.allows mode bracket }
 {
     match (mode, bracket) {
-        (Mode::Formula, Bracket::Curly) => false,
-        (Mode::Value, _) | (Mode::Formula, Bracket::Round | Bracket::Square) => true,
+        (Mode::Formula, Delimiter::Curly) => false,
+        (Mode::Value, _) | (Mode::Formula, Delimiter::Round | Delimiter::Square) => true,
     }
 }
 

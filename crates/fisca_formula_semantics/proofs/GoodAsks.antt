@@ -113,14 +113,14 @@ subscripted-good c G k i good typed =
 some-is : {X : Type 0} (p q : ℕ × X) → Some p ≡ Some q → p ≡ q
 some-is p q e = cc
 
-abbrev StandsAt : {X : Type 0} → List X → ℕ → ℕ × X → Type 0
+abbrev pub StandsAt : {X : Type 0} → List X → ℕ → ℕ × X → Type 0
 StandsAt xs k p = (j : ℕ) × (p.0 ≡ k + j) × (slice_get xs j ≡ Some p.1)
 
 first-by : {X : Type 0} (b : Bool) (k : ℕ) (x : X) (p : ℕ × X) (o : Option (ℕ × X)) (xs : List X) → (if b then Some (k, x) else o) ≡ Some p → (o ≡ Some p → StandsAt xs (suc k) p) → StandsAt (x ∷ xs) k p
 first-by true k x p o xs e rest = subst (λ r. StandsAt (x ∷ xs) k r) (some-is (k, x) p e) (0, omega arith, refl)
 first-by false k x p o xs e rest = let r = rest e in (suc r.0, omega (arith, r.1), r.2)
 
-first-at : {X : Type 0} (is : X → Bool) (k : ℕ) (xs : List X) (p : ℕ × X) → first_where is k xs ≡ Some p → StandsAt xs k p
+pub first-at : {X : Type 0} (is : X → Bool) (k : ℕ) (xs : List X) (p : ℕ × X) → first_where is k xs ≡ Some p → StandsAt xs k p
 first-at is k [] p e = cc
 first-at is k (x ∷ xs) p e = first-by (is x) k x p (first_where is (suc k) xs) xs e (λ h. first-at is (suc k) xs p h)
 

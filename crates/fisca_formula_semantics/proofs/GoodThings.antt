@@ -9,8 +9,8 @@ use Rattle.fisca_num.specs.Literal.{number_of_literal}
 use Rattle.fisca_ast.specs.Words.{is}
 use Rattle.fisca_ast.specs.Tree.{Tree, Series, Argument}
 use Rattle.fisca_ast.specs.Tree as tree
-use Rattle.fisca_ast.specs.declared.tree.Bracket.{Bracket}
-use Rattle.fisca_ast.specs.declared.tree.Bracket.TheVariants as bracket
+use Rattle.fisca_ast.specs.declared.tree.Delimiter.{Delimiter}
+use Rattle.fisca_ast.specs.declared.tree.Delimiter.TheVariants as bracket
 use Rattle.fisca_ast.specs.declared.tree.Suffix.{Suffix}
 use Rattle.fisca_ast.specs.declared.tree.Suffix.TheVariants as suffix
 use Rattle.fisca_ast.specs.declared.fault.FormulaKind.{FormulaKind}
@@ -252,7 +252,7 @@ only-good c G [] all = tt
 only-good c G (g ∷ []) all = if_is (IsGood c G) (is_positional g.keyword) g.thing _ (λ _. all.0) (λ _. tt)
 only-good c G (g ∷ h ∷ gs) all = tt
 
-brackets-good : (c : Tables) (G : List Sort) (b : Bracket) (gs : List CallArgument) → AllGiven c G gs → OkIs (IsGood c G) (in_brackets b gs)
+brackets-good : (c : Tables) (G : List Sort) (b : Delimiter) (gs : List CallArgument) → AllGiven c G gs → OkIs (IsGood c G) (in_brackets b gs)
 brackets-good c G bracket.Round gs all = only-good c G gs all
 brackets-good c G bracket.Square gs all = then_is (AreGood c G) (IsGood c G) (elements gs) _ (elements-good c G gs all) (λ xs a. a)
 brackets-good c G bracket.Curly gs all = tt

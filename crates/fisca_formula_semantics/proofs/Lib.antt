@@ -1,5 +1,5 @@
-mod Good
-mod GoodAsks
+pub mod Good
+pub mod GoodAsks
 mod GoodCalls
 mod GoodFormulas
 mod GoodThings

@@ -5,13 +5,13 @@ use Rattle.std.specs.List.{list_all}
 use Rattle.std.proofs.lemmas.Bool.{and_parts}
 use Rattle.fisca_num.specs.Number.{Number}
 use Rattle.fisca_time.specs.Instant.{CivilDate}
-use Rattle.fisca_params.specs.Dates.{value_at}
+use Rattle.fisca_scales.specs.Dates.{value_at}
 use Rattle.fisca_params.specs.Lookup.{kind_of, value_in}
 use Rattle.fisca_params.specs.Tree.{TreeNode, content_at}
 use Rattle.fisca_params.specs.declared.content.Content.{Content}
 use Rattle.fisca_params.specs.declared.content.Content.TheVariants as content
 use Rattle.fisca_params.specs.declared.content.ParamValue.TheVariants as param
-use Rattle.fisca_params.specs.declared.fault.ParamFault.{ParamFault}
+use Rattle.fisca_scales.specs.declared.fault.ParamFault.{ParamFault}
 use Rattle.fisca_model.specs.declared.value_type.ValueType.{ValueType}
 use Rattle.fisca_model.specs.declared.value_type.ValueType.TheVariants as vt
 use Rattle.fisca_typing.specs.Parameters.{kinds_at}

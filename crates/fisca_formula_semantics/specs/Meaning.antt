@@ -5,8 +5,8 @@ use Rattle.fisca_params.specs.Lookup.{value_in, sum_in}
 use Rattle.fisca_params.specs.Tree.{content_at}
 use Rattle.fisca_params.specs.declared.content.ParamValue.{ParamValue}
 use Rattle.fisca_params.specs.declared.content.ParamValue.TheVariants as param
-use Rattle.fisca_params.specs.declared.fault.ParamFault.{ParamFault}
-use Rattle.fisca_params.specs.declared.fault.ParamFault.TheVariants as fault
+use Rattle.fisca_scales.specs.declared.fault.ParamFault.{ParamFault}
+use Rattle.fisca_scales.specs.declared.fault.ParamFault.TheVariants as fault
 use Rattle.fisca_typing.specs.declared.operations.Arithmetic.TheVariants as arith
 use Rattle.fisca_typing.specs.declared.operations.Logic.TheVariants as logic
 use Rattle.fisca_typing.specs.declared.operations.Total.{Total}

@@ -3,7 +3,7 @@ use Rattle.std.proofs.Common.{lit<}
 use Rattle.std.specs.Prelude.{ℕ, pos, ◌==◌, ◌&&◌, ◌||◌, List, [], ◌∷◌, Bool, false, nat_lt, if◌then◌else◌, Option, Some, None, Result, Ok, Err}
 use Rattle.fisca_num.specs.Number.{Number, zero_number, whole_number}
 use Rattle.fisca_num.specs.Operations.{sum_of, quotient_of, number_over}
-use Rattle.fisca_params.specs.Results.{and_then}
+use Rattle.fisca_num.specs.Results.{and_then}
 use Rattle.fisca_time.specs.Instant.{CivilDate}
 use Rattle.fisca_time.specs.Period.{Span, moved_by, this_year_of, first_month_of, first_day_of, last_month_of, last_year_of, n_2_of, last_3_months_of, start_of, subs, unit_of}
 use Rattle.fisca_time.specs.Unit.{rank, is_year}

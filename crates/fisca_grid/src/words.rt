@@ -24,9 +24,12 @@ fn is_identifier(text: &str) -> bool
 fn are_word_bytes(bytes: &[u8]) -> bool
     ensures { result ≡ list_all is_word_byte bytes.now }
 {
-    bytes
-        .iter()
-        .all(|b| b.is_ascii_alphanumeric() || *b == b'_')
+    for byte in bytes {
+        if !(byte.is_ascii_alphanumeric() || *byte == b'_') {
+            return false;
+        }
+    }
+    true
 }
 
 /// What stands before and behind the first place of the mark, where it stands in the text.
@@ -60,7 +63,12 @@ fn read_count(text: &str) -> Option<u64>
 fn are_digits(bytes: &[u8]) -> bool
     ensures { result ≡ list_all is_ascii_digit bytes.now }
 {
-    bytes.iter().all(|b| b.is_ascii_digit())
+    for byte in bytes {
+        if !byte.is_ascii_digit() {
+            return false;
+        }
+    }
+    true
 }
 
 /// The bounds that `MIN..MAX` says.

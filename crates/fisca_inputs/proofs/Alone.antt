@@ -3,7 +3,7 @@ use Rattle.std.proofs.Common.{◌≡◌, ◌<◌, ltb-true, ℕ, zero, suc, List
 use Rattle.std.specs.Prelude.{◌==◌, nat_lt, Ok}
 use Rattle.std.specs.List.{AllByRecursion, list_all, list_any}
 use Rattle.std.proofs.lemmas.Bool.{and_parts, eqb-true}
-use Rattle.fisca_params.specs.Results.{and_then}
+use Rattle.fisca_num.specs.Results.{and_then}
 use Rattle.fisca_time.specs.Period.{Span}
 use Rattle.fisca_inputs.specs.Defaults.{and_row, beside, beside_by, row_key, row_with, rows_with, rows_of, with_defaults}
 use Rattle.fisca_inputs.specs.Steps.Defaults.{count_of, first_line, row_of}

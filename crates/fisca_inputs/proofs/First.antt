@@ -8,7 +8,7 @@ use Rattle.std.specs.Ordering.{eq_by_cmp}
 use Rattle.std.proofs.lemmas.Bool.{eq-eqb}
 use Rattle.std.proofs.lemmas.Option.{slice_get_within}
 use Rattle.indexmap.specs.IndexMap.{insert_entry}
-use Rattle.fisca_params.specs.Results.{and_then}
+use Rattle.fisca_num.specs.Results.{and_then}
 use Rattle.fisca_time.specs.Period.{span_cmp}
 use Rattle.fisca_model.specs.Tables.{otherwise}
 use Rattle.fisca_model.specs.contracts.key.KeyEq.TheImpl.Laws.{laws-law}

@@ -6,7 +6,7 @@ use Rattle.std.specs.List.{list_any}
 use Rattle.fisca_model.specs.Tables.{otherwise}
 use Rattle.fisca_inputs.specs.Entries.{Entries, same_key, value_at, limit}
 use Rattle.fisca_inputs.specs.Steps.Entries.{put, put_free, put_all}
-use Rattle.fisca_params.specs.Results.{and_then}
+use Rattle.fisca_num.specs.Results.{and_then}
 use Rattle.fisca_model.specs.contracts.key.KeyEq.TheImpl.Laws.{laws-law}
 use Rattle.fisca_inputs.specs.Faults.{at_line}
 use Rattle.fisca_inputs.specs.declared.fault.SituationFault.{SituationFault}

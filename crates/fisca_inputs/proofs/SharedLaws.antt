@@ -4,7 +4,7 @@ use Rattle.std.specs.Prelude.{Ok, Err, Result}
 use Rattle.fisca_model.specs.Periods.{fits, key_period}
 use Rattle.fisca_num.specs.Number.{Number}
 use Rattle.fisca_symbols.specs.declared.variable.SetInput.TheVariants as sharing
-use Rattle.fisca_params.specs.Results.{and_then}
+use Rattle.fisca_num.specs.Results.{and_then}
 use Rattle.fisca_inputs.specs.Defaults.{rows_of, with_defaults}
 use Rattle.fisca_inputs.specs.Entries.{Entries, key, value_at}
 use Rattle.fisca_inputs.specs.Inputs.{inputs_of}

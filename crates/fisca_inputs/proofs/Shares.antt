@@ -10,7 +10,7 @@ use Rattle.std.proofs.lemmas.Bool.Decides.{Decides-int_eq}
 use Rattle.fisca_num.specs.Number.{Number, zero_number}
 use Rattle.fisca_num.specs.Operations.{number_of, difference_of}
 use Rattle.fisca_num.specs.declared.faults.NumFault.{NumFault}
-use Rattle.fisca_params.specs.Results.{and_then}
+use Rattle.fisca_num.specs.Results.{and_then}
 use Rattle.fisca_model.specs.Tables.{otherwise}
 use Rattle.fisca_model.specs.contracts.key.KeyEq.TheImpl.Laws.{laws-law}
 use Rattle.fisca_inputs.specs.Entries.{Entries, same_key, value_at}

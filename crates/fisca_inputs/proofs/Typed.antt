@@ -9,7 +9,7 @@ use Rattle.fisca_model.specs.Values as meaning
 use Rattle.fisca_model.specs.Periods.{fits}
 use Rattle.fisca_model.specs.Tables.{variable_type}
 use Rattle.fisca_num.specs.Number.{Number}
-use Rattle.fisca_params.specs.Results.{and_then}
+use Rattle.fisca_num.specs.Results.{and_then}
 use Rattle.fisca_symbols.specs.declared.variable.SetInput.{SetInput}
 use Rattle.fisca_symbols.specs.declared.variable.SetInput.TheVariants as sharing
 use Rattle.fisca_time.specs.Period.{Span}

@@ -1,7 +1,7 @@
 -- Defaults beside another member's input.
 use Rattle.std.specs.Prelude.{◌≡◌, ◌<◌, true, ℕ, List, [], ◌∷◌, ◌++◌, if◌then◌else◌, slice_get, Option, Some, None, Result, Ok}
 use Rattle.std.specs.List.{list_any}
-use Rattle.fisca_params.specs.Results.{and_then}
+use Rattle.fisca_num.specs.Results.{and_then}
 use Rattle.fisca_inputs.specs.Entries.{Entries, key, same_key}
 use Rattle.fisca_inputs.specs.Steps.Entries.{has, put_all}
 use Rattle.fisca_inputs.specs.Rules.{Rule}

@@ -1,7 +1,7 @@
 -- The inputs of a situation.
 use Rattle.std.specs.Prelude.{ℕ, not, List, [], ◌∷◌, ◌++◌, if◌then◌else◌, filter, Bool, Result, Ok, Err}
 use Rattle.std.specs.List.{list_any}
-use Rattle.fisca_params.specs.Results.{and_then}
+use Rattle.fisca_num.specs.Results.{and_then}
 use Rattle.fisca_inputs.specs.Defaults.{rows_of, with_defaults}
 use Rattle.fisca_inputs.specs.Entries.{Entries, key, same_key}
 use Rattle.fisca_inputs.specs.Faults.{at_line}

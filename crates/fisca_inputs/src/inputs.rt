@@ -106,7 +106,13 @@ impl Inputs {
     pub(crate) fn are_of_first(&self) -> bool
         ensures { result ≡ list_all (λ e. e.0.member == 0) self.now }
     {
-        self.table.entries.iter().all(|entry| entry.0.member == 0)
+        let entries = self.table.entries.as_slice();
+        for entry in entries {
+            if entry.0.member != 0 {
+                return false;
+            }
+        }
+        true
     }
 
     /// Gives this value to a key, where it has one: no key comes or goes. It costs one look-up, and takes no memory.

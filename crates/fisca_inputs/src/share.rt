@@ -41,7 +41,12 @@ fn room_for(variables: &[Variable<'_>], givens: &[Given]) -> usize {
 fn are_alone(counts: &[u32]) -> bool
     ensures { result ≡ list_all (λ c. nat_lt c 2) counts.now }
 {
-    counts.iter().all(|count| *count < 2)
+    for count in counts {
+        if *count >= 2 {
+            return false;
+        }
+    }
+    true
 }
 
 impl Inputs {

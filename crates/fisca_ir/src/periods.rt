@@ -9,7 +9,7 @@ ghost use Rattle.fisca_typing.specs.Periods as spec;
 
 use crate::made;
 use crate::thing::{Thing, Typed};
-use fisca_ast::{Argument, Arguments, Bracket, Expr, FormulaKind, Prefix};
+use fisca_ast::{Argument, Arguments, Delimiter, Expr, FormulaKind, Prefix};
 use fisca_model::ValueType;
 use fisca_num::Fraction;
 use fisca_time::Unit;
@@ -109,7 +109,7 @@ fn unsigned_whole(tree: &Expr) -> Option<Fraction>
 
 /// A whole number alone in parentheses.
 #[cycle(unsigned)]
-fn unsigned_inside(inside: &Arguments, bracket: Bracket) -> Option<Fraction>
+fn unsigned_inside(inside: &Arguments, bracket: Delimiter) -> Option<Fraction>
     ensures { option_map (λ n. n.numerator) result ≡ spec.unsigned_alone bracket (series_view inside.now) }
 {
     match inside {
@@ -120,7 +120,7 @@ fn unsigned_inside(inside: &Arguments, bracket: Bracket) -> Option<Fraction>
 
 /// The same among some arguments.
 #[cycle(unsigned)]
-fn unsigned_alone(items: &[Argument], bracket: Bracket, comma: bool) -> Option<Fraction>
+fn unsigned_alone(items: &[Argument], bracket: Delimiter, comma: bool) -> Option<Fraction>
     ensures { option_map (λ n. n.numerator) result ≡ spec.unsigned_alone bracket (series_of comma (map argument_view items.now)) }
 {
     if comma {
@@ -134,15 +134,15 @@ fn unsigned_alone(items: &[Argument], bracket: Bracket, comma: bool) -> Option<F
 
 /// A whole number as an argument in parentheses.
 #[cycle(unsigned)]
-fn unsigned_in(argument: &Argument, bracket: Bracket) -> Option<Fraction>
+fn unsigned_in(argument: &Argument, bracket: Delimiter) -> Option<Fraction>
     ensures { option_map (λ n. n.numerator) result ≡ spec.unsigned_in bracket (argument_view argument.now) }
 {
     match bracket {
-        Bracket::Round => match argument {
+        Delimiter::Round => match argument {
             Argument::Positional(number) => unsigned_whole(number),
             Argument::Keyword(..) | Argument::Entry(..) => None,
         },
-        Bracket::Square | Bracket::Curly => None,
+        Delimiter::Square | Delimiter::Curly => None,
     }
 }
 
@@ -167,7 +167,7 @@ fn whole(tree: &Expr) -> Option<Fraction>
 
 /// The same alone in parentheses.
 #[cycle(whole)]
-fn whole_inside(inside: &Arguments, bracket: Bracket) -> Option<Fraction>
+fn whole_inside(inside: &Arguments, bracket: Delimiter) -> Option<Fraction>
     ensures { option_map (λ n. n.numerator) result ≡ spec.whole_alone bracket (series_view inside.now) }
 {
     match inside {
@@ -178,7 +178,7 @@ fn whole_inside(inside: &Arguments, bracket: Bracket) -> Option<Fraction>
 
 /// The same among some arguments.
 #[cycle(whole)]
-fn whole_alone(items: &[Argument], bracket: Bracket, comma: bool) -> Option<Fraction>
+fn whole_alone(items: &[Argument], bracket: Delimiter, comma: bool) -> Option<Fraction>
     ensures { option_map (λ n. n.numerator) result ≡ spec.whole_alone bracket (series_of comma (map argument_view items.now)) }
 {
     if comma {
@@ -192,15 +192,15 @@ fn whole_alone(items: &[Argument], bracket: Bracket, comma: bool) -> Option<Frac
 
 /// The same as an argument in parentheses.
 #[cycle(whole)]
-fn whole_in(argument: &Argument, bracket: Bracket) -> Option<Fraction>
+fn whole_in(argument: &Argument, bracket: Delimiter) -> Option<Fraction>
     ensures { option_map (λ n. n.numerator) result ≡ spec.whole_in bracket (argument_view argument.now) }
 {
     match bracket {
-        Bracket::Round => match argument {
+        Delimiter::Round => match argument {
             Argument::Positional(number) => whole(number),
             Argument::Keyword(..) | Argument::Entry(..) => None,
         },
-        Bracket::Square | Bracket::Curly => None,
+        Delimiter::Square | Delimiter::Curly => None,
     }
 }
 

@@ -1,6 +1,6 @@
 -- What is answered for a key below others, in each of its cases.
 use Rattle.std.proofs.Common.{◌≡◌, zero, suc, ◌-◌, ◌<◌, List, [], ◌∷◌, ◌++◌, length, length-append, append_assoc, Result, Ok, Err, refl, sym, ap, ◌∙◌, arith}
-use Rattle.fisca_params.specs.Results.{and_then}
+use Rattle.fisca_num.specs.Results.{and_then}
 use Rattle.fisca_model.specs.Values.{Value, Key}
 use Rattle.fisca_key_semantics.specs.Dialogues.{Dialogue}
 use Rattle.fisca_key_semantics.specs.Dialogues as d

@@ -1,6 +1,6 @@
 -- An inquiry with two oracles.
 use Rattle.std.proofs.Common.{◌≡◌, ◌⊎◌, inl, inr, List, ◌∷◌, Result, Ok, Err, refl, sym, ap, ◌∙◌}
-use Rattle.fisca_params.specs.Results.{and_then}
+use Rattle.fisca_num.specs.Results.{and_then}
 use Rattle.fisca_model.specs.Values.{Value, Key}
 use Rattle.fisca_key_semantics.specs.Answers.{Halt, fault, out, Oracle, outcome}
 use Rattle.fisca_key_semantics.specs.Chains.{IsDefinite, on_value, asked}

@@ -1,6 +1,6 @@
 -- The value of a key: first within a fuel, which is how many keys may be asked for below one another, itself among them; then its answer.
 use Rattle.std.specs.Prelude.{ℕ, zero, suc, List, [], ◌∷◌, if◌then◌else◌, Option, Some, None, Result, Ok, Err}
-use Rattle.fisca_params.specs.Results.{and_then}
+use Rattle.fisca_num.specs.Results.{and_then}
 use Rattle.fisca_model.specs.Values.{Value, Key}
 use Rattle.fisca_model.specs.Causes.{Fault, fault_at, period_mismatch, cycle, too_deep}
 use Rattle.fisca_key_semantics.specs.Inquiry.{Inquiry, gives, fails, asks}

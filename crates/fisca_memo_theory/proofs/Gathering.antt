@@ -1,7 +1,7 @@
 -- The work for a key, question by question.
 use Rattle.std.proofs.Common.{◌≡◌, inl, ℕ, zero, suc, ◌≤◌, max, List, [], ◌∷◌, ◌++◌, Ok, Err, refl, sym, ap, subst, ◌∙◌, arith, ⊎_elim}
 use Rattle.std.proofs.lemmas.List.{append-nil}
-use Rattle.fisca_params.specs.Results.{and_then}
+use Rattle.fisca_num.specs.Results.{and_then}
 use Rattle.fisca_model.specs.Values.{Value, Key}
 use Rattle.fisca_key_semantics.specs.Answers.{Halt, Sources, Oracle, formula, outcome, through, value_within}
 use Rattle.fisca_key_semantics.specs.Chains.{IsDefinite, IsHeight, on_value, asked}

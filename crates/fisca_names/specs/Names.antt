@@ -1,6 +1,6 @@
 -- The statements of a rule set, and the first pass over them: no name comes a second time.
 use Rattle.std.specs.Prelude.{ℕ, suc, List, [], ◌∷◌, ◌++◌, map, Option, Some, None, Result, Ok, Err}
-use Rattle.fisca_params.specs.Results.{and_then}
+use Rattle.fisca_num.specs.Results.{and_then}
 use Rattle.fisca_ast.specs.Modules.{Statement}
 use Rattle.fisca_ast.specs.declared.fault.FormulaKind.{FormulaKind}
 use Rattle.fisca_ast.specs.declared.fault.FormulaKind.TheVariants as kind

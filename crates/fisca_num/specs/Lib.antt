@@ -14,6 +14,7 @@ pub mod Order
 pub mod Part
 pub mod Rational
 pub mod Reduced
+pub mod Results
 pub mod Rounding
 pub mod Tens
 pub mod Text

@@ -54,11 +54,11 @@ impl Fraction {
     }
 
     /// The same of the bytes of a text.
-    #[tactic(auto, unfolding(crate::specs::Literal::number_of_literal))]
+    #[tactic(auto, unfolding(crate::specs::Literal::number_of_literal, crate::specs::Literal::is_negative))]
     pub fn from_literal(text: &[u8]) -> Result<Fraction, NumFault>
         ensures { result ≡ number_of_literal text.now }
     {
-        value_of_unsigned(begins_with_minus(text), without_sign(text))
+        value_of_unsigned(matches!(text, [b'-', ..]), without_sign(text))
     }
 }
 
@@ -117,13 +117,6 @@ fn value_of_parts(
         return Err(NumFault::TooWide);
     }
     decimal(negative, number, read.number, read.count)
-}
-
-/// Whether the text begins with `-`.
-fn begins_with_minus(text: &[u8]) -> bool
-    ensures { result ≡ is_negative text.now }
-{
-    matches!(text, [b'-', ..])
 }
 
 /// The text without a sign at its front.

@@ -17,7 +17,7 @@ use Rattle.fisca_params.specs.Steps.Files.{in_path_order, in_path_order_with, is
 use Rattle.fisca_params.specs.Fits.{Fits, ChildrenFit, FitsAt, FileFits, IsInTheWay, AreApart, IsApart, AllFit}
 use Rattle.fisca_params.specs.Paths.{names_of}
 use Rattle.fisca_params.specs.Places.{content_by, SaysBelow, FileSays, SomeFileSays}
-use Rattle.fisca_params.specs.Results.{and_then}
+use Rattle.fisca_num.specs.Results.{and_then}
 use Rattle.fisca_params.specs.Source.{Source}
 use Rattle.fisca_params.specs.Tree.{TreeNode, child_of, child_node, content_at}
 use Rattle.fisca_params.specs.Steps.Tree.{with_child, with_read, put_map, put_node, put_children, is_description, enter_child, put_below}

@@ -18,7 +18,7 @@ use Rattle.fisca_params.specs.Files.{Placed, with_tree, with_names, with_file, a
 use Rattle.fisca_params.specs.Steps.Files.{in_path_order, tree_of}
 use Rattle.fisca_params.specs.Paths.{names_of}
 use Rattle.fisca_params.specs.Places.{walk, EachReachedOnce, Says, EntrySays, SaysBelow, FileSays, SomeFileSays}
-use Rattle.fisca_params.specs.Results.{and_then}
+use Rattle.fisca_num.specs.Results.{and_then}
 use Rattle.fisca_params.specs.Source.{Source}
 use Rattle.fisca_params.specs.Tree.{TreeNode, child_of, child_node, is_child, is_at, content_at}
 use Rattle.fisca_params.specs.Steps.Tree.{with_child, with_read, put_map, put_node, put_children, is_description, is_folder, describes_folder, enter_child, put_below}

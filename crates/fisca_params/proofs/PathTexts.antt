@@ -8,10 +8,14 @@ use Rattle.std.specs.List.{position_or_len, before_first, after_first}
 use Rattle.std.proofs.lemmas.List.Splits.{slice_split_none, slice_split_first, length-slice_split}
 use Rattle.std.proofs.lemmas.List.Sums.{fails_before_first}
 use Rattle.fisca_yaml.specs.Node.{Node}
-use Rattle.fisca_params.specs.Results.{and_then}
+use Rattle.fisca_num.specs.Results.{and_then}
 use Rattle.fisca_params.specs.Tree.{TreeNode}
 use Rattle.fisca_params.specs.Steps.Tree.{put_below, enter}
 use denote.Ref.{Bor}
+
+pub none_if_not : {X : Type 0} (o : Option X) → ((x : X) → o ≡ Some x → ⊥) → o ≡ None
+none_if_not None h = refl
+none_if_not (Some x) h = absurd (h x refl)
 
 pub ending_is : (n s : List ℕ) (r : Option (Bor (List ℕ))) → MatchOption r (FindsTextSuffix n s None) (λ x. StripsSuffix (FindsTextSuffix n) s x.now)
     → option_map (λ x. x.now) r ≡ without_ending n s

@@ -3,8 +3,8 @@ use Rattle.std.proofs.Common.{◌≡◌, ℕ, ◌+◌, ◌<◌, List, [], ◌∷
 use Rattle.std.specs.List.{enumerate_from}
 use Rattle.fisca_params.specs.declared.fault.NodeFault.{NodeFault}
 use Rattle.fisca_params.specs.declared.fault.NodeFault.TheVariants as node
-use Rattle.fisca_params.specs.declared.fault.ParamFault.{ParamFault}
-use Rattle.fisca_params.specs.declared.fault.ParamFault.TheVariants as params
+use Rattle.fisca_scales.specs.declared.fault.ParamFault.{ParamFault}
+use Rattle.fisca_scales.specs.declared.fault.ParamFault.TheVariants as params
 use Rattle.fisca_params.specs.Answers.{cause_of, fault_in, Refuses, file_of}
 use Rattle.fisca_params.specs.Causes.{Cause, bad_parameter, duplicate_name, Refused}
 use Rattle.fisca_params.specs.Files.{Placed, after_file, with_file, with_files, root_alone}

@@ -3,8 +3,8 @@ use Rattle.std.specs.Prelude.{◌≡◌, ◌≢◌, ℕ, Option, Some, None, Res
 use Rattle.fisca_yaml.specs.declared.fault.YamlKind.TheVariants as kind
 use Rattle.fisca_params.specs.declared.fault.NodeFault.{NodeFault}
 use Rattle.fisca_params.specs.declared.fault.NodeFault.TheVariants as fault
-use Rattle.fisca_params.specs.declared.fault.ParamFault.{ParamFault}
-use Rattle.fisca_params.specs.declared.fault.ParamFault.TheVariants as params
+use Rattle.fisca_scales.specs.declared.fault.ParamFault.{ParamFault}
+use Rattle.fisca_scales.specs.declared.fault.ParamFault.TheVariants as params
 use Rattle.fisca_params.specs.Causes.{Cause, no_yaml_tree, bad_parameter, duplicate_name, Refused}
 
 -- the cause that a fault tells; want of memory is none

@@ -8,10 +8,10 @@ use Rattle.fisca_params.specs.declared.content.NodeKind.{NodeKind}
 use Rattle.fisca_params.specs.declared.content.NodeKind.TheVariants as kind
 use Rattle.fisca_params.specs.declared.content.ParamValue.{ParamValue}
 use Rattle.fisca_params.specs.declared.content.ParamValue.TheVariants as value
-use Rattle.fisca_params.specs.declared.fault.ParamFault.{ParamFault}
-use Rattle.fisca_params.specs.declared.fault.ParamFault.TheVariants as fault
-use Rattle.fisca_params.specs.Dates.{value_at}
-use Rattle.fisca_params.specs.Scale.{ScaleText, scale_sum}
+use Rattle.fisca_scales.specs.declared.fault.ParamFault.{ParamFault}
+use Rattle.fisca_scales.specs.declared.fault.ParamFault.TheVariants as fault
+use Rattle.fisca_scales.specs.Dates.{value_at}
+use Rattle.fisca_scales.specs.Scale.{ScaleText, scale_sum}
 
 abbrev pub kind_of_content : Content → NodeKind
 kind_of_content content.Folder = kind.Node

@@ -1,10 +1,6 @@
 pub mod Content
-pub mod Dates
 pub mod FaultLines
 pub mod Files
 pub mod Lookup
-pub mod Lowest
 pub mod Paths
-pub mod Scale
-pub mod Tally
 pub mod Tree

@@ -1,7 +1,6 @@
 //! What a node of the parameter tree is.
-use crate::dates::Dates;
-use crate::scale::Scale;
 use fisca_num::Fraction;
+use fisca_scales::{Dates, Scale};
 
 /// What a node of the parameter tree is.
 #[derive(Debug, Drop)]

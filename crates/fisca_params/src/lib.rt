@@ -1,25 +1,20 @@
 //! Parameters and scales of a rule set, read from its YAML files.
 #![tactic(auto)]
 
-mod bracket;
 mod build;
 mod content;
-mod dates;
+mod dated;
 mod fault;
 mod law;
-mod lowest;
 mod nodes;
 mod parameter;
 mod read;
-mod scale;
-mod sorted;
 mod source;
-mod tally;
 mod tree;
 mod written;
 
 pub use content::{NodeKind, ParamValue};
-pub use fault::ParamFault;
+pub use fisca_scales::ParamFault;
 pub use law::{
     each_node_is_reached_once, files_stand_at_their_paths, files_that_fit_make_a_tree,
     nothing_else_stands,

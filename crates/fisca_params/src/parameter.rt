@@ -8,13 +8,12 @@ ghost use Rattle.fisca_params.specs.FaultLines.{values_line, field_line, unreada
 ghost use Rattle.fisca_params.specs.Content.{first_line};
 ghost use Rattle.fisca_params.specs.Steps.Content.{parameter_in, number_dates, dates_or_none, is_bracket_field, names_field, bracket_of, brackets_of, brackets_in, is_single_amount, scale_of};
 
-use crate::bracket::Bracket;
 use crate::content::Content;
-use crate::dates::{Dates, dates_in};
+use crate::dated::dates_in;
 use crate::fault::NodeFault;
-use crate::scale::Scale;
 use crate::written::{date_map, line_of, read_written};
 use fisca_num::Fraction;
+use fisca_scales::{Bracket, Dates, Scale};
 use fisca_yaml::{Entry, Item, Tree};
 use std::alloc::Global;
 

@@ -6,7 +6,7 @@ use Rattle.fisca_lexer.specs.declared.token.Mark.TheVariants as mark
 use Rattle.fisca_lexer.specs.Tokens.{tokens_from}
 use Rattle.fisca_expr_parser.specs.declared.sign.Sign.{Sign}
 use Rattle.fisca_expr_parser.specs.declared.sign.Sign.TheVariants as sign
-use Rattle.fisca_ast.specs.declared.tree.Bracket.TheVariants as bracket
+use Rattle.fisca_ast.specs.declared.tree.Delimiter.TheVariants as bracket
 use Rattle.fisca_ast.specs.declared.tree.Suffix.TheVariants as suffix
 use Rattle.fisca_expr_parser.specs.Steps.Marks.{same_mark}
 use Rattle.fisca_expr_parser.specs.Reading.{reads, climb, operand, joined, compared}

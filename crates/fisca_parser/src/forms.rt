@@ -6,7 +6,9 @@ ghost use Rattle.fisca_ast.specs.Views.{tree, series_view, argument_view};
 ghost use Rattle.fisca_parser.specs.Steps.Forms as spec;
 ghost use Rattle.fisca_ast.specs.ModuleViews.{assigned, statement};
 
-use fisca_ast::{Argument, Arguments, Assignment, Bracket, Expr, Statement, Suffix, bare, is_name};
+use fisca_ast::{
+    Argument, Arguments, Assignment, Delimiter, Expr, Statement, Suffix, bare, is_name,
+};
 
 /// Whether this name and nothing else.
 fn is_the_name(word: &[u8], value: &Expr) -> bool
@@ -69,7 +71,12 @@ fn is_any_name(argument: &Argument) -> bool
 fn all_names(items: &[Argument]) -> bool
     ensures { result ≡ list_all (λ a. spec.is_any_name (argument_view a)) items.now }
 {
-    items.iter().all(|a| is_any_name(a))
+    for item in items {
+        if !is_any_name(item) {
+            return false;
+        }
+    }
+    true
 }
 
 /// Whether names.
@@ -85,8 +92,8 @@ fn is_list_of_names(value: &Expr) -> bool
     ensures { result ≡ spec.is_list_of_names (tree value.now) }
 {
     match bare(value) {
-        Expr::Bracketed(Bracket::Square, arguments) => are_names(arguments),
-        Expr::Bracketed(Bracket::Round | Bracket::Curly, _)
+        Expr::Bracketed(Delimiter::Square, arguments) => are_names(arguments),
+        Expr::Bracketed(Delimiter::Round | Delimiter::Curly, _)
         | Expr::Name(_)
         | Expr::Number(_)
         | Expr::Text(_)

@@ -1,11 +1,11 @@
 -- What a refusal that names a parameter file or a module tells.
 use Rattle.std.proofs.Common.{◌≡◌, ◌≤◌, inl, inr, ℕ, List, Some, Ok, Err, slice_get, string_bytes, refl, sym, ◌∙◌, subst}
 use Rattle.fisca_names.specs.declared.fault.BuildFault.{BuildFault}
-use Rattle.fisca_params.specs.Results.{and_then}
+use Rattle.fisca_num.specs.Results.{and_then}
 use Rattle.fisca_params.specs.Source.{Source}
 use Rattle.fisca_params.specs.Tree.{TreeNode}
-use Rattle.fisca_params.specs.declared.fault.ParamFault.{ParamFault}
-use Rattle.fisca_params.specs.declared.fault.ParamFault.TheVariants as params
+use Rattle.fisca_scales.specs.declared.fault.ParamFault.{ParamFault}
+use Rattle.fisca_scales.specs.declared.fault.ParamFault.TheVariants as params
 use Rattle.fisca_rules.specs.Steps.Rules.{rules_of}
 use Rattle.fisca_ast.specs.Modules.{Statement}
 use Rattle.fisca_parser.specs.Reading.{module_of}

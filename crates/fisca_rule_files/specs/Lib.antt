@@ -1,4 +1,5 @@
 pub mod Check
+pub mod Ending
 pub mod Listing
 pub mod Modules
 pub mod Refusal

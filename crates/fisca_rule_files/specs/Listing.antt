@@ -9,7 +9,7 @@ use Rattle.fisca_folder.specs.Shown.{shown}
 use Rattle.fisca_forms.specs.Forms.{quoted}
 use Rattle.fisca_forms.specs.LineForms.{Form, line_in}
 use Rattle.fisca_params.specs.Source.{Source}
-use Rattle.fisca_rules.specs.Rules.{Dated, Rules}
+use Rattle.fisca_rules.specs.Rules.{DatedFormula, Rules}
 use Rattle.fisca_symbols.specs.declared.choices.Choices.{Choices}
 use Rattle.fisca_symbols.specs.declared.entity.Entity.{Entity}
 use Rattle.fisca_symbols.specs.declared.variable.DeclaredType.{DeclaredType}
@@ -61,17 +61,17 @@ period_text unit.Year = codes "year"
 period_text unit.Eternity = codes "eternity"
 
 -- the first days of formulas, each behind a space
-abbrev pub starts_text : List Dated → List ℕ
+abbrev pub starts_text : List DatedFormula → List ℕ
 starts_text [] = []
 starts_text (d ∷ ds) = codes " " ++ (date_text d.start ++ starts_text ds)
 
 -- the first days of the formulas of a variable from top to bottom; one without formulas has inputs alone
-abbrev pub formulas_text : List Dated → List ℕ
+abbrev pub formulas_text : List DatedFormula → List ℕ
 formulas_text [] = codes "input"
 formulas_text (d ∷ ds) = date_text d.start ++ starts_text ds
 
 -- the formulas at a place, if it has some
-abbrev pub formulas_in : Option (List Dated) → List Dated
+abbrev pub formulas_in : Option (List DatedFormula) → List DatedFormula
 formulas_in None = []
 formulas_in (Some ds) = ds
 

@@ -5,7 +5,7 @@ use Rattle.std.specs.declared.convert.Infallible.{Infallible}
 use Rattle.fisca_columns.specs.Faults.{name_of as name_of_file}
 use Rattle.fisca_model.specs.EvalFaults.{name_of as name_of_eval}
 use Rattle.fisca_grid.specs.AxesFault.{name_of}
-use Rattle.fisca_params.specs.Names.{name_of as name_of_params}
+use Rattle.fisca_scales.specs.Names.{name_of as name_of_params}
 use Rattle.fisca_ast.specs.Faults.{name_of as name_of_kind}
 use Rattle.fisca_yaml.specs.Faults.{name_of as name_of_yaml}
 use Rattle.fisca_grid.specs.declared.axes.AxesFault.TheVariants as axes

@@ -6,8 +6,8 @@ use Rattle.fisca_params.specs.Answers.{Refuses}
 use Rattle.fisca_params.specs.Steps.Files.{tree_of}
 use Rattle.fisca_params.specs.Source.{Source}
 use Rattle.fisca_params.specs.Tree.{TreeNode}
-use Rattle.fisca_params.specs.declared.fault.ParamFault.{ParamFault}
-use Rattle.fisca_params.specs.declared.fault.ParamFault.TheVariants as params
+use Rattle.fisca_scales.specs.declared.fault.ParamFault.{ParamFault}
+use Rattle.fisca_scales.specs.declared.fault.ParamFault.TheVariants as params
 use Rattle.fisca_rules.specs.Rules.{Rules}
 use Rattle.fisca_rule_files.specs.Modules.{rules_by, IsRefusalOf}
 use Rattle.fisca_rule_files.specs.declared.refusal.Refusal.{Refusal}

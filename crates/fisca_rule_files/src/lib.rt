@@ -1,8 +1,9 @@
-//! The rule set that files make together, what is listed of it, and why a command of the program was refused.
+//! The rule set that files make together, what is listed of it, why a command of the program was refused, and how one ended.
 #![tactic(auto)]
 
 mod cells;
 mod check;
+mod ending;
 mod law;
 mod listing;
 mod modules;
@@ -12,6 +13,7 @@ mod texts;
 
 pub use cells::list_names;
 pub use check::check_rules;
+pub use ending::Ending;
 pub use law::each_variable_has_its_line;
 pub use listing::write_listing;
 pub use modules::modules_of;

@@ -9,7 +9,7 @@ ghost use Rattle.fisca_time.specs.PeriodText.{date_text};
 use fisca_declarations::Declaration;
 use fisca_folder::write_shown;
 use fisca_params::SourceFile;
-use fisca_rules::{Dated, RuleSet};
+use fisca_rules::{DatedFormula, RuleSet};
 use fisca_symbols::{DeclaredType, SourceText};
 use fisca_time::{Instant, Unit};
 use std::alloc::{AllocError, Global};
@@ -100,7 +100,11 @@ fn date_text(alloc: Global, date: Instant) -> Result<String, AllocError>
 }
 
 /// Appends the first days of formulas, each behind a space.
-fn write_starts(alloc: Global, formulas: &[Dated], text: &mut String) -> Result<(), AllocError>
+fn write_starts(
+    alloc: Global,
+    formulas: &[DatedFormula],
+    text: &mut String,
+) -> Result<(), AllocError>
     ensures { OnOk result (string_bytes text.new ≡ string_bytes text.old ++ spec.starts_text (map dated formulas.now)) }
 {
     for formula in formulas {
@@ -112,7 +116,7 @@ fn write_starts(alloc: Global, formulas: &[Dated], text: &mut String) -> Result<
 }
 
 /// The first days of formulas from top to bottom; where there are none, that there are inputs alone.
-fn formulas_text(alloc: Global, formulas: &[Dated]) -> Result<String, AllocError>
+fn formulas_text(alloc: Global, formulas: &[DatedFormula]) -> Result<String, AllocError>
     ensures { IfOk result (λ text. string_bytes text ≡ spec.formulas_text (map dated formulas.now)) }
 {
     match formulas {

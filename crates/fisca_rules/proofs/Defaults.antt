@@ -16,7 +16,7 @@ use Rattle.fisca_ast.specs.Tree.{Tree}
 use Rattle.fisca_ast.specs.Words.{is}
 use Rattle.fisca_names.specs.Names.{Placed, placed_from, names_from, told_at}
 use Rattle.fisca_num.specs.Number.{Number}
-use Rattle.fisca_params.specs.Results.{and_then}
+use Rattle.fisca_num.specs.Results.{and_then}
 use Rattle.fisca_params.specs.Tree.{TreeNode}
 use Rattle.fisca_ast.specs.Modules.{Item, Statement, entity, entities, choices, variable}
 use Rattle.fisca_symbols.specs.KnownEnums.{choices as known_choices}
@@ -36,7 +36,7 @@ use Rattle.fisca_declarations.specs.VariableForms.{Written}
 use Rattle.fisca_declarations.specs.Steps.VariableForms.{declaration_by, declared_type, default_of, default_or_none, default_typed, if_allowed, is_int, joined, member_of, member_place, no_default, read, said, type_lines, variable_by, variable_of}
 use Rattle.fisca_declarations.specs.declared.declared.Declared.{Declared}
 use Rattle.fisca_declarations.specs.declared.types.TypeLines.{TypeLines}
-use Rattle.fisca_rules.specs.Rules.{Dated, Rules, known}
+use Rattle.fisca_rules.specs.Rules.{DatedFormula, Rules, known}
 use Rattle.fisca_rules.specs.Steps.Rules.{all_formulas, formulas_by, formulas_of, rules_of, with_formulas}
 use Rattle.fisca_rules.specs.Safety.{is_number, is_whole, is_bool, is_date, is_text, is_member, is_default, AllDefaultsFit, DefaultsFit, AreUncomputed, DaysAndTextsHaveNoFormulas}
 use Rattle.fisca_rules.proofs.Beside.{declared_beside}
@@ -214,11 +214,11 @@ defaults_fit nodes ms r h =
 
 -- Days and texts
 
-none_computed : (c : Tables) (place : ℕ) (d : Written) (o : Option ValueType) (ds : List Dated) → formulas_by c place d o ≡ Ok ds → o ≡ None → ds ≡ []
+none_computed : (c : Tables) (place : ℕ) (d : Written) (o : Option ValueType) (ds : List DatedFormula) → formulas_by c place d o ≡ Ok ds → o ≡ None → ds ≡ []
 none_computed c place d None ds h none = cc
 none_computed c place d (Some t) ds h none = cc
 
-all_uncomputed : (c : Tables) (vs : List Variable) (ws : List Written) → length vs ≡ length ws → (fs : List (List Dated)) → all_formulas c vs ws ≡ Ok fs → AreUncomputed vs fs
+all_uncomputed : (c : Tables) (vs : List Variable) (ws : List Written) → length vs ≡ length ws → (fs : List (List DatedFormula)) → all_formulas c vs ws ≡ Ok fs → AreUncomputed vs fs
 unfolding formulas_of
 all_uncomputed c [] [] long fs h = let same : [] ≡ fs = cc in subst (AreUncomputed []) same tt
 all_uncomputed c [] (w ∷ ws) long fs h = absurd (omega (arith, long))

@@ -2,7 +2,7 @@
 use Rattle.std.proofs.Common.{◌≡◌, ◌∙◌, sym, ap, List, [], ◌∷◌, ◌++◌, map, zip, ◌⊎◌, inl, inr, refl, append_assoc, append-nil}
 use Rattle.std.specs.Prelude.{Result, Ok, Err}
 use Rattle.fisca_check.specs.Formulas.{assigned as local}
-use Rattle.fisca_params.specs.Results.{and_then}
+use Rattle.fisca_num.specs.Results.{and_then}
 use Rattle.fisca_rules.specs.Rules.{all_of, assigned_of}
 use Rattle.fisca_ast.specs.ModuleViews.{assigned}
 use Rattle.fisca_ast.specs.declared.module.Assignment.{Assignment}

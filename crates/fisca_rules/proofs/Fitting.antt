@@ -7,7 +7,7 @@ use Rattle.fisca_attributes.specs.Steps.AttributeForms.{value_at}
 use Rattle.fisca_attributes.specs.Values.{bad_attribute}
 use Rattle.fisca_names.specs.declared.fault.BuildFault.{BuildFault}
 use Rattle.fisca_names.specs.Names.{told_at}
-use Rattle.fisca_params.specs.Results.{and_then}
+use Rattle.fisca_num.specs.Results.{and_then}
 use Rattle.fisca_ast.specs.Modules.{Assigned, Item, attribute, formula}
 use Rattle.fisca_ast.specs.Tree.{Tree}
 use Rattle.fisca_ast.specs.Words.{is}

@@ -1,7 +1,7 @@
 -- Formulas among the lines of a variable, one after another, up to the first fault.
 use Rattle.std.proofs.Common.{◌≡◌, ◌∙◌, sym, ap, List, [], ◌∷◌, ◌++◌, map}
 use Rattle.std.specs.Prelude.{Result, Ok, Err}
-use Rattle.fisca_params.specs.Results.{and_then}
+use Rattle.fisca_num.specs.Results.{and_then}
 use Rattle.fisca_ast.specs.Modules.{Formula}
 use Rattle.fisca_ast.specs.ModuleViews.{formula_view}
 use Rattle.fisca_ast.specs.declared.module.ClassLine.{ClassLine}

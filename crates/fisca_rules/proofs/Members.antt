@@ -19,7 +19,7 @@ use Rattle.fisca_model.specs.Tables.{type_in}
 use Rattle.fisca_formula_semantics.specs.Wellformed.{HasMembers}
 use Rattle.fisca_names.specs.declared.fault.BuildFault.{BuildFault}
 use Rattle.fisca_names.specs.Names.{Placed, placed_from, names_from, fault_at, told_at}
-use Rattle.fisca_params.specs.Results.{and_then}
+use Rattle.fisca_num.specs.Results.{and_then}
 use Rattle.fisca_params.specs.Tree.{TreeNode}
 use Rattle.fisca_rules.specs.Rules.{known}
 use Rattle.std.proofs.lemmas.Bool.{lt-ltb}

@@ -8,7 +8,7 @@ use Rattle.fisca_model.specs.Groups.{Groups, Point}
 use Rattle.fisca_formula_semantics.specs.Safe.{IsSafe}
 use Rattle.fisca_formula_semantics.specs.Wellformed.{HasMembers, before_cast}
 use Rattle.fisca_params.specs.Tree.{TreeNode}
-use Rattle.fisca_rules.specs.Rules.{Dated, Rules, all_of, assigned_of, known}
+use Rattle.fisca_rules.specs.Rules.{DatedFormula, Rules, all_of, assigned_of, known}
 use Rattle.fisca_rules.specs.Steps.Rules.{all_formulas, dated_of, formulas_by, formulas_of, names_for, rules_of, told_in}
 use Rattle.fisca_rules.specs.Safety.{IsNeverStuck, AllNeverStuck, EachNeverStuck, AreNeverStuck}
 use Rattle.fisca_ast.specs.Modules.{Formula, Statement}
@@ -29,7 +29,7 @@ told_in_ok : {X : Type 0} (place : ℕ) (f : Formula) (r : Result X typing.Refus
 told_in_ok place f (Ok x) y h = let same : x ≡ y = cc in ap (λ z. Ok z) same
 told_in_ok place f (Err r) y h = cc
 
-dated_safe : TypedAreSafe → (c : Tables) → HasMembers c → (v : Variable) (t : ValueType) → value_type v.value_type ≡ Some t → (place : ℕ) (f : Formula) (d : Dated) → dated_of c place v.entity t f ≡ Ok d → IsNeverStuck c v d
+dated_safe : TypedAreSafe → (c : Tables) → HasMembers c → (v : Variable) (t : ValueType) → value_type v.value_type ≡ Some t → (place : ℕ) (f : Formula) (d : DatedFormula) → dated_of c place v.entity t f ≡ Ok d → IsNeverStuck c v d
 unfolding dated_of
 dated_safe safe c have v t is place f d h = λ groups u of_u p.
     let formula = typing.formula_of (names_for c v.entity f) t (map assigned_of f.locals) f.returned.value in
@@ -41,7 +41,7 @@ dated_safe safe c have v t is place f d h = λ groups u of_u p.
     (subst (λ s. IsSafe c (before_cast s) (formula_means c groups one.0 p)) same
     (safe (names_for c v.entity f) groups t (map assigned_of f.locals) f.returned.value one.0 refl have typed p))
 
-all_safe : TypedAreSafe → (c : Tables) → HasMembers c → (v : Variable) (t : ValueType) → value_type v.value_type ≡ Some t → (place : ℕ) (fs : List Formula) (ds : List Dated) → all_of (dated_of c place v.entity t) fs ≡ Ok ds → AllNeverStuck c v ds
+all_safe : TypedAreSafe → (c : Tables) → HasMembers c → (v : Variable) (t : ValueType) → value_type v.value_type ≡ Some t → (place : ℕ) (fs : List Formula) (ds : List DatedFormula) → all_of (dated_of c place v.entity t) fs ≡ Ok ds → AllNeverStuck c v ds
 all_safe safe c have v t is place [] ds h = let same : [] ≡ ds = cc in subst (λ xs. AllNeverStuck c v xs) same tt
 all_safe safe c have v t is place (f ∷ fs) ds h =
     let one = then_ok _ _ _ h in
@@ -49,11 +49,11 @@ all_safe safe c have v t is place (f ∷ fs) ds h =
     let same : one.0 ∷ rest.0 ≡ ds = cc in
     subst (λ xs. AllNeverStuck c v xs) same (dated_safe safe c have v t is place f one.0 one.1, all_safe safe c have v t is place fs rest.0 rest.1)
 
-variable_safe : TypedAreSafe → (c : Tables) → HasMembers c → (v : Variable) (w : Written) (o : Option ValueType) → value_type v.value_type ≡ o → (ds : List Dated) → formulas_by c v.entity w o ≡ Ok ds → AllNeverStuck c v ds
+variable_safe : TypedAreSafe → (c : Tables) → HasMembers c → (v : Variable) (w : Written) (o : Option ValueType) → value_type v.value_type ≡ o → (ds : List DatedFormula) → formulas_by c v.entity w o ≡ Ok ds → AllNeverStuck c v ds
 variable_safe safe c have v w None is ds h = let same : [] ≡ ds = cc in subst (λ xs. AllNeverStuck c v xs) same tt
 variable_safe safe c have v w (Some t) is ds h = all_safe safe c have v t is w.module w.formulas ds h
 
-variables_safe : TypedAreSafe → (c : Tables) → HasMembers c → (vs : List Variable) (ws : List Written) → length vs ≡ length ws → (fs : List (List Dated)) → all_formulas c vs ws ≡ Ok fs → EachNeverStuck c vs fs
+variables_safe : TypedAreSafe → (c : Tables) → HasMembers c → (vs : List Variable) (ws : List Written) → length vs ≡ length ws → (fs : List (List DatedFormula)) → all_formulas c vs ws ≡ Ok fs → EachNeverStuck c vs fs
 unfolding formulas_of
 variables_safe safe c have [] [] long fs h = let same : [] ≡ fs = cc in subst (λ xs. EachNeverStuck c [] xs) same tt
 variables_safe safe c have [] (w ∷ ws) long fs h = absurd (omega (arith, long))

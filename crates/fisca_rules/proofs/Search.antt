@@ -10,13 +10,13 @@ use Rattle.std.specs.Ordering.{is_eq, is_gt, is_lt, ordering_reverse}
 use Rattle.std.specs.declared.cmp.Ordering.{Ordering}
 use Rattle.std.specs.declared.cmp.Ordering.TheVariants.{Less, Equal, Greater}
 use Rattle.std.proofs.lemmas.Cmp.{tied_itself}
-use Rattle.fisca_params.proofs.Latest.{date_total}
+use Rattle.fisca_scales.proofs.Latest.{date_total}
 use Rattle.fisca_time.specs.Instant.{CivilDate, date_cmp}
 use Rattle.fisca_rules.specs.Rules as rules
 use Rattle.fisca_rules.specs.Starts.{place_from, AreStarts, IsLastStart, NoneStarts}
 use Rattle.fisca_rules.specs.Steps.InForce.{later, latest_with, latest_of, in_force}
 use Rattle.fisca_rules.specs.Views.{dated}
-use Rattle.fisca_rules.specs.declared.dated.Dated.{Dated}
+use Rattle.fisca_rules.specs.declared.dated.DatedFormula.{DatedFormula}
 
 some_is : {X : Type 0} (x y : X) → Some x ≡ Some y → x ≡ y
 some_is x y h = ap (λ o. unwrap_or o x) h
@@ -51,31 +51,31 @@ starts_itself day = ap is_eq (tied_itself date_total day)
 
 -- The first formula that starts on a day
 
-abbrev first_on : CivilDate → List Dated → Option Dated
+abbrev first_on : CivilDate → List DatedFormula → Option DatedFormula
 first_on day [] = None
 first_on day (d ∷ ds) = if is_eq (date_cmp d.start day) then Some d else first_on day ds
 
-here_on : (day : CivilDate) (d : Dated) (ds : List Dated) → is_eq (date_cmp d.start day) ≡ true → first_on day (d ∷ ds) ≡ Some d
+here_on : (day : CivilDate) (d : DatedFormula) (ds : List DatedFormula) → is_eq (date_cmp d.start day) ≡ true → first_on day (d ∷ ds) ≡ Some d
 here_on day d ds e = rw e refl
 
-behind_on : (day : CivilDate) (d : Dated) (ds : List Dated) → is_eq (date_cmp d.start day) ≡ false → first_on day (d ∷ ds) ≡ first_on day ds
+behind_on : (day : CivilDate) (d : DatedFormula) (ds : List DatedFormula) → is_eq (date_cmp d.start day) ≡ false → first_on day (d ∷ ds) ≡ first_on day ds
 behind_on day d ds e = rw e refl
 
-place_here : (n : ℕ) (day : CivilDate) (d : Dated) (ds : List Dated) → is_eq (date_cmp d.start day) ≡ true → place_from n (d ∷ ds) day ≡ Some n
+place_here : (n : ℕ) (day : CivilDate) (d : DatedFormula) (ds : List DatedFormula) → is_eq (date_cmp d.start day) ≡ true → place_from n (d ∷ ds) day ≡ Some n
 place_here n day d ds e = rw e refl
 
-place_behind : (n : ℕ) (day : CivilDate) (d : Dated) (ds : List Dated) → is_eq (date_cmp d.start day) ≡ false → place_from n (d ∷ ds) day ≡ place_from (suc n) ds day
+place_behind : (n : ℕ) (day : CivilDate) (d : DatedFormula) (ds : List DatedFormula) → is_eq (date_cmp d.start day) ≡ false → place_from n (d ∷ ds) day ≡ place_from (suc n) ds day
 place_behind n day d ds e = rw e refl
 
 -- where it stands
-record Stands (n : ℕ) (ds : List Dated) (day : CivilDate) (place : ℕ) : Type 0 where
+record Stands (n : ℕ) (ds : List DatedFormula) (day : CivilDate) (place : ℕ) : Type 0 where
   behind : ℕ
-  formula : Dated
+  formula : DatedFormula
   is : place ≡ behind + n
   there : slice_get ds behind ≡ Some formula
   first : first_on day ds ≡ Some formula
 
-stands : (n : ℕ) (ds : List Dated) (day : CivilDate) (place : ℕ) → place_from n ds day ≡ Some place → Stands n ds day place
+stands : (n : ℕ) (ds : List DatedFormula) (day : CivilDate) (place : ℕ) → place_from n ds day ≡ Some place → Stands n ds day place
 stands n [] day place h = absurd (not_some place h)
 stands n (d ∷ ds) day place h = by (stands (suc n) ds day place) (is_eq (date_cmp d.start day)) refl
   where
@@ -89,11 +89,11 @@ stands n (d ∷ ds) day place h = by (stands (suc n) ds day place) (is_eq (date_
 
 -- Of these, those that start by the day do not start after another day
 
-abbrev AllUpTo : CivilDate → CivilDate → List Dated → Type 0
+abbrev AllUpTo : CivilDate → CivilDate → List DatedFormula → Type 0
 AllUpTo day start [] = ⊤
 AllUpTo day start (d ∷ ds) = (is_gt (date_cmp d.start day) ≡ false → is_lt (date_cmp start d.start) ≡ false) × AllUpTo day start ds
 
-all_upto : (n : ℕ) (day start : CivilDate) (ds : List Dated) →
+all_upto : (n : ℕ) (day start : CivilDate) (ds : List DatedFormula) →
     ((other : CivilDate) → is_gt (date_cmp other day) ≡ false → IsSome (place_from n ds other) → is_lt (date_cmp start other) ≡ false) → AllUpTo day start ds
 all_upto n day start [] h = tt
 all_upto n day start (d ∷ ds) h =
@@ -104,20 +104,20 @@ all_upto n day start (d ∷ ds) h =
     more other some false e = ap is_some (place_behind n other d ds e) ∙ some
 
 -- what is found with one more
-with_later : (day : CivilDate) (found : Option rules.Dated) (e : rules.Dated) → is_gt (date_cmp e.start day) ≡ false → latest_with day found e ≡ Some (later found e)
+with_later : (day : CivilDate) (found : Option rules.DatedFormula) (e : rules.DatedFormula) → is_gt (date_cmp e.start day) ≡ false → latest_with day found e ≡ Some (later found e)
 with_later day found e s = rw s refl
 
-with_none : (day : CivilDate) (found : Option rules.Dated) (e : rules.Dated) → is_gt (date_cmp e.start day) ≡ true → latest_with day found e ≡ found
+with_none : (day : CivilDate) (found : Option rules.DatedFormula) (e : rules.DatedFormula) → is_gt (date_cmp e.start day) ≡ true → latest_with day found e ≡ found
 with_none day found e s = rw s refl
 
-later_left : (e d : rules.Dated) → is_gt (date_cmp d.start e.start) ≡ false → later (Some e) d ≡ e
+later_left : (e d : rules.DatedFormula) → is_gt (date_cmp d.start e.start) ≡ false → later (Some e) d ≡ e
 later_left e d g = rw g refl
 
-later_right : (e d : rules.Dated) → is_gt (date_cmp d.start e.start) ≡ true → later (Some e) d ≡ d
+later_right : (e d : rules.DatedFormula) → is_gt (date_cmp d.start e.start) ≡ true → later (Some e) d ≡ d
 later_right e d g = rw g refl
 
 -- what starts on the other day stays
-stays : (day start : CivilDate) (e : rules.Dated) (ds : List Dated) → date_cmp e.start start ≡ Equal → AllUpTo day start ds → latest_of day (Some e) (map dated ds) ≡ Some e
+stays : (day start : CivilDate) (e : rules.DatedFormula) (ds : List DatedFormula) → date_cmp e.start start ≡ Equal → AllUpTo day start ds → latest_of day (Some e) (map dated ds) ≡ Some e
 stays day start e [] tie h = refl
 stays day start e (d ∷ ds) tie h = by (stays day start e ds tie h.1) (is_gt (date_cmp d.start day)) refl
   where
@@ -130,18 +130,18 @@ stays day start e (d ∷ ds) tie h = by (stays day start e ds tie h.1) (is_gt (d
         ap (λ o. latest_of day o (map dated ds)) same ∙ rest
 
 -- what is found so far starts before a day
-abbrev IsEarlier : CivilDate → Option rules.Dated → Type 0
+abbrev IsEarlier : CivilDate → Option rules.DatedFormula → Type 0
 IsEarlier start None = ⊤
 IsEarlier start (Some f) = is_lt (date_cmp f.start start) ≡ true
 
-later_is : (start : CivilDate) (found : Option rules.Dated) (e : rules.Dated) → IsEarlier start found → date_cmp e.start start ≡ Equal → later found e ≡ e
+later_is : (start : CivilDate) (found : Option rules.DatedFormula) (e : rules.DatedFormula) → IsEarlier start found → date_cmp e.start start ≡ Equal → later found e ≡ e
 later_is start None e h tie = refl
 later_is start (Some f) e h tie =
     let after : is_gt (date_cmp e.start f.start) ≡ true =
     ap is_gt (date_total.congr e.start start f.start tie ∙ date_total.antisymm start f.start) ∙ after_from (date_cmp f.start start) h in
     later_right f e after
 
-earlier_with : (start : CivilDate) (found : Option rules.Dated) (e : rules.Dated) → IsEarlier start found → is_lt (date_cmp e.start start) ≡ true → IsEarlier start (Some (later found e))
+earlier_with : (start : CivilDate) (found : Option rules.DatedFormula) (e : rules.DatedFormula) → IsEarlier start found → is_lt (date_cmp e.start start) ≡ true → IsEarlier start (Some (later found e))
 earlier_with start None e h b = b
 earlier_with start (Some f) e h b = by (is_gt (date_cmp e.start f.start)) refl
   where
@@ -149,13 +149,13 @@ earlier_with start (Some f) e h b = by (is_gt (date_cmp e.start f.start)) refl
     by true g = ap (λ x. is_lt (date_cmp x.start start)) (later_right f e g) ∙ b
     by false g = ap (λ x. is_lt (date_cmp x.start start)) (later_left f e g) ∙ h
 
-latest_is : (day start : CivilDate) (found : Option rules.Dated) (ds : List Dated) (e : Dated) → first_on start ds ≡ Some e → is_gt (date_cmp start day) ≡ false →
+latest_is : (day start : CivilDate) (found : Option rules.DatedFormula) (ds : List DatedFormula) (e : DatedFormula) → first_on start ds ≡ Some e → is_gt (date_cmp start day) ≡ false →
     AllUpTo day start ds → IsEarlier start found → latest_of day found (map dated ds) ≡ Some (dated e)
 latest_is day start found [] e is s h before = absurd (not_some e is)
 latest_is day start found (d ∷ ds) e is s h before =
     by (λ found' is' before'. latest_is day start found' ds e is' s h.1 before') (is_eq (date_cmp d.start start)) refl (is_gt (date_cmp d.start day)) refl
   where
-    by : ((found' : Option rules.Dated) → first_on start ds ≡ Some e → IsEarlier start found' → latest_of day found' (map dated ds) ≡ Some (dated e)) →
+    by : ((found' : Option rules.DatedFormula) → first_on start ds ≡ Some e → IsEarlier start found' → latest_of day found' (map dated ds) ≡ Some (dated e)) →
         (b : Bool) → is_eq (date_cmp d.start start) ≡ b → (c : Bool) → is_gt (date_cmp d.start day) ≡ c → latest_of day found (map dated (d ∷ ds)) ≡ Some (dated e)
     by rest true same c s' =
         let tie : date_cmp d.start start ≡ Equal = equal_from (date_cmp d.start start) same in
@@ -171,7 +171,7 @@ latest_is day start found (d ∷ ds) e is s h before =
         ap (λ o. latest_of day o (map dated ds)) (with_later day found (dated d) s') ∙ rest (Some (later found (dated d))) (sym (behind_on start d ds other) ∙ is) earlier
 
 -- where none has started
-none_is : (n : ℕ) (day : CivilDate) (ds : List Dated) → ((other : CivilDate) → is_gt (date_cmp other day) ≡ false → place_from n ds other ≡ None) → latest_of day None (map dated ds) ≡ None
+none_is : (n : ℕ) (day : CivilDate) (ds : List DatedFormula) → ((other : CivilDate) → is_gt (date_cmp other day) ≡ false → place_from n ds other ≡ None) → latest_of day None (map dated ds) ≡ None
 none_is n day [] h = refl
 none_is n day (d ∷ ds) h = by (none_is (suc n) day ds (λ other s. less other (h other s) (is_eq (date_cmp d.start other)) refl)) (is_gt (date_cmp d.start day)) refl
   where
@@ -185,7 +185,7 @@ none_is n day (d ∷ ds) h = by (none_is (suc n) day ds (λ other s. less other 
 
 -- What a search finds
 
-pub found_last : (day : CivilDate) (m : BTreeMap CivilDate ℕ) (ds : List Dated) (place : ℕ) → AreStarts m ds → IsLastStart day m place →
+pub found_last : (day : CivilDate) (m : BTreeMap CivilDate ℕ) (ds : List DatedFormula) (place : ℕ) → AreStarts m ds → IsLastStart day m place →
     option_map dated (slice_get ds place) ≡ in_force day (map dated ds)
 found_last day m ds place are last =
     let start : CivilDate = last.0 in
@@ -194,20 +194,20 @@ found_last day m ds place are last =
     let upto : AllUpTo day start ds = all_upto 0 day start ds (λ other s some. last.3 other s (ap is_some (are other) ∙ some)) in
     ap (λ k. option_map dated (slice_get ds k)) same ∙ ap (option_map dated) r.there ∙ sym (latest_is day start None ds r.formula r.first last.2 upto tt)
 
-pub found_none : (day : CivilDate) (m : BTreeMap CivilDate ℕ) (ds : List Dated) → AreStarts m ds → NoneStarts day m → in_force day (map dated ds) ≡ None
+pub found_none : (day : CivilDate) (m : BTreeMap CivilDate ℕ) (ds : List DatedFormula) → AreStarts m ds → NoneStarts day m → in_force day (map dated ds) ≡ None
 found_none day m ds are none = none_is 0 day ds (λ other s. sym (are other) ∙ none other s)
 
 -- What is noted
 
-pub one_more : (m n : BTreeMap CivilDate ℕ) (ds : List Dated) (i : ℕ) (x : Dated) → i < length ds → Updates date_cmp m n (get_or ds i x).start (Some i) →
+pub one_more : (m n : BTreeMap CivilDate ℕ) (ds : List DatedFormula) (i : ℕ) (x : DatedFormula) → i < length ds → Updates date_cmp m n (get_or ds i x).start (Some i) →
     ((day : CivilDate) → get date_cmp m day ≡ place_from (i + 1) (drop (i + 1) ds) day) → (day : CivilDate) → get date_cmp n day ≡ place_from i (drop i ds) day
 one_more m n ds i x inside updates before day =
-    let d : Dated = get_or ds i x in
+    let d : DatedFormula = get_or ds i x in
     let more : i + 1 ≡ suc i = omega arith in
     let after : get date_cmp m day ≡ place_from (suc i) (drop (suc i) ds) day = before day ∙ ap (λ k. place_from k (drop k ds) day) more in
     updates.0 day ∙ ap (λ o. if is_eq (date_cmp d.start day) then Some i else o) after ∙ ap (λ xs. place_from i xs day) (sym (drop-cons ds i x inside))
 
-pub all_noted : (m : BTreeMap CivilDate ℕ) (ds : List Dated) (place : ℕ) → ((day : CivilDate) → get date_cmp m day ≡ place_from place (drop place ds) day) → place ≡ 0 → AreStarts m ds
+pub all_noted : (m : BTreeMap CivilDate ℕ) (ds : List DatedFormula) (place : ℕ) → ((day : CivilDate) → get date_cmp m day ≡ place_from place (drop place ds) day) → place ≡ 0 → AreStarts m ds
 all_noted m ds place h none day = h day ∙ ap (λ k. place_from k (drop k ds) day) none
 
 -- What a range of days ends with

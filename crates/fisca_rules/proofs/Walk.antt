@@ -6,7 +6,7 @@ use Rattle.fisca_names.specs.Outcomes.{Tells}
 use Rattle.fisca_names.specs.Seen.{TellsOne}
 use Rattle.fisca_names.specs.declared.fault.BuildFault.{BuildFault}
 use Rattle.fisca_names.specs.declared.seen.Seen.{Seen}
-use Rattle.fisca_params.specs.Results.{and_then}
+use Rattle.fisca_num.specs.Results.{and_then}
 use Rattle.fisca_ast.specs.Modules.{Statement}
 use Rattle.fisca_symbols.specs.declared.entity.Entity.{Entity}
 use Rattle.fisca_symbols.specs.declared.variable.Variable.{Variable}

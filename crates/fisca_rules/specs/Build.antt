@@ -2,7 +2,7 @@
 use Rattle.std.specs.Prelude.{ℕ, List, [], ◌∷◌, ◌++◌, Bool, false, Result, Ok}
 use Rattle.std.specs.List.{list_any}
 use Rattle.fisca_ast.specs.Tree.{Tree, name}
-use Rattle.fisca_params.specs.Results.{and_then}
+use Rattle.fisca_num.specs.Results.{and_then}
 use Rattle.fisca_ast.specs.Modules.{Item, attribute, formula, Statement, entity, entities, choices, variable}
 use Rattle.fisca_symbols.specs.declared.choices.Choices.{Choices}
 use Rattle.fisca_symbols.specs.declared.entity.Entity.{Entity}

@@ -1,6 +1,6 @@
 -- Rule sets: what modules declare beside parameters, with typed formulas, or the first fault: names, then attributes and entities, then formulas.
 use Rattle.std.specs.Prelude.{List, [], ◌∷◌, map, Result, Ok}
-use Rattle.fisca_params.specs.Results.{and_then}
+use Rattle.fisca_num.specs.Results.{and_then}
 use Rattle.fisca_params.specs.Tree.{TreeNode}
 use Rattle.fisca_ast.specs.Modules.{Assigned}
 use Rattle.fisca_time.specs.Instant.{CivilDate}
@@ -23,7 +23,7 @@ known w nodes = record { entities = map entity w.entities; enums = map choices w
 -- Third pass: formulas
 
 -- a typed formula, and the day from which on it is in force
-pub record Dated : Type 0 where
+pub record DatedFormula : Type 0 where
   pub start : CivilDate
   pub formula : typing.Formula
 
@@ -44,7 +44,7 @@ pub record Rules : Type 0 where
   pub variables : List Variable
   pub declarations : List Written
   pub parameters : List TreeNode
-  pub formulas : List (List Dated)
+  pub formulas : List (List DatedFormula)
 
 -- what its formulas may name
 abbrev pub known_by : Rules → Tables

@@ -13,19 +13,19 @@ use Rattle.fisca_symbols.specs.declared.variable.Variable.{Variable}
 use Rattle.fisca_model.specs.declared.value_type.ValueType.{ValueType}
 use Rattle.fisca_model.specs.Tables.{Choices, Tables, members_of}
 use Rattle.fisca_declarations.specs.Steps.VariableForms.{is_int}
-use Rattle.fisca_rules.specs.Rules.{Dated, Rules, known_by}
+use Rattle.fisca_rules.specs.Rules.{DatedFormula, Rules, known_by}
 
 -- As long as its questions are answered by values of the variables' types, a formula of this variable gives a value of its type, before
 -- that is cast, or tells a fault.
-abbrev pub IsNeverStuck : Tables → Variable → Dated → Type 0
+abbrev pub IsNeverStuck : Tables → Variable → DatedFormula → Type 0
 IsNeverStuck c v d = (groups : Groups) (t : ValueType) → value_type v.value_type ≡ Some t → (p : Point) → IsSafe c (before_cast t) (formula_means c groups d.formula p)
 
-abbrev pub AllNeverStuck : Tables → Variable → List Dated → Type 0
+abbrev pub AllNeverStuck : Tables → Variable → List DatedFormula → Type 0
 AllNeverStuck c v [] = ⊤
 AllNeverStuck c v (d ∷ ds) = IsNeverStuck c v d × AllNeverStuck c v ds
 
 -- each variable has its formulas beside it
-abbrev pub EachNeverStuck : Tables → List Variable → List (List Dated) → Type 0
+abbrev pub EachNeverStuck : Tables → List Variable → List (List DatedFormula) → Type 0
 EachNeverStuck c [] [] = ⊤
 EachNeverStuck c [] (ds ∷ more) = ⊥
 EachNeverStuck c (v ∷ vs) [] = ⊥
@@ -81,7 +81,7 @@ DefaultsFit r = AllDefaultsFit (known_by r).enums r.variables
 -- Days and texts
 
 -- what no formula works out has none
-abbrev pub AreUncomputed : List Variable → List (List Dated) → Type 0
+abbrev pub AreUncomputed : List Variable → List (List DatedFormula) → Type 0
 AreUncomputed [] [] = ⊤
 AreUncomputed [] (ds ∷ more) = ⊥
 AreUncomputed (v ∷ vs) [] = ⊥

@@ -3,15 +3,15 @@ use Rattle.std.specs.Prelude.{◌≡◌, ℕ, suc, List, [], ◌∷◌, false, i
 use Rattle.std.specs.BTreeMap.{BTreeMap, get}
 use Rattle.std.specs.Ordering.{is_eq, is_gt, is_lt}
 use Rattle.fisca_time.specs.Instant.{CivilDate, date_cmp}
-use Rattle.fisca_rules.specs.declared.dated.Dated.{Dated}
+use Rattle.fisca_rules.specs.declared.dated.DatedFormula.{DatedFormula}
 
 -- the place of the first of these, which stand from a place on, that starts on a day
-abbrev pub place_from : ℕ → List Dated → CivilDate → Option ℕ
+abbrev pub place_from : ℕ → List DatedFormula → CivilDate → Option ℕ
 place_from n [] day = None
 place_from n (d ∷ ds) day = if is_eq (date_cmp d.start day) then Some n else place_from (suc n) ds day
 
 -- the map has for each day the place of the first formula that starts on it
-abbrev pub AreStarts : BTreeMap CivilDate ℕ → List Dated → Type 0
+abbrev pub AreStarts : BTreeMap CivilDate ℕ → List DatedFormula → Type 0
 AreStarts m ds = (day : CivilDate) → get date_cmp m day ≡ place_from 0 ds day
 
 -- the map has the place by a day that is not after this one, and none of its days between the two

@@ -2,11 +2,11 @@
 use Rattle.std.specs.Prelude.{map}
 use Rattle.fisca_check.specs.Formulas.{formula_view}
 use Rattle.fisca_declarations.specs.VariableForms.{written}
-use Rattle.fisca_rules.specs.declared.dated.Dated.{Dated}
+use Rattle.fisca_rules.specs.declared.dated.DatedFormula.{DatedFormula}
 use Rattle.fisca_rules.specs.declared.rule_set.RuleSet.{RuleSet}
 use Rattle.fisca_rules.specs.Rules as rules
 
-abbrev pub dated : Dated → rules.Dated
+abbrev pub dated : DatedFormula → rules.DatedFormula
 dated d = record { start = d.start; formula = formula_view d.formula }
 
 -- what is declared, and the typed formulas

@@ -5,7 +5,7 @@ use Rattle.fisca_names.specs.Outcomes.{Tells}
 use Rattle.fisca_names.specs.Seen.{Holds}
 use Rattle.fisca_names.specs.declared.fault.BuildFault.{BuildFault}
 use Rattle.fisca_names.specs.declared.seen.Seen.{Seen}
-use Rattle.fisca_params.specs.Results.{and_then}
+use Rattle.fisca_num.specs.Results.{and_then}
 use Rattle.fisca_ast.specs.Modules.{Statement}
 use Rattle.fisca_ast.specs.declared.fault.FormulaKind.TheVariants.{Memory}
 use Rattle.fisca_declarations.specs.declared.declared.Declared.{Declared}

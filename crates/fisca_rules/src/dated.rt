@@ -4,7 +4,7 @@ use fisca_time::Instant;
 
 /// A typed formula, and the day from which on it is in force.
 #[derive(Drop)]
-pub struct Dated {
+pub struct DatedFormula {
     /// The first day.
     pub start: Instant,
     /// What it works out.

@@ -5,8 +5,8 @@ ghost use Rattle.fisca_rules.specs.Starts.{AreStarts, IsLastStart, NoneStarts};
 ghost use Rattle.fisca_rules.specs.Steps.InForce as spec;
 ghost use Rattle.fisca_rules.specs.Views.{dated as dated_view};
 
-use crate::dated::Dated;
-use crate::formulas::Formulas;
+use crate::dated::DatedFormula;
+use crate::formulas::TypedFormulas;
 use fisca_time::Instant;
 use std::alloc::{AllocError, Global};
 use std::collections::BTreeMap;
@@ -15,14 +15,14 @@ use std::collections::BTreeMap;
 const FEW: usize = 8;
 
 /// Whether the formula starts on the day or before it.
-fn has_started(day: Instant, formula: &Dated) -> bool
+fn has_started(day: Instant, formula: &DatedFormula) -> bool
     ensures { result ≡ spec.has_started day (dated_view formula.now) }
 {
     formula.start <= day
 }
 
 /// Of two the formula that starts later; of two that start on one day the upper.
-fn later<'r>(found: Option<&'r Dated>, formula: &'r Dated) -> &'r Dated
+fn later<'r>(found: Option<&'r DatedFormula>, formula: &'r DatedFormula) -> &'r DatedFormula
     ensures { dated_view result.now ≡ spec.later (option_map (λ d. dated_view d.now) found.entry) (dated_view formula.now) }
 {
     match found {
@@ -38,7 +38,7 @@ fn later<'r>(found: Option<&'r Dated>, formula: &'r Dated) -> &'r Dated
 }
 
 /// Of the formulas that start by the day the one that starts last, by a look at each.
-fn latest_of(day: Instant, formulas: &[Dated]) -> Option<&Dated>
+fn latest_of(day: Instant, formulas: &[DatedFormula]) -> Option<&DatedFormula>
     ensures { option_map (λ d. dated_view d.now) result ≡ spec.in_force day (map dated_view formulas.now) }
 {
     let mut found = None;
@@ -51,7 +51,10 @@ fn latest_of(day: Instant, formulas: &[Dated]) -> Option<&Dated>
 }
 
 /// The places of formulas by the days on which they start; of those that start on one day the upper one's.
-fn starts_of(alloc: Global, formulas: &[Dated]) -> Result<BTreeMap<Instant, usize>, AllocError>
+fn starts_of(
+    alloc: Global,
+    formulas: &[DatedFormula],
+) -> Result<BTreeMap<Instant, usize>, AllocError>
     ensures { IfOk result (λ m. AreStarts m formulas.now) }
 {
     let mut starts = BTreeMap::new(alloc);
@@ -76,9 +79,9 @@ fn last_place(starts: &BTreeMap<Instant, usize>, day: Instant) -> Option<usize>
 /// The formula in force on a day, by the days on which they start.
 fn found_by<'r>(
     starts: &BTreeMap<Instant, usize>,
-    formulas: &'r [Dated],
+    formulas: &'r [DatedFormula],
     day: Instant,
-) -> Option<&'r Dated>
+) -> Option<&'r DatedFormula>
     requires { AreStarts starts.now formulas.now }
     ensures { option_map (λ d. dated_view d.now) result ≡ spec.in_force day (map dated_view formulas.now) }
 {
@@ -91,19 +94,19 @@ fn found_by<'r>(
     }
 }
 
-impl Formulas {
+impl TypedFormulas {
     /// No formula.
-    pub(crate) fn none(alloc: Global) -> Formulas
+    pub(crate) fn none(alloc: Global) -> TypedFormulas
         ensures { result.items.items ≡ [] }
     {
-        Formulas {
+        TypedFormulas {
             items: Vec::new(alloc),
             starts: None,
         }
     }
 
     /// These formulas.
-    pub(crate) fn of(alloc: Global, items: Vec<Dated>) -> Result<Formulas, AllocError>
+    pub(crate) fn of(alloc: Global, items: Vec<DatedFormula>) -> Result<TypedFormulas, AllocError>
         ensures { IfOk result (λ f. f.items.items ≡ items.items) }
     {
         let starts = if items.len() > FEW {
@@ -111,11 +114,11 @@ impl Formulas {
         } else {
             None
         };
-        Ok(Formulas { items, starts })
+        Ok(TypedFormulas { items, starts })
     }
 
     /// Of the formulas that start by the day the one that starts last; of two that start on one day the upper.
-    pub fn in_force(&self, day: Instant) -> Option<&Dated>
+    pub fn in_force(&self, day: Instant) -> Option<&DatedFormula>
         ensures { option_map (λ d. dated_view d.now) result ≡ spec.in_force day (map dated_view self.now.items.items) }
     {
         match &self.starts {

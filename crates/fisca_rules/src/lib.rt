@@ -17,8 +17,8 @@ mod statements;
 mod tables;
 mod typed;
 
-pub use dated::Dated;
-pub use formulas::Formulas;
+pub use dated::DatedFormula;
+pub use formulas::TypedFormulas;
 pub use law::{
     days_and_texts_have_no_formulas, defaults_are_of_their_types, rule_sets_are_never_stuck,
 };

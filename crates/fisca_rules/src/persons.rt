@@ -8,7 +8,7 @@ ghost use Rattle.fisca_names.specs.Outcomes.{Tells};
 ghost use Rattle.fisca_attributes.specs.Steps.EntityForms.{entity_of as entity_written};
 ghost use Rattle.fisca_names.specs.Names.{told_at};
 ghost use Rattle.fisca_ast.specs.Outcomes.{Gives};
-ghost use Rattle.fisca_params.specs.Results.{and_then};
+ghost use Rattle.fisca_num.specs.Results.{and_then};
 ghost use Rattle.fisca_ast.specs.ModuleViews.{assigned};
 
 use crate::faults::fault_at;

@@ -6,7 +6,7 @@ ghost use Rattle.fisca_names.specs.Outcomes.{Tells};
 ghost use Rattle.fisca_rules.specs.Views.{rule_set};
 ghost use Rattle.fisca_ast.specs.ModuleViews.{statements};
 
-use crate::formulas::Formulas;
+use crate::formulas::TypedFormulas;
 use crate::tables_found;
 use crate::typed::formulas_of_all;
 use fisca_ast::Module;
@@ -24,7 +24,7 @@ pub struct RuleSet<'a> {
     /// Where each variable is declared, what is told of it, and its formulas as they are written, in the order of the variables.
     pub declarations: Vec<Declaration<'a>>,
     /// The formulas of each variable, in the order of the variables, from top to bottom.
-    pub formulas: Vec<Formulas>,
+    pub formulas: Vec<TypedFormulas>,
 }
 
 impl<'a> RuleSet<'a> {

@@ -4,7 +4,7 @@ ghost use Rattle.std.specs.Prelude.{List, [], ◌∷◌, ◌++◌, Result, map};
 ghost use Rattle.fisca_names.specs.Names.{Placed, names_from, placed_from, placed_in, told_at};
 ghost use Rattle.fisca_names.specs.declared.fault.BuildFault.{BuildFault};
 ghost use Rattle.fisca_ast.specs.ModuleViews.{assigned, item, statement as statement_view, statements as statements_view};
-ghost use Rattle.fisca_params.specs.Results.{and_then};
+ghost use Rattle.fisca_num.specs.Results.{and_then};
 ghost use Rattle.fisca_rules.specs.Build as spec;
 ghost use Rattle.fisca_rules.specs.Steps.Build as steps;
 ghost use Rattle.fisca_rules.specs.Walk as walk;

@@ -12,8 +12,8 @@ ghost use Rattle.fisca_symbols.specs.Known.{tables as known};
 ghost use Rattle.fisca_symbols.specs.KnownVariables.{value_type as known_type};
 ghost use Rattle.fisca_typing.specs.Formulas as typing;
 
-use crate::dated::Dated;
-use crate::formulas::Formulas;
+use crate::dated::DatedFormula;
+use crate::formulas::TypedFormulas;
 use fisca_ast::{ClassLine, Formula};
 use fisca_check::{FormulaRefusal, FormulaScope, TypedFormula as Typed, formula_of};
 use fisca_check_calls::Locals;
@@ -91,11 +91,11 @@ fn dated_of<'n, 'a>(
     place: usize,
     value_type: ValueType,
     formula: &'n Formula<'a>,
-) -> Result<Dated, BuildFault>
+) -> Result<DatedFormula, BuildFault>
     ensures { Tells dated (steps.dated_of (known tables.now) place variable.now.entity value_type (formula_view formula.now)) result }
 {
     match typed(alloc, tables, variable, value_type, formula) {
-        Ok(made) => Ok(Dated {
+        Ok(made) => Ok(DatedFormula {
             start: formula.start,
             formula: made,
         }),
@@ -104,7 +104,7 @@ fn dated_of<'n, 'a>(
 }
 
 /// Puts a formula behind the others of its variable.
-fn push_dated(made: &mut Vec<Dated>, dated: Dated) -> Result<(), AllocError>
+fn push_dated(made: &mut Vec<DatedFormula>, dated: DatedFormula) -> Result<(), AllocError>
     ensures { OnOk result (made.new.items ≡ made.old.items ++ dated ∷ []) }
 {
     if made.is_empty() {
@@ -123,7 +123,7 @@ fn formulas_by<'n, 'a>(
     variable: &'n Variable<'a>,
     declaration: &'n Declaration<'a>,
     value_type: ValueType,
-) -> Result<Vec<Dated>, BuildFault>
+) -> Result<Vec<DatedFormula>, BuildFault>
     ensures { Tells (λ fs. map dated fs.items) (steps.formulas_by (known tables.now) variable.now.entity (written declaration.now) (Some value_type)) result }
 {
     let mut made = Vec::new(alloc);
@@ -155,11 +155,11 @@ fn formulas_made<'n, 'a>(
     variable: &'n Variable<'a>,
     declaration: &'n Declaration<'a>,
     value_type: ValueType,
-) -> Result<Formulas, BuildFault>
+) -> Result<TypedFormulas, BuildFault>
     ensures { Tells (λ fs. map dated fs.items.items) (steps.formulas_by (known tables.now) variable.now.entity (written declaration.now) (Some value_type)) result }
 {
     let made = formulas_by(alloc, tables, variable, declaration, value_type)?;
-    Ok(Formulas::of(alloc, made)?)
+    Ok(TypedFormulas::of(alloc, made)?)
 }
 
 /// The type of a variable's values in formulas. Days and texts have none.
@@ -180,12 +180,12 @@ fn formulas_of<'n, 'a>(
     tables: &'n Tables<'a>,
     variable: &'n Variable<'a>,
     declaration: &'n Declaration<'a>,
-) -> Result<Formulas, BuildFault>
+) -> Result<TypedFormulas, BuildFault>
     ensures { Tells (λ fs. map dated fs.items.items) (steps.formulas_of (known tables.now) (variable.now, written declaration.now)) result }
 {
     match type_in_formulas(variable.value_type) {
         Some(value_type) => formulas_made(alloc, tables, variable, declaration, value_type),
-        None => Ok(Formulas::none(alloc)),
+        None => Ok(TypedFormulas::none(alloc)),
     }
 }
 
@@ -195,7 +195,7 @@ pub(crate) fn formulas_of_all<'n, 'a>(
     alloc: Global,
     tables: &'n Tables<'a>,
     declarations: &'n [Declaration<'a>],
-) -> Result<Vec<Formulas>, BuildFault>
+) -> Result<Vec<TypedFormulas>, BuildFault>
     ensures { Tells (λ fs. map (λ gs. map dated gs.items.items) fs.items) (steps.all_formulas (known tables.now) tables.now.variables (map written declarations.now)) result }
 {
     let variables = tables.variables.as_slice();

@@ -16,8 +16,8 @@ use Rattle.fisca_inputs.specs.declared.given.Given.{Given}
 use Rattle.fisca_model.specs.declared.key.Key.{Key}
 use Rattle.fisca_groups.specs.Lookup.{counts_of}
 use Rattle.fisca_groups.specs.declared.entity_members.EntityMembers.{EntityMembers}
-use Rattle.fisca_params.specs.Results.{and_then}
-use Rattle.fisca_run_file.specs.Steps.Conditions.{conditions_in}
+use Rattle.fisca_num.specs.Results.{and_then}
+use Rattle.fisca_rows.specs.Steps.Conditions.{conditions_in}
 use Rattle.fisca_run_file.specs.Steps.Grids.{grid_of}
 use Rattle.fisca_run_file.specs.Keys.{file_checked}
 use Rattle.fisca_run_file.specs.Moved.{apart_from, shared_or_fault, sharing_checked, with_moved}

@@ -16,7 +16,7 @@ use Rattle.fisca_model.specs.declared.key.Key.{Key}
 use Rattle.fisca_model.specs.Periods.{fits, key_period}
 use Rattle.fisca_groups.specs.Lookup.{counts_of as member_counts}
 use Rattle.fisca_num.specs.Number.{Number}
-use Rattle.fisca_params.specs.Results.{and_then}
+use Rattle.fisca_num.specs.Results.{and_then}
 use Rattle.fisca_situations.specs.AllAxes.{put_all_in}
 use Rattle.fisca_run_file.specs.Positions.{moved_at}
 use Rattle.fisca_run_file.specs.Steps.Positions.{cut_by, inputs_with, with_values}

@@ -26,7 +26,7 @@ use Rattle.fisca_model.specs.Periods.{is_eternity, key_period}
 use Rattle.fisca_groups.specs.Lookup.{count_at, counts_of}
 use Rattle.fisca_groups.specs.declared.entity_members.EntityMembers.{EntityMembers}
 use Rattle.fisca_num.specs.Number.{Number, trunc_of}
-use Rattle.fisca_params.specs.Results.{and_then}
+use Rattle.fisca_num.specs.Results.{and_then}
 use Rattle.fisca_slots.proofs.Both.{Moving, here}
 use Rattle.fisca_run.proofs.Files.{IsMovement, axes_line, read_from}
 use Rattle.fisca_slots.proofs.Parts.{IsSound, moved_sound}

@@ -14,7 +14,7 @@ use Rattle.fisca_members.specs.Steps.Members.{members_in}
 use Rattle.fisca_members.specs.Persons.{most_members}
 use Rattle.fisca_members.specs.Sections.{Input, one_person, sections, Section}
 use Rattle.fisca_members.specs.Steps.Sections.{input_of, titles_of}
-use Rattle.fisca_params.specs.Results.{and_then}
+use Rattle.fisca_num.specs.Results.{and_then}
 use Rattle.fisca_run.proofs.Said.{HasPeriod, text_period}
 use Rattle.fisca_situations.specs.Reading.{Place}
 use Rattle.fisca_situations.specs.Steps.Reading.{with_value, fault_at, given_of, value_given, read_given, dated_given, all_dated, at_default, variable_given, has_variable, variable_at, variable_of, named_given, entry_given, member_given, member_below, members_given, section_by, section_of, section_given, sections_given, inputs_given}

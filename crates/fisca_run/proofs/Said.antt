@@ -7,7 +7,7 @@ use Rattle.std.proofs.lemmas.Bool.{and_from, and_parts}
 use Rattle.fisca_columns.specs.Steps.Calc.{default_in, period_in}
 use Rattle.fisca_grid.proofs.Groups.{sum_first}
 use Rattle.fisca_inputs.proofs.Typed.{then_ok}
-use Rattle.fisca_params.specs.Results.{and_then}
+use Rattle.fisca_num.specs.Results.{and_then}
 use Rattle.fisca_run_file.specs.SaidAxes.{SaidAxes, SaidAxis, no_axes}
 use Rattle.fisca_run_file.specs.Steps.SaidAxes.{axes_said, axis_in, axis_keys_checked, axis_of, axis_said, count_items, name_in, needed, period_at, spec_said, whole_at, with_axes, with_axis, with_group, with_groups, with_list}
 use Rattle.fisca_time.specs.Calendar.{day_number, month_number}

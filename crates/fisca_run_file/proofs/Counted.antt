@@ -2,7 +2,7 @@
 use Rattle.std.proofs.Common.{◌≡◌, ℕ, suc, List, [], ◌∷◌, ◌++◌, length, refl, ap, sym, ◌∙◌}
 use Rattle.std.specs.Prelude.{Result, Ok}
 use Rattle.fisca_columns.specs.declared.fault.RunFileFault.{RunFileFault}
-use Rattle.fisca_params.specs.Results.{and_then}
+use Rattle.fisca_num.specs.Results.{and_then}
 use Rattle.fisca_run_file.specs.SaidAxes.{SaidAxes, SaidAxis}
 use Rattle.fisca_run_file.specs.Steps.SaidAxes.{count_items, with_axes, with_list}
 use Rattle.fisca_yaml.specs.Views.{items_view}

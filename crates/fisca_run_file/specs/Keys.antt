@@ -5,7 +5,7 @@ use Rattle.fisca_columns.specs.Faults.{fault_at}
 use Rattle.fisca_columns.specs.declared.fault.RunFileFault.{RunFileFault}
 use Rattle.fisca_columns.specs.declared.fault.RunFileKind.TheVariants.{BadKey}
 use Rattle.fisca_model.specs.declared.key.Key.{Key}
-use Rattle.fisca_params.specs.Results.{and_then}
+use Rattle.fisca_num.specs.Results.{and_then}
 use Rattle.fisca_yaml.specs.Steps.Find.{get}
 use Rattle.fisca_yaml.specs.Node.{Node, null, scalar, list, map, Entries, no_entries, entry}
 use Rattle.fisca_run_file.specs.Steps.SaidAxes.{axes_said}

@@ -6,7 +6,7 @@ use Rattle.std.specs.Ordering.{eq_by_cmp}
 use Rattle.fisca_columns.specs.Named.{column_names}
 use Rattle.fisca_columns.specs.Steps.Calc.{default_in}
 use Rattle.fisca_columns.specs.declared.fault.RunFileFault.{RunFileFault}
-use Rattle.fisca_params.specs.Results.{and_then}
+use Rattle.fisca_num.specs.Results.{and_then}
 use Rattle.fisca_time.specs.Period.{Span, span_cmp}
 use Rattle.fisca_time.specs.PeriodText.{text_of as period_text}
 use Rattle.fisca_yaml.specs.Find.{line_at}

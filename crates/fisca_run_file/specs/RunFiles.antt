@@ -12,7 +12,7 @@ use Rattle.fisca_inputs.specs.Inputs.{inputs_of}
 use Rattle.fisca_inputs.specs.Rules.{rule_of}
 use Rattle.fisca_inputs.specs.declared.given.Given.{Given}
 use Rattle.fisca_model.specs.declared.key.Key.{Key}
-use Rattle.fisca_params.specs.Results.{and_then}
+use Rattle.fisca_num.specs.Results.{and_then}
 use Rattle.fisca_situations.specs.Steps.Situations.{reading_of}
 use Rattle.fisca_situations.specs.declared.reading.Reading.{Reading}
 use Rattle.fisca_symbols.specs.declared.tables.Tables.{Tables}
@@ -20,8 +20,8 @@ use Rattle.fisca_time.specs.Period.{Span}
 use Rattle.fisca_yaml.specs.Find.{line_at}
 use Rattle.fisca_yaml.specs.Steps.Find.{get}
 use Rattle.fisca_yaml.specs.Node.{Node, null}
-use Rattle.fisca_run_file.specs.declared.condition.Condition.{Condition}
-use Rattle.fisca_run_file.specs.Steps.Conditions.{conditions_in}
+use Rattle.fisca_rows.specs.declared.condition.Condition.{Condition}
+use Rattle.fisca_rows.specs.Steps.Conditions.{conditions_in}
 use Rattle.fisca_run_file.specs.Steps.Grids.{grid_of}
 use Rattle.fisca_run_file.specs.Keys.{file_checked}
 use Rattle.fisca_run_file.specs.Moved.{apart_from, sharing_checked, with_moved}

@@ -1,4 +1,3 @@
-pub mod Conditions
 pub mod Grids
 pub mod Groups
 pub mod Keys

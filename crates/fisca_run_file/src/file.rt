@@ -2,11 +2,11 @@
 
 ghost use Rattle.std.specs.Prelude.{◌≡◌, length, map};
 
-use crate::conditions::Conditions;
 use crate::moved::MovedInputs;
 use fisca_columns::Columns;
 use fisca_grid::Axes;
 use fisca_inputs::Inputs;
+use fisca_rows::Conditions;
 use fisca_situations::{GivenInputs, Situation, Slot};
 
 /// A grid, the input that each of its axes moves, and the inputs with these.

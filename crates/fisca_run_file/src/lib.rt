@@ -2,8 +2,6 @@
 #![tactic(auto)]
 
 mod base_situation;
-mod condition;
-mod conditions;
 mod file;
 mod grids;
 mod keys;
@@ -20,10 +18,9 @@ mod said_axis;
 mod sharing;
 mod slots;
 
-pub use condition::{Condition, read_condition};
-pub use conditions::Conditions;
 pub use file::{RunFile, RunRequest, RunStart};
 pub use fisca_inputs::overlaps;
+pub use fisca_rows::{Condition, Conditions, read_condition};
 pub use marks::wheels_of;
 pub use moved::MovedInputs;
 pub use names::cell_names;

@@ -14,7 +14,6 @@ ghost use Rattle.fisca_situations.specs.Steps.Views.{situation as situation_view
 ghost use Rattle.fisca_yaml.specs.Views.{node};
 
 use crate::base_situation::{BaseSituation, base_situation_in};
-use crate::conditions::conditions_in;
 use crate::file::{Movement, RunFile, RunRequest, RunStart};
 use crate::keys::check_file;
 use crate::marks::wheels_of;
@@ -22,6 +21,7 @@ use crate::movement::movement_in;
 use crate::slots::slots_of;
 use fisca_columns::{RunFileFault, columns_in};
 use fisca_inputs::overlaps;
+use fisca_rows::conditions_in;
 use fisca_situations::Situation;
 use fisca_symbols::Tables;
 use fisca_time::Period;

@@ -5,8 +5,8 @@ use Rattle.std.proofs.lemmas.Cmp.{upto, tied_itself}
 use Rattle.std.specs.Ordering.{is_gt, ordering_reverse}
 use Rattle.std.specs.declared.cmp.Ordering.{Ordering}
 use Rattle.std.specs.declared.cmp.Ordering.TheVariants.{Less, Equal, Greater}
-use Rattle.fisca_params.proofs.Latest.{date_total}
-use Rattle.fisca_rules.specs.Rules.{Dated}
+use Rattle.fisca_scales.proofs.Latest.{date_total}
+use Rattle.fisca_rules.specs.Rules.{DatedFormula}
 use Rattle.fisca_time.specs.Instant.{CivilDate, date_cmp}
 use Rattle.fisca_simulation.specs.InForce.{IsAmong, IsLast, IsInForce}
 use Rattle.fisca_rules.specs.Steps.InForce.{has_started, latest_of, in_force}
@@ -20,19 +20,19 @@ not_back a b h = ap is_gt (date_total.antisymm b a) ∙ by (date_cmp a b) h
     by Greater h' = refl
 
 -- what is found among these formulas and one before them
-record Found (day : CivilDate) (e : Dated) (ds : List Dated) : Type 0 where
-  formula : Dated
+record Found (day : CivilDate) (e : DatedFormula) (ds : List DatedFormula) : Type 0 where
+  formula : DatedFormula
   is : latest_of day (Some e) ds ≡ Some formula
   among : (e ≡ formula) ⊎ IsAmong formula ds
   started : has_started day formula ≡ true
   last : IsLast day formula ds
   best : is_gt (date_cmp e.start formula.start) ≡ false
 
-found_on : (day : CivilDate) (e : Dated) (ds : List Dated) → has_started day e ≡ true → Found day e ds
+found_on : (day : CivilDate) (e : DatedFormula) (ds : List DatedFormula) → has_started day e ≡ true → Found day e ds
 found_on day e [] h = record { formula = e; is = refl; among = inl refl; started = h; last = tt; best = ap is_gt (tied_itself date_total e.start) }
 found_on day e (x ∷ xs) h = by (λ s. found_on day x xs s) (found_on day e xs h) (has_started day x) refl (is_gt (date_cmp x.start e.start)) refl
   where
-    deeper : {d : Dated} → (e ≡ d) ⊎ IsAmong d xs → (e ≡ d) ⊎ ((x ≡ d) ⊎ IsAmong d xs)
+    deeper : {d : DatedFormula} → (e ≡ d) ⊎ IsAmong d xs → (e ≡ d) ⊎ ((x ≡ d) ⊎ IsAmong d xs)
     deeper (inl a) = inl a
     deeper (inr a) = inr (inr a)
 
@@ -66,11 +66,11 @@ found_on day e (x ∷ xs) h = by (λ s. found_on day x xs s) (found_on day e xs 
           best = r.best;
         }
 
-pub is_in_force : (day : CivilDate) (ds : List Dated) → IsInForce day ds (in_force day ds)
+pub is_in_force : (day : CivilDate) (ds : List DatedFormula) → IsInForce day ds (in_force day ds)
 is_in_force day [] = tt
 is_in_force day (x ∷ xs) = by (is_in_force day xs) (has_started day x) refl
   where
-    by_rest : has_started day x ≡ false → (o : Option Dated) → IsInForce day xs o → IsInForce day (x ∷ xs) o
+    by_rest : has_started day x ≡ false → (o : Option DatedFormula) → IsInForce day xs o → IsInForce day (x ∷ xs) o
     by_rest s None h = (s, h)
     by_rest s (Some d) h = (inr h.0, h.1, (λ t. absurd (false≢true (sym s ∙ t)), h.2))
 

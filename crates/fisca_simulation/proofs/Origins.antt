@@ -11,7 +11,7 @@ use Rattle.fisca_groups.specs.Grouped.{grouped}
 use Rattle.fisca_typing.specs.Formulas.{Formula}
 use Rattle.fisca_symbols.specs.declared.variable.Variable.{Variable}
 use Rattle.fisca_inputs.specs.Steps.Inputs.{is_marked}
-use Rattle.fisca_rules.specs.Rules.{Dated}
+use Rattle.fisca_rules.specs.Rules.{DatedFormula}
 use Rattle.fisca_time.specs.Instant.{CivilDate}
 use Rattle.fisca_time.specs.Period.{start_of}
 use Rattle.fisca_rules.specs.Steps.InForce.{in_force}
@@ -23,7 +23,7 @@ none_on : (v : Variable) (day : CivilDate) (ended : Bool) → (if ended then Non
 none_on v day true = refl
 none_on v day false = refl
 
-none_from : (ds : List Dated) → are_some ds ≡ false → (v : Variable) (day : Option CivilDate) → formula_from v ds day ≡ None
+none_from : (ds : List DatedFormula) → are_some ds ≡ false → (v : Variable) (day : Option CivilDate) → formula_from v ds day ≡ None
 none_from [] none v None = refl
 none_from [] none v (Some day) = none_on v day (has_ended v.end day)
 none_from (d ∷ ds) none v day = absurd (cc)

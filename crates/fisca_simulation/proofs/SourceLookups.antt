@@ -17,7 +17,7 @@ use Rattle.fisca_model.specs.Tables.{type_in, variable_type}
 use Rattle.fisca_formula_semantics.specs.Safe.{IsSafe}
 use Rattle.fisca_formula_semantics.specs.Wellformed.{before_cast}
 use Rattle.fisca_groups.specs.Grouped.{grouped}
-use Rattle.fisca_rules.specs.Rules.{Dated, known_by}
+use Rattle.fisca_rules.specs.Rules.{DatedFormula, known_by}
 use Rattle.fisca_rules.specs.Safety.{IsNeverStuck, AllNeverStuck, EachNeverStuck, AreUncomputed, AllDefaultsFit, is_default}
 use Rattle.fisca_symbols.specs.KnownVariables.{value_type, variable}
 use Rattle.fisca_symbols.specs.declared.variable.DeclaredType.{DeclaredType}
@@ -45,14 +45,14 @@ type_at [] x w h = cc
 type_at (y ∷ vs) zero w h = let same : y ≡ w = cc in ap (λ (z : Variable). value_type z.value_type) same
 type_at (y ∷ vs) (suc x) w h = type_at vs x w h
 
-never_stuck_at : (c : Tables) (vs : List Variable) (fs : List (List Dated)) → EachNeverStuck c vs fs → (x : ℕ) (w : Variable) → slice_get vs x ≡ Some w → AllNeverStuck c w (all_dated (slice_get fs x))
+never_stuck_at : (c : Tables) (vs : List Variable) (fs : List (List DatedFormula)) → EachNeverStuck c vs fs → (x : ℕ) (w : Variable) → slice_get vs x ≡ Some w → AllNeverStuck c w (all_dated (slice_get fs x))
 never_stuck_at c [] [] e x w h = cc
 never_stuck_at c [] (ds ∷ more) e x w h = absurd e
 never_stuck_at c (y ∷ vs) [] e x w h = absurd e
 never_stuck_at c (y ∷ vs) (ds ∷ more) e zero w h = let same : y ≡ w = cc in subst (λ z. AllNeverStuck c z ds) same e.0
 never_stuck_at c (y ∷ vs) (ds ∷ more) e (suc x) w h = never_stuck_at c vs more e.1 x w h
 
-uncomputed_at : (vs : List Variable) (fs : List (List Dated)) → AreUncomputed vs fs → (x : ℕ) (w : Variable) → slice_get vs x ≡ Some w → value_type w.value_type ≡ None → all_dated (slice_get fs x) ≡ []
+uncomputed_at : (vs : List Variable) (fs : List (List DatedFormula)) → AreUncomputed vs fs → (x : ℕ) (w : Variable) → slice_get vs x ≡ Some w → value_type w.value_type ≡ None → all_dated (slice_get fs x) ≡ []
 uncomputed_at [] [] e x w h none = cc
 uncomputed_at [] (ds ∷ more) e x w h none = absurd e
 uncomputed_at (y ∷ vs) [] e x w h none = absurd e
@@ -94,16 +94,16 @@ module _ (c : Tables) where
 
 -- The formula in force
 
-module _ (P : Dated → Type 0) where
-  abbrev Holds : Option Dated → Type 0
+module _ (P : DatedFormula → Type 0) where
+  abbrev Holds : Option DatedFormula → Type 0
   Holds None = Unit {0}
   Holds (Some d) = P d
 
-  abbrev AllHold : List Dated → Type 0
+  abbrev AllHold : List DatedFormula → Type 0
   AllHold [] = Unit {0}
   AllHold (d ∷ ds) = P d × AllHold ds
 
-  holds_later : (found : Option Dated) (d : Dated) → Holds found → P d → P (later found d)
+  holds_later : (found : Option DatedFormula) (d : DatedFormula) → Holds found → P d → P (later found d)
   holds_later None d f p = p
   holds_later (Some e) d f p = by (is_gt (date_cmp d.start e.start))
     where
@@ -111,18 +111,18 @@ module _ (P : Dated → Type 0) where
       by true = p
       by false = f
 
-  holds_with : (day : CivilDate) (found : Option Dated) (d : Dated) → Holds found → P d → Holds (latest_with day found d)
+  holds_with : (day : CivilDate) (found : Option DatedFormula) (d : DatedFormula) → Holds found → P d → Holds (latest_with day found d)
   holds_with day found d f p = by (has_started day d)
     where
       by : (b : Bool) → Holds (if b then Some (later found d) else found)
       by true = holds_later found d f p
       by false = f
 
-  holds_latest : (day : CivilDate) (found : Option Dated) (ds : List Dated) → Holds found → AllHold ds → Holds (latest_of day found ds)
+  holds_latest : (day : CivilDate) (found : Option DatedFormula) (ds : List DatedFormula) → Holds found → AllHold ds → Holds (latest_of day found ds)
   holds_latest day found [] f all = f
   holds_latest day found (d ∷ ds) f all = holds_latest day (latest_with day found d) ds (holds_with day found d f all.0) all.1
 
-all_hold : (c : Tables) (w : Variable) (ds : List Dated) → AllNeverStuck c w ds → AllHold (IsNeverStuck c w) ds
+all_hold : (c : Tables) (w : Variable) (ds : List DatedFormula) → AllNeverStuck c w ds → AllHold (IsNeverStuck c w) ds
 all_hold c w [] h = tt
 all_hold c w (d ∷ ds) h = (h.0, all_hold c w ds h.1)
 
@@ -141,7 +141,7 @@ module _ (m : Simulation) (safe : IsSafeRules m.rules) (k : Key) (w : Variable) 
   abbrev c : Tables
   c = known_by m.rules
 
-  abbrev ds : List Dated
+  abbrev ds : List DatedFormula
   ds = all_dated (slice_get m.rules.formulas k.variable)
 
   abbrev groups : Groups
@@ -165,10 +165,10 @@ module _ (m : Simulation) (safe : IsSafeRules m.rules) (k : Key) (w : Variable) 
   work_sound : (f : Formula) → formula_of m.rules m.neutral w k ≡ Some f → GivesOnly c (IsValueOf c k.variable) (worked_out m.rules groups w k f)
   work_sound f e = let d = unmarked (is_marked m.neutral k.variable) e in cast_sound f d.0 (value_type w.value_type) refl d.1
     where
-      some_not_none : (d : Dated) → ◌≡◌ {A = Option Dated} (Some d) None → ⊥
+      some_not_none : (d : DatedFormula) → ◌≡◌ {A = Option DatedFormula} (Some d) None → ⊥
       some_not_none d x = cc
 
-      from_force : (day : CivilDate) (o : Option Dated) → in_force day ds ≡ o → option_map (λ d. d.formula) o ≡ Some f → Found f
+      from_force : (day : CivilDate) (o : Option DatedFormula) → in_force day ds ≡ o → option_map (λ d. d.formula) o ≡ Some f → Found f
       from_force day None q h = cc
       from_force day (Some d) q h =
           let same : d.formula ≡ f = cc in

@@ -12,7 +12,7 @@ use Rattle.fisca_model.specs.Values.{Value, Key}
 use Rattle.fisca_key_semantics.specs.Dialogues.{Dialogue, gives, fails, stuck, asks}
 use Rattle.fisca_key_semantics.specs.Dialogues as d
 use Rattle.fisca_model.specs.Tables.{variable_type}
-use Rattle.fisca_params.specs.Results.{and_then}
+use Rattle.fisca_num.specs.Results.{and_then}
 use Rattle.fisca_model.specs.Tables.{Tables}
 use Rattle.fisca_simulation.specs.Sound.{GivesOnly, IsSound, AreSound}
 use Rattle.fisca_simulation.proofs.Casts.{typed_is_of}

@@ -13,7 +13,7 @@ use Rattle.fisca_formula_semantics.specs.Meaning.{formula_means}
 use Rattle.fisca_model.specs.Groups.{Groups, Point}
 use Rattle.fisca_model.specs.Periods.{fits}
 use Rattle.fisca_groups.specs.Grouped.{grouped}
-use Rattle.fisca_rules.specs.Rules.{Dated, Rules, known_by}
+use Rattle.fisca_rules.specs.Rules.{DatedFormula, Rules, known_by}
 use Rattle.fisca_situations.specs.Situations.{Situation}
 use Rattle.fisca_time.specs.Instant.{CivilDate}
 use Rattle.fisca_time.specs.Period.{start_of}
@@ -33,11 +33,11 @@ pub record Simulation : Type 0 where
 -- Formulas
 
 -- the formula that is in force on a day, which is none past the variable's end
-abbrev pub formula_on : Variable → List Dated → CivilDate → Option Formula
+abbrev pub formula_on : Variable → List DatedFormula → CivilDate → Option Formula
 formula_on v ds day = if has_ended v.end day then None else option_map (λ d. d.formula) (in_force day ds)
 
 -- eternity has no first day
-abbrev pub formula_from : Variable → List Dated → Option CivilDate → Option Formula
+abbrev pub formula_from : Variable → List DatedFormula → Option CivilDate → Option Formula
 formula_from v ds None = None
 formula_from v ds (Some day) = formula_on v ds day
 

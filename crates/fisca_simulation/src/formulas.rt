@@ -6,7 +6,7 @@ ghost use Rattle.fisca_rules.specs.Views.{dated as dated_view, rule_set};
 ghost use Rattle.fisca_simulation.specs.Steps.InForce as spec;
 ghost use Rattle.fisca_simulation.specs.Steps.Simulations.{all_dated};
 
-use fisca_rules::{Dated, RuleSet};
+use fisca_rules::{DatedFormula, RuleSet};
 use fisca_time::Instant;
 
 /// Whether there are no formulas on the day, as the last day on which there are lies before it.
@@ -21,7 +21,7 @@ pub(crate) fn has_ended(end: Option<Instant>, day: Instant) -> bool
 
 /// The formulas of the variable at a place, from top to bottom.
 #[tactic(auto, using(crate::proofs::Lookups::formulas_there))]
-pub(crate) fn formulas_at<'r>(rules: &'r RuleSet<'_>, place: usize) -> &'r [Dated]
+pub(crate) fn formulas_at<'r>(rules: &'r RuleSet<'_>, place: usize) -> &'r [DatedFormula]
     ensures { map dated_view result.now ≡ all_dated (slice_get (rule_set rules.now).formulas place) }
 {
     match rules.formulas.get(place) {
@@ -32,7 +32,11 @@ pub(crate) fn formulas_at<'r>(rules: &'r RuleSet<'_>, place: usize) -> &'r [Date
 
 /// Of the formulas of the variable at a place that start by the day the one that starts last.
 #[tactic(auto, using(crate::proofs::Lookups::formulas_there))]
-pub(crate) fn in_force<'r>(rules: &'r RuleSet<'_>, place: usize, day: Instant) -> Option<&'r Dated>
+pub(crate) fn in_force<'r>(
+    rules: &'r RuleSet<'_>,
+    place: usize,
+    day: Instant,
+) -> Option<&'r DatedFormula>
     ensures { option_map (λ d. dated_view d.now) result ≡ rules_spec.in_force day (all_dated (slice_get (rule_set rules.now).formulas place)) }
 {
     match rules.formulas.get(place) {

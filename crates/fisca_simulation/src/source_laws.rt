@@ -5,7 +5,7 @@ ghost use Rattle.fisca_key_semantics.specs.Answers.{answer};
 ghost use Rattle.fisca_model.specs.Causes.{Fault, stuck};
 ghost use Rattle.fisca_inputs.specs.Typed.{IsValueOf};
 ghost use Rattle.fisca_model.specs.Values.{Key, Value};
-ghost use Rattle.fisca_rules.specs.Rules.{Dated, known_by};
+ghost use Rattle.fisca_rules.specs.Rules.{DatedFormula, known_by};
 ghost use Rattle.fisca_rules.specs.Steps.InForce.{in_force};
 ghost use Rattle.fisca_simulation.specs.InForce.{IsInForce};
 ghost use Rattle.fisca_simulation.specs.Simulations.{Simulation, sources};
@@ -15,7 +15,7 @@ ghost use Rattle.fisca_time.specs.Instant.{CivilDate};
 /// Law: the formula in force on a day starts by the day, and none that does so starts after it. There is none only where none starts by
 /// the day.
 pub fn the_formula_in_force_starts_last()
-    ensures { (day : CivilDate) (ds : List Dated) → IsInForce day ds (in_force day ds) }
+    ensures { (day : CivilDate) (ds : List DatedFormula) → IsInForce day ds (in_force day ds) }
 {}
 
 /// Law: the value of a key is of its variable's type, in a situation whose inputs are, under a rule set that was built.

@@ -27,7 +27,7 @@ use Rattle.fisca_members.specs.Persons.{most_members}
 use Rattle.fisca_members.specs.Sections.{Input, one_person, sections, Section}
 use Rattle.fisca_members.specs.Steps.Sections.{input_of, titles_of}
 use Rattle.fisca_num.specs.Number.{Number}
-use Rattle.fisca_params.specs.Results.{and_then}
+use Rattle.fisca_num.specs.Results.{and_then}
 use Rattle.fisca_symbols.specs.Known.{tables as known}
 use Rattle.fisca_symbols.specs.KnownVariables.{value_type, variable}
 use Rattle.fisca_symbols.specs.declared.tables.Tables.{Tables}

@@ -23,7 +23,7 @@ use Rattle.fisca_num.specs.Number.{Number}
 use Rattle.fisca_num.specs.Operations.{number_of}
 use Rattle.fisca_num.specs.declared.faults.NumFault.{NumFault}
 use Rattle.fisca_num.specs.declared.faults.NumFault.TheVariants.{ZeroDivisor}
-use Rattle.fisca_params.specs.Results.{and_then}
+use Rattle.fisca_num.specs.Results.{and_then}
 use Rattle.fisca_slots.proofs.Both.{At, HasParts, Moving, behind, count_alike, keys, keys_of, length_parts, rest_alike, same_has, shared_both, some_count, spread_all, value_here}
 use Rattle.fisca_situations.specs.Steps.Slots.{divides, is_divided, share_by}
 use Rattle.fisca_symbols.specs.declared.variable.SetInput.{SetInput}

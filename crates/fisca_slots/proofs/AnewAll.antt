@@ -17,7 +17,7 @@ use Rattle.fisca_inputs.specs.declared.given.Given.{Given}
 use Rattle.fisca_model.specs.declared.value.Value.{Value}
 use Rattle.fisca_model.specs.declared.key.Key.{Key}
 use Rattle.fisca_model.specs.Periods.{fits}
-use Rattle.fisca_params.specs.Results.{and_then}
+use Rattle.fisca_num.specs.Results.{and_then}
 use Rattle.fisca_slots.proofs.Anew.{Agrees, Anew, IsEven, all_set, fewer, kept_by, kept_set, keys_set, outside, set, shared_set, there_after}
 use Rattle.fisca_slots.proofs.Both.{Moving, here, keys_of}
 use Rattle.fisca_slots.proofs.Shared.{CanShare, Disjoint, Each, Pairwise, given_of, order_here, order_moving, order_read, rows_by, rows_keys}

@@ -1,7 +1,6 @@
 pub mod Anew
 pub mod AnewAll
 pub mod Both
-pub mod Months
 pub mod Parts
 pub mod Placed
 pub mod SameWheels

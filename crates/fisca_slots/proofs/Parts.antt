@@ -18,11 +18,11 @@ use Rattle.fisca_model.specs.declared.key.Key.{Key}
 use Rattle.fisca_model.specs.Periods.{fits, is_eternity, key_period}
 use Rattle.fisca_num.specs.Number.{Number}
 use Rattle.fisca_slots.proofs.Both.{Moving, keys_of}
-use Rattle.fisca_slots.proofs.Months.{month_before, month_no_later, months_end}
 use Rattle.fisca_slots.proofs.Placed.{Apart, across}
 use Rattle.fisca_slots.proofs.Shared.{CanShare, Disjoint, Each, Pairwise}
 use Rattle.fisca_slots.proofs.Steps.{CanPart, most_parts}
 use Rattle.fisca_inputs.specs.Overlaps.{shares_day, starts_before}
+use Rattle.fisca_time.proofs.Days.{month_start-lt, month_start-le, month_start-end}
 use Rattle.fisca_time.specs.Calendar.{first_day, end_day}
 use Rattle.fisca_time.specs.Instant.{is_between}
 use Rattle.fisca_time.specs.Period.{Span, eternity, months, days, is_period, is_within, is_eternal, unit_of, first_of, size_of, start_day, stop_day, month_start, days_of, day_at, month_at, year_at, subs, span_cmp}
@@ -96,8 +96,8 @@ month_ends unit first size k h =
     let from = made.from in
     let to = made.to in
     by_first Month (first_of k) made.place (months unit first size) made.first (record {
-      after = month_before first (made.place + 1) (omega (arith, from));
-      within = month_no_later (made.place + 1) (first + months_in unit * size) (omega (arith, to));
+      after = month_start-lt first (made.place + 1) (omega (arith, from));
+      within = month_start-le (made.place + 1) (first + months_in unit * size) (omega (arith, to));
     })
 
 year_ends : (first size : ℕ) (k : Span) → list_any (eq_by_cmp span_cmp k) (map year_at (range_with_len (first / 12) size)) ≡ true
@@ -107,8 +107,8 @@ year_ends first size k h =
     let from = made.from in
     let to = made.to in
     by_first Year (first_of k) (12 * made.place) (months Year first size) made.first (record {
-      after = month_before first (12 * made.place + 12) (omega (arith, from));
-      within = month_no_later (12 * made.place + 12) (first + 12 * size) (omega (arith, to));
+      after = month_start-lt first (12 * made.place + 12) (omega (arith, from));
+      within = month_start-le (12 * made.place + 12) (first + 12 * size) (omega (arith, to));
     })
 
 part_ends : (unit : Unit) (p k : Span) → list_any (eq_by_cmp span_cmp k) (subs p unit) ≡ true → EndsIn unit (first_of k) p
@@ -141,7 +141,7 @@ own_ends Month eternity h other own = cc
 own_ends Month (months Day first size) h other own = cc
 own_ends Month (months Month first size) h other own =
     let one : size ≡ 1 = eqb-true size 1 own in
-    record { after = month_before first (first + 1) (omega arith); within = month_no_later (first + 1) (first + 1 * size) (omega (arith, one)) }
+    record { after = month_start-lt first (first + 1) (omega arith); within = month_start-le (first + 1) (first + 1 * size) (omega (arith, one)) }
 own_ends Month (months Year first size) h other own = cc
 own_ends Month (months Eternity first size) h other own = cc
 own_ends Month (days first size) h other own = cc
@@ -150,7 +150,7 @@ own_ends Year (months Day first size) h other own = cc
 own_ends Year (months Month first size) h other own = cc
 own_ends Year (months Year first size) h other own =
     let one : size ≡ 1 = eqb-true size 1 own in
-    record { after = month_before first (first + 12) (omega arith); within = month_no_later (first + 12) (first + 12 * size) (omega (arith, one)) }
+    record { after = month_start-lt first (first + 12) (omega arith); within = month_start-le (first + 12) (first + 12 * size) (omega (arith, one)) }
 own_ends Year (months Eternity first size) h other own = cc
 own_ends Year (days first size) h other own = cc
 own_ends Eternity p h other own = cc
@@ -246,8 +246,8 @@ few_parts unit eternity h = omega arith
 few_parts Day (months own first size) h =
     let parts = and_parts ((is_month own || is_year own) && is_between 1 1200 size) (is_within 12 120_000 first (months_in own * size)) h in
     let places = and_parts (nat_le 12 first) (nat_le (first + months_in own * size) 120_000) parts.1 in
-    let end = month_no_later (first + months_in own * size) 120_000 (leb-true (first + months_in own * size) 120_000 places.1) in
-    omega (arith, end, months_end, length-map-range_with_len day_at (month_start first) (days_of (months own first size)))
+    let end = month_start-le (first + months_in own * size) 120_000 (leb-true (first + months_in own * size) 120_000 places.1) in
+    omega (arith, end, month_start-end, length-map-range_with_len day_at (month_start first) (days_of (months own first size)))
 few_parts Month (months own first size) h =
     let parts = and_parts ((is_month own || is_year own) && is_between 1 1200 size) (is_within 12 120_000 first (months_in own * size)) h in
     let places = and_parts (nat_le 12 first) (nat_le (first + months_in own * size) 120_000) parts.1 in

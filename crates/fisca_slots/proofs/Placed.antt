@@ -36,10 +36,10 @@ either_way true false = refl
 either_way false true = refl
 either_way false false = refl
 
-equal_turned : (x y : ℕ) → (x == y) ≡ (y == x)
+pub equal_turned : (x y : ℕ) → (x == y) ≡ (y == x)
 equal_turned x y = both_ways (x == y) (y == x) (λ h. eq-eqb y x (sym (eqb-true x y h))) (λ h. eq-eqb x y (sym (eqb-true y x h)))
 
-shares_turned : (p q : Span) → shares_day p q ≡ shares_day q p
+pub shares_turned : (p q : Span) → shares_day p q ≡ shares_day q p
 shares_turned p q = by (starts_before p p) (starts_before q q) (starts_before p q) (starts_before q p)
   where
     by : (a b c d : Bool) → ((a && b) && (c && d)) ≡ ((b && a) && (d && c))

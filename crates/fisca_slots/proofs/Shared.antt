@@ -17,7 +17,7 @@ use Rattle.fisca_model.specs.declared.value.Value.{Value}
 use Rattle.fisca_model.specs.declared.key.Key.{Key}
 use Rattle.fisca_model.specs.Periods.{fits}
 use Rattle.fisca_num.specs.Number.{Number}
-use Rattle.fisca_params.specs.Results.{and_then}
+use Rattle.fisca_num.specs.Results.{and_then}
 use Rattle.fisca_slots.proofs.Both.{Alike, Both, HasParts, IsSettled, Moving, Settled, all_alike, here, kept_alike, keys, keys_of, shared_both}
 use Rattle.fisca_time.specs.Period.{subs}
 

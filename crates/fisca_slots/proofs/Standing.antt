@@ -17,11 +17,11 @@ use Rattle.fisca_model.specs.Periods.{fits}
 use Rattle.fisca_inputs.specs.Overlaps.{shares_day, starts_before}
 use Rattle.fisca_inputs.specs.Steps.Overlaps.{is_across, meets, overlaps}
 use Rattle.fisca_slots.proofs.Both.{Moving, keys_of}
-use Rattle.fisca_slots.proofs.Months.{month_before}
 use Rattle.fisca_inputs.proofs.Numbered.{key_parts}
 use Rattle.fisca_slots.proofs.Parts.{both_equal, part_key}
 use Rattle.fisca_slots.proofs.Placed.{AllOf, Apart, NoneOverlaps, across, key_of, place, place_all}
 use Rattle.fisca_slots.proofs.Shared.{Each, Pairwise, given_of, order_moving, put_moving}
+use Rattle.fisca_time.proofs.Days.{month_start-lt}
 use Rattle.fisca_time.specs.Calendar.{first_day, end_day}
 use Rattle.fisca_time.specs.Instant.{is_between}
 use Rattle.fisca_time.specs.Kept.{span_of}
@@ -47,7 +47,7 @@ rank_of Year = refl
 rank_of Eternity = refl
 
 -- equal periods are the same
-same_period : (p q : Span) → is_period p ≡ true → is_period q ≡ true → eq_by_cmp span_cmp p q ≡ true → p ≡ q
+pub same_period : (p q : Span) → is_period p ≡ true → is_period q ≡ true → eq_by_cmp span_cmp p q ≡ true → p ≡ q
 same_period p q hp hq h =
     let units = both_equal (nat_cmp (rank (unit_of p)) (rank (unit_of q))) (ordering_then (nat_cmp (first_of p) (first_of q)) (nat_cmp (size_of p) (size_of q))) h in
     let sizes = both_equal (nat_cmp (first_of p) (first_of q)) (nat_cmp (size_of p) (size_of q)) units.1 in
@@ -76,10 +76,10 @@ own_day eternity h = refl
 own_day (months Day first size) h = cc
 own_day (months Month first size) h =
     let some = some_size Month first size h in
-    lt-ltb (month_start first) (month_start (first + 1 * size)) (month_before first (first + 1 * size) (omega (arith, some)))
+    lt-ltb (month_start first) (month_start (first + 1 * size)) (month_start-lt first (first + 1 * size) (omega (arith, some)))
 own_day (months Year first size) h =
     let some = some_size Year first size h in
-    lt-ltb (month_start first) (month_start (first + 12 * size)) (month_before first (first + 12 * size) (omega (arith, some)))
+    lt-ltb (month_start first) (month_start (first + 12 * size)) (month_start-lt first (first + 12 * size) (omega (arith, some)))
 own_day (months Eternity first size) h = cc
 own_day (days first size) h = let some = some_days first size h in lt-ltb first (first + size) (omega (arith, some))
 

@@ -1,5 +1,5 @@
 -- Lines and verdicts of outputs, as far as they have come.
-use Rattle.std.proofs.Common.{◌≡◌, ◌∙◌, ℕ, suc, ◌+◌, ◌<◌, ap, refl, sym, Bool, true, false, List, [], ◌∷◌, ◌++◌, map, length, get_or, drop, drop-cons, add-one, append-nil, zero-add}
+use Rattle.std.proofs.Common.{◌≡◌, ◌∙◌, ℕ, suc, ◌+◌, ◌-◌, ◌<◌, ap, arith, refl, sym, Bool, true, false, List, [], ◌∷◌, ◌++◌, map, length, get_or, drop, drop-cons, add-one, append-nil, zero-add}
 use Rattle.std.specs.Prelude.{◌&&◌, Option}
 use Rattle.std.specs.List.{flat_map, list_all, range_with_len}
 use Rattle.std.proofs.lemmas.Grind.{flat_map-append}
@@ -35,6 +35,12 @@ passed_line c ms name key o (Faulted f) h = cc
 first_of : {X : Type 0} (xs : List X) (i : ℕ) (x : X) → i < length xs → x ≡ get_or xs i x → drop i xs ≡ x ∷ drop (i + 1) xs
 first_of xs i x inside is = drop-cons xs i x inside ∙ ap (λ y. y ∷ drop (suc i) xs) (sym is) ∙ ap (λ k. x ∷ drop k xs) (sym (add-one i))
 
+pub all_left : (n : ℕ) → n ≡ n - 0
+all_left n = omega (arith)
+
+one_more : (a n : ℕ) → a < n → n - a ≡ suc (n - (a + 1))
+one_more a n h = omega (arith, h)
+
 module _ {F : Type 0} (s : TestContext F) (m : Margins) where
   pub lines_of_both : (os ps : List Output) → output_lines s m (os ++ ps) ≡ output_lines s m os ++ output_lines s m ps
   lines_of_both os ps = flat_map-append (output_line s m) os ps
@@ -49,15 +55,14 @@ module _ {F : Type 0} (s : TestContext F) (m : Margins) where
   pub pass_alone : (o : Output) → passes s m (o ∷ []) ≡ output_passes s m o
   pass_alone o = and_true (output_passes s m o)
 
-  pub lines_more : (f : ℕ → Output) (n : ℕ) → output_lines s m (map f (range_with_len 0 (n + 1))) ≡ output_lines s m (map f (range_with_len 0 n)) ++ output_line s m (f n)
-  lines_more f n =
-      ap (output_lines s m) (map-range_with_len_more f 0 n n (zero-add n)) ∙ lines_of_both (map f (range_with_len 0 n)) (f n ∷ [])
-      ∙ ap (λ x. output_lines s m (map f (range_with_len 0 n)) ++ x) (append-nil (output_line s m (f n)))
+  -- what is told of members from a place on begins with what is told of the one that stands there
+  pub lines_from_member : (f : ℕ → Output) (a n : ℕ) → a < n
+      → output_lines s m (map f (range_with_len a (n - a))) ≡ output_line s m (f a) ++ output_lines s m (map f (range_with_len (a + 1) (n - (a + 1))))
+  lines_from_member f a n h = ap (λ k. output_lines s m (map f (range_with_len a k))) (one_more a n h)
 
-  pub pass_more : (f : ℕ → Output) (n : ℕ) → passes s m (map f (range_with_len 0 (n + 1))) ≡ (passes s m (map f (range_with_len 0 n)) && output_passes s m (f n))
-  pass_more f n =
-      ap (passes s m) (map-range_with_len_more f 0 n n (zero-add n)) ∙ pass_both (map f (range_with_len 0 n)) (f n ∷ [])
-      ∙ ap (λ b. passes s m (map f (range_with_len 0 n)) && b) (and_true (output_passes s m (f n)))
+  pub pass_from_member : (f : ℕ → Output) (a n : ℕ) → a < n
+      → passes s m (map f (range_with_len a (n - a))) ≡ (output_passes s m (f a) && passes s m (map f (range_with_len (a + 1) (n - (a + 1)))))
+  pass_from_member f a n h = ap (λ k. passes s m (map f (range_with_len a k))) (one_more a n h)
 
   -- there is no line where all pass
   pub none_failed : (os : List Output) → passes s m os ≡ true → output_lines s m os ≡ []

@@ -5,7 +5,7 @@ use Rattle.std.specs.Prelude.{codes, Result, Ok, Err}
 use Rattle.fisca_columns.specs.Steps.Calc.{default_in}
 use Rattle.fisca_inputs.proofs.Typed.{then_ok}
 use Rattle.fisca_inputs.specs.declared.fault.SituationFault.{SituationFault}
-use Rattle.fisca_params.specs.Results.{and_then}
+use Rattle.fisca_num.specs.Results.{and_then}
 use Rattle.fisca_situations.specs.Situations.{Situation}
 use Rattle.fisca_symbols.specs.declared.tables.Tables.{Tables}
 use Rattle.fisca_yaml.specs.Find.{line_at}

@@ -6,7 +6,7 @@ use Rattle.std.specs.Prelude.{◌⊎◌, IfErr, IfOk, Option, Result, Ok, Err}
 use Rattle.std.proofs.KnownBytes.{Appends-trans}
 use Rattle.std.proofs.lemmas.List.{length-append}
 use Rattle.fisca_inputs.proofs.Typed.{then_ok}
-use Rattle.fisca_params.specs.Results.{and_then}
+use Rattle.fisca_num.specs.Results.{and_then}
 use Rattle.fisca_symbols.specs.declared.tables.Tables.{Tables}
 use Rattle.fisca_writer.specs.Run.{AppendsPart}
 use Rattle.fisca_yaml.specs.Node.{Items, no_items, item}

@@ -1,9 +1,9 @@
 //! A report that is handed over as it is made.
 
 ghost use Rattle.std.specs.Prelude.{◌≡◌, ◌++◌, map, option_map, IfOk, IfErr, OnOk, OnErr, Ok, Err};
-ghost use Rattle.std.specs.List.{flat_map};
+ghost use Rattle.std.specs.List.{flat_map, range_with_len};
 ghost use Rattle.std.specs.Io.KnownBytes.{Appends};
-ghost use Rattle.fisca_expected.specs.Views.{expected_outputs};
+ghost use Rattle.fisca_expected.specs.Views.{expected_outputs, output_of};
 ghost use Rattle.fisca_symbols.specs.Known.{tables as known};
 ghost use Rattle.fisca_writer.specs.Run.{AppendsPart};
 ghost use Rattle.fisca_writer.specs.Sink.{CountsFailure};
@@ -15,16 +15,18 @@ ghost use Rattle.fisca_yaml.specs.Views.{node};
 
 use crate::key_fault::KeyFault;
 use crate::margins::Margins;
-use crate::renewal::TestPlace;
-use crate::report::{write_counts, write_expected, write_head};
+use crate::passing::all_pass;
+use crate::renewal::{TestPlace, renew_before};
+use crate::report::{write_counts, write_head, write_output};
 use crate::report_fault::ReportFault;
 use crate::simulation_builder::SimulationBuilder;
 use crate::test::{Test, test_of};
-use fisca_expected::ExpectedOutput;
+use fisca_expected::{ExpectedMembers, ExpectedOutput};
+use fisca_model::{Key, Value};
 use fisca_situations::Answers;
 use fisca_symbols::Tables;
 use fisca_writer::{RowSink, hand_over};
-use std::alloc::{AllocError, Global};
+use std::alloc::Global;
 
 /// Hands a piece over.
 pub(crate) fn hand<S: RowSink>(piece: &[u8], sink: &mut S) -> Result<(), ReportFault>
@@ -39,38 +41,74 @@ pub(crate) fn hand<S: RowSink>(piece: &[u8], sink: &mut S) -> Result<(), ReportF
     }
 }
 
-/// Works out what is expected, in order, up to the first that does not pass. Whether all pass.
-fn all_pass<F: KeyFault + Drop, A: Answers<Fault = F> + Drop, M: SimulationBuilder<A>>(
+/// Works an output out, with answers that are made anew first where they remember much, and hands its line over where it failed.
+#[tactic(auto, using(crate::proofs::Handed::none_yet, crate::proofs::Handed::from_part))]
+fn hand_output<
+    F: KeyFault + Drop,
+    A: Answers<Fault = F> + Drop,
+    M: SimulationBuilder<A>,
+    S: RowSink,
+>(
     alloc: Global,
     tables: &Tables<'_>,
     place: TestPlace<'_, '_>,
     builder: &M,
     margins: &Margins,
-    outputs: &[ExpectedOutput],
+    output: &(Key, Value),
+    asked: &mut u64,
     answers: &mut A,
-) -> Result<bool, AllocError>
+    sink: &mut S,
+) -> Result<(), ReportFault>
     requires answers { AreAnswersOf (M.answer_in builder.now) (M.fits builder.now) tables.now place.line (node place.tree.now) (A.answer answers.old) (A.members answers.old) }
     requires ready { A.ready answers.old }
-    ensures passed { IfOk result (λ b. b ≡ spec.passes (spec.test_context (known tables.now) (A.members answers.old) (A.answer answers.old) F.fault_name F.fault_key) margins.now (flat_map expected_outputs outputs.now)) }
+    ensures all { OnOk result (Appends (S.taken sink.old) (S.taken sink.new) (spec.output_line (spec.test_context (known tables.now) (A.members answers.old) (A.answer answers.old) F.fault_name F.fault_key) margins.now output.now)) }
+    ensures part { OnErr result (AppendsSome (spec.output_line (spec.test_context (known tables.now) (A.members answers.old) (A.answer answers.old) F.fault_name F.fault_key) margins.now output.now) (S.taken sink.old) (S.taken sink.new)) }
+    ensures cut { IfErr result IsCut }
+    ensures failures { CountsFailure (is_write result) (S.failures sink.old) (S.failures sink.new) }
     ensures ready { A.ready answers.new }
     ensures same_answers { A.answer answers.new ≡ A.answer answers.old }
     ensures same_members { A.members answers.new ≡ A.members answers.old }
 {
-    let mut asked = 0u64;
-    for expected in outputs {
-        let mut text = String::new(alloc);
-        let passed = write_expected(
-            alloc, tables, place, builder, margins, expected, &mut asked, answers, &mut text,
+    renew_before(alloc, tables, place, builder, asked, answers)?;
+    let mut text = String::new(alloc);
+    write_output(alloc, tables, margins, output, answers, &mut text)?;
+    hand(text.as_bytes(), sink)
+}
+
+/// The same of what is expected of each of so many members: each line is handed over by itself, so that none waits for another.
+fn hand_each<F: KeyFault + Drop, A: Answers<Fault = F> + Drop, M: SimulationBuilder<A>, S: RowSink>(
+    alloc: Global,
+    tables: &Tables<'_>,
+    place: TestPlace<'_, '_>,
+    builder: &M,
+    margins: &Margins,
+    expected: &ExpectedOutput,
+    count: u32,
+    asked: &mut u64,
+    answers: &mut A,
+    sink: &mut S,
+) -> Result<(), ReportFault>
+    requires answers { AreAnswersOf (M.answer_in builder.now) (M.fits builder.now) tables.now place.line (node place.tree.now) (A.answer answers.old) (A.members answers.old) }
+    requires ready { A.ready answers.old }
+    ensures all { OnOk result (Appends (S.taken sink.old) (S.taken sink.new) (spec.output_lines (spec.test_context (known tables.now) (A.members answers.old) (A.answer answers.old) F.fault_name F.fault_key) margins.now (map (output_of expected.now) (range_with_len 0 count)))) }
+    ensures part { OnErr result (AppendsSome (spec.output_lines (spec.test_context (known tables.now) (A.members answers.old) (A.answer answers.old) F.fault_name F.fault_key) margins.now (map (output_of expected.now) (range_with_len 0 count))) (S.taken sink.old) (S.taken sink.new)) }
+    ensures cut { IfErr result IsCut }
+    ensures failures { CountsFailure (is_write result) (S.failures sink.old) (S.failures sink.new) }
+    ensures ready { A.ready answers.new }
+    ensures same_answers { A.answer answers.new ≡ A.answer answers.old }
+    ensures same_members { A.members answers.new ≡ A.members answers.old }
+{
+    for member in 0..count {
+        let output = expected.of_member(member);
+        hand_output(
+            alloc, tables, place, builder, margins, &output, asked, answers, sink,
         )?;
-        if !passed {
-            return Ok(false);
-        }
     }
-    Ok(true)
+    Ok(())
 }
 
 /// Works out what is expected of members, and hands over the lines of outputs that failed.
-#[tactic(auto, using(crate::proofs::Handed::none_yet, crate::proofs::Handed::from_part))]
+#[tactic(auto, using(crate::proofs::OutputLines::line_alone))]
 fn hand_expected<
     F: KeyFault + Drop,
     A: Answers<Fault = F> + Drop,
@@ -97,11 +135,19 @@ fn hand_expected<
     ensures same_answers { A.answer answers.new ≡ A.answer answers.old }
     ensures same_members { A.members answers.new ≡ A.members answers.old }
 {
-    let mut text = String::new(alloc);
-    let _passed = write_expected(
-        alloc, tables, place, builder, margins, expected, asked, answers, &mut text,
-    )?;
-    hand(text.as_bytes(), sink)
+    match expected.whom {
+        ExpectedMembers::Each(count) => {
+            hand_each(
+                alloc, tables, place, builder, margins, expected, count, asked, answers, sink,
+            )
+        }
+        ExpectedMembers::One(member) => {
+            let output = expected.of_member(member);
+            hand_output(
+                alloc, tables, place, builder, margins, &output, asked, answers, sink,
+            )
+        }
+    }
 }
 
 /// Works out what is expected, in order, and hands over the lines of outputs that failed.

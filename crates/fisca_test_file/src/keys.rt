@@ -10,29 +10,16 @@ use crate::margins::margin_in;
 use fisca_columns::{are_columns, period_in};
 use fisca_yaml::{Entry, Tree};
 
-/// Whether this is a number from 0 up.
-fn is_margin(tree: &Tree<'_>) -> bool
-    ensures { result ≡ spec.is_margin (node tree.now) }
-{
-    margin_in(tree).is_some()
-}
-
-/// Whether this is a scalar.
-fn is_text(tree: &Tree<'_>) -> bool
-    ensures { result ≡ spec.is_text (node tree.now) }
-{
-    tree.as_text().is_some()
-}
-
 /// Whether a key has what it may have.
+#[tactic(auto, unfolding(crate::specs::Steps::Tests::is_margin, crate::specs::Steps::Tests::is_text))]
 fn is_accepted(key: &str, tree: &Tree<'_>) -> bool
     ensures { result ≡ spec.is_accepted key.now (node tree.now) }
 {
     match key {
         "output" | "input" => true,
         "period" => period_in(tree).is_some(),
-        "name" | "description" => is_text(tree),
-        "absolute_error_margin" | "relative_error_margin" => is_margin(tree),
+        "name" | "description" => tree.as_text().is_some(),
+        "absolute_error_margin" | "relative_error_margin" => margin_in(tree).is_some(),
         "keywords" => are_columns(tree),
         _ => false,
     }

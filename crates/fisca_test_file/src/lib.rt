@@ -13,6 +13,7 @@ mod law;
 mod lines;
 mod margins;
 mod outcome;
+mod passing;
 mod renewal;
 mod report;
 mod report_fault;

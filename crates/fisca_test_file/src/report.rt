@@ -1,23 +1,15 @@
-//! What is told of tests.
+//! What is told of an output and of a test.
 
-ghost use Rattle.std.specs.Prelude.{◌≡◌, ◌&&◌, ◌++◌, string_bytes, map, option_map, IfOk, OnOk};
-ghost use Rattle.std.specs.List.{range_with_len};
-ghost use Rattle.fisca_expected.specs.Views.{expected_outputs, output_of};
-ghost use Rattle.fisca_situations.specs.Steps.Views.{situation as situation_view};
+ghost use Rattle.std.specs.Prelude.{◌≡◌, ◌++◌, string_bytes, option_map, IfOk, OnOk};
 ghost use Rattle.fisca_symbols.specs.Known.{tables as known};
-ghost use Rattle.fisca_test_file.specs.Handing.{AreAnswersOf};
 ghost use Rattle.fisca_test_file.specs.Report as spec;
 ghost use Rattle.fisca_test_file.specs.Steps.Verdicts.{outcome_of as outcome_spec};
-ghost use Rattle.fisca_yaml.specs.Views.{node};
 
 use crate::comparing::outcome_of;
 use crate::key_fault::KeyFault;
 use crate::lines::write_outcome;
 use crate::margins::Margins;
 use crate::outcome::Outcome;
-use crate::renewal::{TestPlace, renew_before};
-use crate::simulation_builder::SimulationBuilder;
-use fisca_expected::{ExpectedMembers, ExpectedOutput};
 use fisca_model::{Key, Value};
 use fisca_situations::Answers;
 use fisca_symbols::Tables;
@@ -25,7 +17,7 @@ use fisca_writer::RowFault;
 use std::alloc::{AllocError, Global};
 
 /// How an output comes out. `AllocError` only where the value could not be worked out for want of memory.
-fn outcome_at<F: Drop, A: Answers<Fault = F>>(
+pub(crate) fn outcome_at<F: Drop, A: Answers<Fault = F>>(
     margins: Margins,
     output: &(Key, Value),
     answers: &mut A,
@@ -43,129 +35,24 @@ fn outcome_at<F: Drop, A: Answers<Fault = F>>(
     }
 }
 
-/// Works out an output, and appends its line where it failed. Whether it passed.
-fn write_output<F: KeyFault + Drop, A: Answers<Fault = F>>(
+/// Works out an output, and appends its line where it failed.
+pub(crate) fn write_output<F: KeyFault + Drop, A: Answers<Fault = F>>(
     alloc: Global,
     tables: &Tables<'_>,
     margins: &Margins,
     output: &(Key, Value),
     answers: &mut A,
     line: &mut String,
-) -> Result<bool, AllocError>
+) -> Result<(), AllocError>
     requires { A.ready answers.old }
     ensures text { OnOk result (string_bytes line.new ≡ string_bytes line.old ++ spec.output_line (spec.test_context (known tables.now) (A.members answers.old) (A.answer answers.old) F.fault_name F.fault_key) margins.now output.now) }
-    ensures passed { IfOk result (λ b. b ≡ spec.output_passes (spec.test_context (known tables.now) (A.members answers.old) (A.answer answers.old) F.fault_name F.fault_key) margins.now output.now) }
     ensures ready { A.ready answers.new }
     ensures same_answers { A.answer answers.new ≡ A.answer answers.old }
     ensures same_members { A.members answers.new ≡ A.members answers.old }
 {
     let outcome = outcome_at(*margins, output, answers)?;
     let situation = answers.situation();
-    write_outcome(alloc, tables, situation, output, &outcome, line)?;
-    Ok(outcome.is_passed())
-}
-
-/// The same with answers that are made anew first where they remember much.
-fn write_next<F: KeyFault + Drop, A: Answers<Fault = F> + Drop, M: SimulationBuilder<A>>(
-    alloc: Global,
-    tables: &Tables<'_>,
-    place: TestPlace<'_, '_>,
-    builder: &M,
-    margins: &Margins,
-    output: &(Key, Value),
-    asked: &mut u64,
-    answers: &mut A,
-    line: &mut String,
-) -> Result<bool, AllocError>
-    requires answers { AreAnswersOf (M.answer_in builder.now) (M.fits builder.now) tables.now place.line (node place.tree.now) (A.answer answers.old) (A.members answers.old) }
-    requires ready { A.ready answers.old }
-    ensures text { OnOk result (string_bytes line.new ≡ string_bytes line.old ++ spec.output_line (spec.test_context (known tables.now) (A.members answers.old) (A.answer answers.old) F.fault_name F.fault_key) margins.now output.now) }
-    ensures passed { IfOk result (λ b. b ≡ spec.output_passes (spec.test_context (known tables.now) (A.members answers.old) (A.answer answers.old) F.fault_name F.fault_key) margins.now output.now) }
-    ensures ready { A.ready answers.new }
-    ensures same_answers { A.answer answers.new ≡ A.answer answers.old }
-    ensures same_members { A.members answers.new ≡ A.members answers.old }
-{
-    renew_before(alloc, tables, place, builder, asked, answers)?;
-    write_output(alloc, tables, margins, output, answers, line)
-}
-
-/// Whether all outputs so far and this one passed.
-fn pass_both(so_far: bool, this: bool) -> bool
-    ensures { result ≡ (so_far && this) }
-{
-    so_far && this
-}
-
-/// The same of what is expected of each of so many members.
-fn write_each<F: KeyFault + Drop, A: Answers<Fault = F> + Drop, M: SimulationBuilder<A>>(
-    alloc: Global,
-    tables: &Tables<'_>,
-    place: TestPlace<'_, '_>,
-    builder: &M,
-    margins: &Margins,
-    expected: &ExpectedOutput,
-    count: u32,
-    asked: &mut u64,
-    answers: &mut A,
-    line: &mut String,
-) -> Result<bool, AllocError>
-    requires answers { AreAnswersOf (M.answer_in builder.now) (M.fits builder.now) tables.now place.line (node place.tree.now) (A.answer answers.old) (A.members answers.old) }
-    requires ready { A.ready answers.old }
-    ensures text { OnOk result (string_bytes line.new ≡ string_bytes line.old ++ spec.output_lines (spec.test_context (known tables.now) (A.members answers.old) (A.answer answers.old) F.fault_name F.fault_key) margins.now (map (output_of expected.now) (range_with_len 0 count))) }
-    ensures passed { IfOk result (λ b. b ≡ spec.passes (spec.test_context (known tables.now) (A.members answers.old) (A.answer answers.old) F.fault_name F.fault_key) margins.now (map (output_of expected.now) (range_with_len 0 count))) }
-    ensures ready { A.ready answers.new }
-    ensures same_answers { A.answer answers.new ≡ A.answer answers.old }
-    ensures same_members { A.members answers.new ≡ A.members answers.old }
-{
-    let mut passed = true;
-    for member in 0..count {
-        let output = expected.of_member(member);
-        let is_passed = write_next(
-            alloc, tables, place, builder, margins, &output, asked, answers, line,
-        )?;
-        passed = pass_both(passed, is_passed);
-    }
-    Ok(passed)
-}
-
-/// Works out what is expected of members, in order, and appends the lines of outputs that failed. Whether all passed.
-#[tactic(auto, using(crate::proofs::OutputLines::line_alone, crate::proofs::OutputLines::pass_alone))]
-pub(crate) fn write_expected<
-    F: KeyFault + Drop,
-    A: Answers<Fault = F> + Drop,
-    M: SimulationBuilder<A>,
->(
-    alloc: Global,
-    tables: &Tables<'_>,
-    place: TestPlace<'_, '_>,
-    builder: &M,
-    margins: &Margins,
-    expected: &ExpectedOutput,
-    asked: &mut u64,
-    answers: &mut A,
-    line: &mut String,
-) -> Result<bool, AllocError>
-    requires answers { AreAnswersOf (M.answer_in builder.now) (M.fits builder.now) tables.now place.line (node place.tree.now) (A.answer answers.old) (A.members answers.old) }
-    requires ready { A.ready answers.old }
-    ensures text { OnOk result (string_bytes line.new ≡ string_bytes line.old ++ spec.output_lines (spec.test_context (known tables.now) (A.members answers.old) (A.answer answers.old) F.fault_name F.fault_key) margins.now (expected_outputs expected.now)) }
-    ensures passed { IfOk result (λ b. b ≡ spec.passes (spec.test_context (known tables.now) (A.members answers.old) (A.answer answers.old) F.fault_name F.fault_key) margins.now (expected_outputs expected.now)) }
-    ensures ready { A.ready answers.new }
-    ensures same_answers { A.answer answers.new ≡ A.answer answers.old }
-    ensures same_members { A.members answers.new ≡ A.members answers.old }
-{
-    match expected.whom {
-        ExpectedMembers::Each(count) => {
-            write_each(
-                alloc, tables, place, builder, margins, expected, count, asked, answers, line,
-            )
-        }
-        ExpectedMembers::One(member) => {
-            let output = expected.of_member(member);
-            write_next(
-                alloc, tables, place, builder, margins, &output, asked, answers, line,
-            )
-        }
-    }
+    write_outcome(alloc, tables, situation, output, &outcome, line)
 }
 
 /// Appends the name of a test, or its number where it has none.

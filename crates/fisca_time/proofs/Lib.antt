@@ -1,4 +1,4 @@
-mod Days
+pub mod Days
 mod Digits
 mod Forms
 mod Laws

@@ -48,28 +48,34 @@ fn written_start(text: &str) -> Option<Form>
 {
     let Some((year, rest)) = split(text, b'-') else {
         let year = numeral(4, text)?;
-        return Some(start_in(Unit::Year, year, 1, 1));
+        return Some(Form {
+            unit: Unit::Year,
+            year,
+            month: 1,
+            day: 1,
+            size: 1,
+        });
     };
     let year = numeral(4, year)?;
     if let Some(month) = short_numeral(rest) {
-        return Some(start_in(Unit::Month, year, month, 1));
+        return Some(Form {
+            unit: Unit::Month,
+            year,
+            month,
+            day: 1,
+            size: 1,
+        });
     }
     let (month, day) = split(rest, b'-')?;
     let month = short_numeral(month)?;
     let day = short_numeral(day)?;
-    Some(start_in(Unit::Day, year, month, day))
-}
-
-fn start_in(unit: Unit, year: u32, month: u32, day: u32) -> Form
-    ensures { result ≡ record { unit = unit; year = year; month = month; day = day; size = 1 } }
-{
-    Form {
-        unit,
+    Some(Form {
+        unit: Unit::Day,
         year,
         month,
         day,
         size: 1,
-    }
+    })
 }
 
 /// A month or a day, in one digit or two.

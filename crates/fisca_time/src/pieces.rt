@@ -43,6 +43,11 @@ pub(crate) fn split(text: &str, separator: u8) -> Option<(&str, &str)>
     ensures { MatchOption result (pieces separator text.now ≡ text.now ∷ [])
         (λ parts. pieces separator text.now ≡ parts.0.now ∷ pieces separator parts.1.now) }
 {
-    let at = text.as_bytes().iter().position(|&byte| byte == separator)?;
-    Some((text.split_at(at).0, text.split_at(at + 1).1))
+    let bytes = text.as_bytes();
+    for at in 0..bytes.len() {
+        if bytes[at] == separator {
+            return Some((text.split_at(at).0, text.split_at(at + 1).1));
+        }
+    }
+    None
 }

@@ -5,7 +5,7 @@ use Rattle.fisca_ast.specs.declared.fault.FormulaKind.{FormulaKind}
 use Rattle.fisca_ast.specs.Tree.{Tree, Series}
 use Rattle.fisca_ast.specs.Tree as tree
 use Rattle.fisca_ast.specs.declared.tree.Suffix.TheVariants as suffix
-use Rattle.fisca_ast.specs.declared.tree.Bracket.TheVariants as bracket
+use Rattle.fisca_ast.specs.declared.tree.Delimiter.TheVariants as bracket
 use Rattle.fisca_time.specs.declared.unit.Unit.TheVariants as unit
 use Rattle.fisca_typing.specs.declared.kinds.Level.{Level}
 use Rattle.fisca_typing.specs.declared.kinds.Level.TheVariants as level

@@ -5,7 +5,7 @@ use Rattle.fisca_ast.specs.Words.{is}
 use Rattle.fisca_ast.specs.Tree.{Tree}
 use Rattle.fisca_ast.specs.declared.tree.Operator.{Operator}
 use Rattle.fisca_ast.specs.declared.tree.Operator.TheVariants as operator
-use Rattle.fisca_params.specs.Results.{and_then}
+use Rattle.fisca_num.specs.Results.{and_then}
 use Rattle.fisca_ast.specs.declared.fault.FormulaKind.{FormulaKind}
 use Rattle.fisca_ast.specs.declared.fault.FormulaKind.TheVariants as kind
 use Rattle.fisca_typing.specs.declared.kinds.Level.TheVariants as level

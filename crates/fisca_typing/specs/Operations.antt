@@ -1,6 +1,6 @@
 -- Types and levels of operations.
 use Rattle.std.specs.Prelude.{ℤ, unsigned_abs, List, [], ◌∷◌, nat_le, Bool, false, ◌&&◌, if◌then◌else◌, Result, Ok}
-use Rattle.fisca_params.specs.Results.{and_then}
+use Rattle.fisca_num.specs.Results.{and_then}
 use Rattle.fisca_ast.specs.declared.tree.Operator.{Operator}
 use Rattle.fisca_ast.specs.declared.tree.Operator.TheVariants as operator
 use Rattle.fisca_ast.specs.declared.tree.Comparison.{Comparison}

@@ -2,7 +2,7 @@
 use Rattle.std.specs.Prelude.{ℕ, List, [], ◌∷◌, ◌++◌, map, length, Bool, true, false, if◌then◌else◌, ok_or, Result, Ok, codes}
 use Rattle.std.specs.List.{list_all}
 use Rattle.fisca_ast.specs.Words.{is}
-use Rattle.fisca_params.specs.Results.{and_then}
+use Rattle.fisca_num.specs.Results.{and_then}
 use Rattle.fisca_params.specs.Tree.{TreeNode, child_of, content_at}
 use Rattle.fisca_params.specs.Lookup.{kind_of}
 use Rattle.fisca_params.specs.declared.content.NodeKind.{NodeKind}

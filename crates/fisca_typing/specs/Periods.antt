@@ -3,14 +3,14 @@ use Rattle.std.specs.Prelude.{ℕ, ℤ, neg_ℤ, List, [], ◌∷◌, ◌++◌, 
 use Rattle.fisca_num.specs.declared.faults.NumFault.{NumFault}
 use Rattle.fisca_num.specs.Number.{Number}
 use Rattle.fisca_num.specs.Literal.{number_of_literal}
-use Rattle.fisca_params.specs.Results.{and_then}
+use Rattle.fisca_num.specs.Results.{and_then}
 use Rattle.fisca_time.specs.declared.unit.Unit.{Unit}
 use Rattle.fisca_time.specs.declared.unit.Unit.TheVariants as unit
 use Rattle.fisca_ast.specs.Words.{is}
 use Rattle.fisca_ast.specs.Tree.{Tree, Series, Argument}
 use Rattle.fisca_ast.specs.Tree as tree
-use Rattle.fisca_ast.specs.declared.tree.Bracket.{Bracket}
-use Rattle.fisca_ast.specs.declared.tree.Bracket.TheVariants as bracket
+use Rattle.fisca_ast.specs.declared.tree.Delimiter.{Delimiter}
+use Rattle.fisca_ast.specs.declared.tree.Delimiter.TheVariants as bracket
 use Rattle.fisca_ast.specs.declared.tree.Prefix.{Prefix}
 use Rattle.fisca_ast.specs.declared.tree.Prefix.TheVariants as prefix
 use Rattle.fisca_ast.specs.declared.fault.FormulaKind.{FormulaKind}
@@ -68,12 +68,12 @@ abbrev mutual
   unsigned_whole (tree.binary o a b) = None
   unsigned_whole (tree.compare o a b) = None
 
-  pub unsigned_alone : Bracket → Series → Option ℤ
+  pub unsigned_alone : Delimiter → Series → Option ℤ
   unsigned_alone b tree.nothing = None
   unsigned_alone b (tree.last a) = unsigned_in b a
   unsigned_alone b (tree.next a xs) = None
 
-  pub unsigned_in : Bracket → Argument → Option ℤ
+  pub unsigned_in : Delimiter → Argument → Option ℤ
   unsigned_in bracket.Round (tree.positional e) = unsigned_whole e
   unsigned_in bracket.Square (tree.positional e) = None
   unsigned_in bracket.Curly (tree.positional e) = None
@@ -98,12 +98,12 @@ abbrev mutual
   whole (tree.binary o a b) = None
   whole (tree.compare o a b) = None
 
-  pub whole_alone : Bracket → Series → Option ℤ
+  pub whole_alone : Delimiter → Series → Option ℤ
   whole_alone b tree.nothing = None
   whole_alone b (tree.last a) = whole_in b a
   whole_alone b (tree.next a xs) = None
 
-  pub whole_in : Bracket → Argument → Option ℤ
+  pub whole_in : Delimiter → Argument → Option ℤ
   whole_in bracket.Round (tree.positional e) = whole e
   whole_in bracket.Square (tree.positional e) = None
   whole_in bracket.Curly (tree.positional e) = None

@@ -6,11 +6,11 @@ use Rattle.fisca_num.specs.Literal.{number_of_literal}
 use Rattle.fisca_ast.specs.Words.{is}
 use Rattle.fisca_ast.specs.Tree.{Tree, Series, Argument}
 use Rattle.fisca_ast.specs.Tree as tree
-use Rattle.fisca_ast.specs.declared.tree.Bracket.{Bracket}
-use Rattle.fisca_ast.specs.declared.tree.Bracket.TheVariants as bracket
+use Rattle.fisca_ast.specs.declared.tree.Delimiter.{Delimiter}
+use Rattle.fisca_ast.specs.declared.tree.Delimiter.TheVariants as bracket
 use Rattle.fisca_ast.specs.declared.tree.Suffix.{Suffix}
 use Rattle.fisca_ast.specs.declared.tree.Suffix.TheVariants as suffix
-use Rattle.fisca_params.specs.Results.{and_then}
+use Rattle.fisca_num.specs.Results.{and_then}
 use Rattle.fisca_ast.specs.declared.fault.FormulaKind.{FormulaKind}
 use Rattle.fisca_model.specs.declared.role_place.RolePlace.{RolePlace}
 use Rattle.fisca_typing.specs.declared.kinds.Level.TheVariants as level
@@ -102,7 +102,7 @@ only (g ∷ []) = if is_positional g.keyword then g.thing else bad_type
 only (g ∷ h ∷ gs) = bad_type
 
 -- parentheses group alone; no formula has tuples or maps
-abbrev pub in_brackets : Bracket → List CallArgument → Result Thing FormulaKind
+abbrev pub in_brackets : Delimiter → List CallArgument → Result Thing FormulaKind
 in_brackets bracket.Round gs = only gs
 in_brackets bracket.Square gs = and_then (elements gs) (λ xs. Ok (listed xs))
 in_brackets bracket.Curly gs = bad_type

@@ -9,3 +9,4 @@ pub mod Shares
 pub mod Rising
 pub mod Places
 pub mod Coming
+mod Parts

@@ -10,3 +10,4 @@ pub mod Parts
 pub mod Ranges
 pub mod Steps
 pub mod Turning
+pub mod LastLine

@@ -3,6 +3,7 @@
 
 mod fault;
 mod groups;
+mod last_line;
 mod law;
 mod limit;
 mod memory_sink;
@@ -17,6 +18,7 @@ mod stream_sink;
 
 pub use fault::{RowFault, RunEnd, RunFault};
 pub use groups::GroupLengths;
+pub use last_line::write_end;
 pub use law::{positions_rise, runs_continue};
 pub use limit::Limit;
 pub use memory_sink::MemorySink;

@@ -1,10 +1,10 @@
 -- Parentheses around one expression group and do nothing else.
 use Rattle.std.specs.Prelude.{Option, Some, None}
-use Rattle.fisca_ast.specs.declared.tree.Bracket.{Bracket}
-use Rattle.fisca_ast.specs.declared.tree.Bracket.TheVariants as bracket
+use Rattle.fisca_ast.specs.declared.tree.Delimiter.{Delimiter}
+use Rattle.fisca_ast.specs.declared.tree.Delimiter.TheVariants as bracket
 use Rattle.fisca_ast.specs.Tree.{Tree, Series, Argument, name, number, text, bracketed, attribute, applied, prefixed, binary, compare, nothing, last, next, positional, keyword, entry}
 
-abbrev pub unwrapped : Bracket → Option Tree → Tree → Tree
+abbrev pub unwrapped : Delimiter → Option Tree → Tree → Tree
 unwrapped bracket.Round (Some inner) e = inner
 unwrapped bracket.Round None e = e
 unwrapped bracket.Square inner e = e

@@ -3,7 +3,7 @@ use Rattle.std.specs.Prelude.{ℕ, List, [], ◌∷◌, if◌then◌else◌, Opt
 use Rattle.fisca_ast.specs.Steps.Groups.{bare}
 use Rattle.fisca_ast.specs.Tree.{Tree, name, attribute as dotted}
 use Rattle.fisca_ast.specs.Words.{is}
-use Rattle.fisca_params.specs.Results.{and_then}
+use Rattle.fisca_num.specs.Results.{and_then}
 use Rattle.fisca_ast.specs.Modules.{Item, attribute, formula}
 use Rattle.fisca_time.specs.declared.unit.Unit.{Unit as TimeUnit}
 use Rattle.fisca_time.specs.declared.unit.Unit.TheVariants as unit

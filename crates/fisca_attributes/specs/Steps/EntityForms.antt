@@ -3,7 +3,7 @@
 use Rattle.std.specs.Prelude.{ℕ, List, [], length, false, ◌==◌, if◌then◌else◌, Result, Ok, codes}
 use Rattle.fisca_ast.specs.Steps.Groups.{bare}
 use Rattle.fisca_ast.specs.Tree.{Tree, Argument, applied}
-use Rattle.fisca_params.specs.Results.{and_then}
+use Rattle.fisca_num.specs.Results.{and_then}
 use Rattle.fisca_ast.specs.declared.fault.FormulaKind.{FormulaKind}
 use Rattle.fisca_ast.specs.Modules.{Assigned}
 use Rattle.fisca_symbols.specs.declared.entity.Entity.{Entity}

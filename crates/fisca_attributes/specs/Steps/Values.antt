@@ -3,8 +3,8 @@
 use Rattle.std.specs.Prelude.{ℕ, ℤ, pos, negsuc, List, [], ◌∷◌, ◌++◌, Bool, true, false, ◌==◌, if◌then◌else◌, Option, Some, None, ok_or, Result, Ok, Err, codes}
 use Rattle.std.specs.Result.{result_ok}
 use Rattle.fisca_attributes.specs.declared.dotted.Dotted.{Dotted}
-use Rattle.fisca_ast.specs.declared.tree.Bracket.{Bracket}
-use Rattle.fisca_ast.specs.declared.tree.Bracket.TheVariants as bracket
+use Rattle.fisca_ast.specs.declared.tree.Delimiter.{Delimiter}
+use Rattle.fisca_ast.specs.declared.tree.Delimiter.TheVariants as bracket
 use Rattle.fisca_ast.specs.declared.tree.Prefix.{Prefix}
 use Rattle.fisca_ast.specs.declared.tree.Prefix.TheVariants as prefix
 use Rattle.fisca_ast.specs.declared.tree.Suffix.{Suffix}
@@ -16,7 +16,7 @@ use Rattle.fisca_ast.specs.Steps.Words.{is_name}
 use Rattle.fisca_num.specs.declared.faults.NumFault.{NumFault}
 use Rattle.fisca_num.specs.Literal.{number_of_literal}
 use Rattle.fisca_num.specs.Number.{Number, negation_of}
-use Rattle.fisca_params.specs.Results.{and_then}
+use Rattle.fisca_num.specs.Results.{and_then}
 use Rattle.fisca_time.specs.Instant.{CivilDate, instant_of_text, instant_if_real}
 use Rattle.fisca_ast.specs.declared.fault.FormulaKind.{FormulaKind}
 use Rattle.fisca_ast.specs.declared.fault.FormulaKind.TheVariants as kind
@@ -114,7 +114,7 @@ some_of (x ∷ xs) = Ok (x ∷ xs)
 abbrev pub texts_value : Tree → Result (List (List ℕ)) FormulaKind
 texts_value e = and_then (list_value text_value e) some_of
 
-abbrev pub references_within : Bracket → Series → Result (List (List ℕ)) FormulaKind
+abbrev pub references_within : Delimiter → Series → Result (List (List ℕ)) FormulaKind
 references_within bracket.Square xs = each text_value (items xs)
 references_within bracket.Round xs = each text_value (items xs)
 references_within bracket.Curly xs = bad_attribute

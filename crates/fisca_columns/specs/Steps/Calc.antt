@@ -8,7 +8,7 @@ use Rattle.std.specs.Str.{bytes_eq}
 use Rattle.fisca_columns.specs.Columns.{column_of}
 use Rattle.fisca_model.specs.declared.key.Key.{Key}
 use Rattle.fisca_groups.specs.declared.entity_members.EntityMembers.{EntityMembers}
-use Rattle.fisca_params.specs.Results.{and_then}
+use Rattle.fisca_num.specs.Results.{and_then}
 use Rattle.fisca_situations.specs.Situations.{Situation}
 use Rattle.fisca_situations.specs.Steps.Situations.{situation_of}
 use Rattle.fisca_symbols.specs.Known.{tables as known}

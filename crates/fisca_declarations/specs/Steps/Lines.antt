@@ -3,7 +3,7 @@
 use Rattle.std.specs.Prelude.{List, [], ◌∷◌, ◌++◌, Bool, not, ◌&&◌, if◌then◌else◌, Option, Some, None, Result, Ok}
 use Rattle.std.specs.List.{list_any}
 use Rattle.std.specs.Str.{bytes_eq}
-use Rattle.fisca_params.specs.Results.{and_then}
+use Rattle.fisca_num.specs.Results.{and_then}
 use Rattle.fisca_ast.specs.Modules.{Assigned, Formula, Item, attribute, formula}
 use Rattle.fisca_time.specs.Instant.{CivilDate}
 use Rattle.fisca_ast.specs.declared.fault.FormulaKind.{FormulaKind}

@@ -7,7 +7,7 @@ use Rattle.fisca_ast.specs.Steps.Groups.{bare}
 use Rattle.fisca_ast.specs.Tree.{Tree}
 use Rattle.fisca_ast.specs.Words.{is}
 use Rattle.fisca_num.specs.Number.{Number, zero_number}
-use Rattle.fisca_params.specs.Results.{and_then}
+use Rattle.fisca_num.specs.Results.{and_then}
 use Rattle.fisca_ast.specs.Modules.{Formula, Item, attribute, formula}
 use Rattle.fisca_time.specs.Instant.{CivilDate}
 use Rattle.fisca_time.specs.declared.unit.Unit.{Unit as TimeUnit}

@@ -10,7 +10,7 @@ use Rattle.fisca_members.specs.Sections.{Input, one_person, sections, Section}
 use Rattle.fisca_members.specs.Steps.Sections.{input_of, titles_of}
 use Rattle.fisca_groups.specs.declared.entity_members.EntityMembers.{EntityMembers}
 use Rattle.fisca_members.specs.declared.titles.Titles.{Titles}
-use Rattle.fisca_params.specs.Results.{and_then}
+use Rattle.fisca_num.specs.Results.{and_then}
 use Rattle.fisca_situations.specs.Values.{said}
 use Rattle.fisca_situations.specs.declared.said.Said.{Said}
 use Rattle.fisca_situations.specs.declared.said.Said.TheVariants.{Input as input, Unused as unused, Unreadable as unreadable}

@@ -13,8 +13,8 @@ use Rattle.fisca_expr_parser.specs.declared.marks.Joint.TheVariants as joint
 use Rattle.fisca_expr_parser.specs.declared.marks.Beginning.{Beginning}
 use Rattle.fisca_expr_parser.specs.declared.marks.Beginning.TheVariants as begin
 use Rattle.fisca_lexer.specs.contracts.token.Mark.{the_type}
-use Rattle.fisca_ast.specs.declared.tree.Bracket.{Bracket}
-use Rattle.fisca_ast.specs.declared.tree.Bracket.TheVariants as bracket
+use Rattle.fisca_ast.specs.declared.tree.Delimiter.{Delimiter}
+use Rattle.fisca_ast.specs.declared.tree.Delimiter.TheVariants as bracket
 use Rattle.fisca_ast.specs.declared.tree.Suffix.{Suffix}
 use Rattle.fisca_ast.specs.declared.tree.Suffix.TheVariants as suffix
 use denote.Enum.Bare.{sameb}
@@ -28,12 +28,12 @@ binds op.Subtract = 3
 binds op.Multiply = 4
 binds op.Divide = 4
 
-abbrev pub closing_mark : Bracket → Mark
+abbrev pub closing_mark : Delimiter → Mark
 closing_mark bracket.Round = mark.Close
 closing_mark bracket.Square = mark.CloseList
 closing_mark bracket.Curly = mark.CloseMap
 
-abbrev pub bracket_of : Suffix → Bracket
+abbrev pub bracket_of : Suffix → Delimiter
 bracket_of suffix.Call = bracket.Round
 bracket_of suffix.Subscript = bracket.Square
 

@@ -3,8 +3,8 @@
 use Rattle.std.specs.Prelude.{Bool, true, false}
 use Rattle.fisca_expr_parser.specs.declared.mode.Mode.{Mode}
 use Rattle.fisca_expr_parser.specs.declared.mode.Mode.TheVariants as mode
-use Rattle.fisca_ast.specs.declared.tree.Bracket.{Bracket}
-use Rattle.fisca_ast.specs.declared.tree.Bracket.TheVariants as bracket
+use Rattle.fisca_ast.specs.declared.tree.Delimiter.{Delimiter}
+use Rattle.fisca_ast.specs.declared.tree.Delimiter.TheVariants as bracket
 use Rattle.fisca_ast.specs.declared.tree.Suffix.{Suffix}
 use Rattle.fisca_ast.specs.declared.tree.Suffix.TheVariants as suffix
 use Rattle.fisca_expr_parser.specs.declared.mode.Place.{Place}
@@ -41,13 +41,13 @@ place_behind p (keyword k e) = place.BehindKeyword
 place_behind p (entry k e) = p
 
 -- In formulas there are no tuples and no maps.
-abbrev pub place_in : Mode → Bracket → Place
+abbrev pub place_in : Mode → Delimiter → Place
 place_in mode.Value bracket.Round = place.InList
 place_in mode.Formula bracket.Round = place.Alone
 place_in m bracket.Square = place.InList
 place_in m bracket.Curly = place.InMap
 
-abbrev pub allows : Mode → Bracket → Bool
+abbrev pub allows : Mode → Delimiter → Bool
 allows mode.Value b = true
 allows mode.Formula bracket.Round = true
 allows mode.Formula bracket.Square = true

@@ -6,7 +6,7 @@ use Rattle.fisca_num.specs.Number.{Number}
 use Rattle.fisca_num.specs.Rational.{Ratio}
 use Rattle.fisca_num.specs.Operations.{number_of, difference_of}
 use Rattle.fisca_num.specs.declared.faults.NumFault.{NumFault}
-use Rattle.fisca_params.specs.Results.{and_then}
+use Rattle.fisca_num.specs.Results.{and_then}
 use Rattle.fisca_time.specs.Period.{subs}
 use Rattle.fisca_time.specs.declared.unit.Unit.{Unit}
 use Rattle.fisca_inputs.specs.Entries.{Entries, key}

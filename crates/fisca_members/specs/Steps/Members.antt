@@ -1,7 +1,7 @@
 -- The members of a situation: of each entity in order, or the first fault. All keys come first, then the persons, then the groups as they
 -- are written, then groups of their own.
 use Rattle.std.specs.Prelude.{ℕ, suc, List, [], ◌∷◌, map, length, replicate, set, slice_get, if◌then◌else◌, Option, Some, None, Result, Ok}
-use Rattle.fisca_params.specs.Results.{and_then}
+use Rattle.fisca_num.specs.Results.{and_then}
 use Rattle.fisca_model.specs.Tables.{Entity}
 use Rattle.fisca_yaml.specs.Node.{Node}
 use Rattle.fisca_groups.specs.declared.entity_members.EntityMembers.{EntityMembers}

@@ -3,7 +3,7 @@
 use Rattle.std.specs.Prelude.{ℕ, List, [], ◌∷◌, ◌++◌, map as list_map, length, Bool, nat_lt, slice_get, if◌then◌else◌, Option, Some, None, Result, Ok}
 use Rattle.std.specs.List.{find}
 use Rattle.std.specs.Str.{bytes_eq}
-use Rattle.fisca_params.specs.Results.{and_then}
+use Rattle.fisca_num.specs.Results.{and_then}
 use Rattle.fisca_model.specs.Tables.{Entity, is_person, person_by, place_in}
 use Rattle.fisca_yaml.specs.Node.{Node, Entries, no_entries, entry}
 use Rattle.fisca_members.specs.declared.fault.MembersKind.TheVariants as kind

@@ -7,11 +7,11 @@ use Rattle.fisca_yaml.specs.Node.{Node, null, scalar, list, map, Items, no_items
 use Rattle.fisca_yaml.specs.Grouping.{joined}
 use Rattle.fisca_yaml.specs.Find.{get_entry}
 use Rattle.fisca_yaml.specs.Steps.Find.{get, as_bool, as_number, as_text}
-use Rattle.fisca_params.specs.Dates.{Dated}
-use Rattle.fisca_params.specs.declared.bracket.Bracket.{Bracket}
+use Rattle.fisca_scales.specs.Dates.{Dated}
+use Rattle.fisca_scales.specs.declared.bracket.Bracket.{Bracket}
 use Rattle.fisca_params.specs.declared.content.Content.{Content}
 use Rattle.fisca_params.specs.declared.content.Content.TheVariants as content
-use Rattle.fisca_params.specs.Steps.Dates.{in_time}
+use Rattle.fisca_scales.specs.Steps.Dates.{in_time}
 use Rattle.fisca_params.specs.Content.{first_line, Written, written_if_both, date_of}
 
 -- both, the first in front of the list

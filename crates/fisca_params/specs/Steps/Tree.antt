@@ -11,7 +11,7 @@ use Rattle.fisca_params.specs.Content.{first_line}
 use Rattle.fisca_params.specs.Steps.Content.{date_map, parameter_in, scale_of}
 use Rattle.fisca_params.specs.FaultLines.{line_at, entry_or_node, values_line, scale_line}
 use Rattle.fisca_params.specs.Steps.FaultLines.{line_of}
-use Rattle.fisca_params.specs.Results.{and_then}
+use Rattle.fisca_num.specs.Results.{and_then}
 use Rattle.fisca_params.specs.Tree.{TreeNode, child_of, content_at, child_node, Entered, entered}
 
 -- the tree with one more node

@@ -1,8 +1,8 @@
 -- Forms of values. Parentheses around any part of one group and do nothing else.
 use Rattle.std.specs.Prelude.{ℕ, List, Bool, true, false, ◌||◌, ◌&&◌, if◌then◌else◌, Option, Some, None, codes}
 use Rattle.std.specs.Str.{bytes_eq}
-use Rattle.fisca_ast.specs.declared.tree.Bracket.{Bracket}
-use Rattle.fisca_ast.specs.declared.tree.Bracket.TheVariants as bracket
+use Rattle.fisca_ast.specs.declared.tree.Delimiter.{Delimiter}
+use Rattle.fisca_ast.specs.declared.tree.Delimiter.TheVariants as bracket
 use Rattle.fisca_ast.specs.declared.tree.Suffix.{Suffix}
 use Rattle.fisca_ast.specs.declared.tree.Suffix.TheVariants as suffix
 use Rattle.fisca_ast.specs.Steps.Groups.{bare}
@@ -30,7 +30,7 @@ builds_entity e = false
 abbrev pub is_entity : Tree → Bool
 is_entity e = builds_entity (bare e)
 
-abbrev pub is_square : Bracket → Bool
+abbrev pub is_square : Delimiter → Bool
 is_square bracket.Round = false
 is_square bracket.Square = true
 is_square bracket.Curly = false

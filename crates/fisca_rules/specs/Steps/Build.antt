@@ -3,7 +3,7 @@
 use Rattle.std.specs.Prelude.{ℕ, List, [], ◌∷◌, ◌++◌, length, Bool, true, false, ◌==◌, ◌||◌, nat_lt, if◌then◌else◌, Result, Ok}
 use Rattle.fisca_ast.specs.Steps.Groups.{bare}
 use Rattle.fisca_ast.specs.Tree.{Tree, Argument, bracketed, positional, keyword, entry}
-use Rattle.fisca_params.specs.Results.{and_then}
+use Rattle.fisca_num.specs.Results.{and_then}
 use Rattle.fisca_ast.specs.declared.module.Member.{Member}
 use Rattle.fisca_ast.specs.Modules.{Assigned, Item, Statement, entity, entities, choices, variable}
 use Rattle.fisca_ast.specs.declared.fault.FormulaKind.{FormulaKind}

@@ -1,7 +1,7 @@
 -- The steps of code behind `Rules`:
 -- Rule sets: what modules declare beside parameters, with typed formulas, or the first fault: names, then attributes and entities, then formulas.
 use Rattle.std.specs.Prelude.{ℕ, List, [], map, zip, slice_get, Option, Some, None, Result, Ok, Err}
-use Rattle.fisca_params.specs.Results.{and_then}
+use Rattle.fisca_num.specs.Results.{and_then}
 use Rattle.fisca_params.specs.Tree.{TreeNode}
 use Rattle.fisca_ast.specs.Modules.{Assigned, Formula, Statement}
 use Rattle.fisca_symbols.specs.KnownVariables.{value_type}
@@ -15,7 +15,7 @@ use Rattle.fisca_names.specs.Names.{fault_at}
 use Rattle.fisca_rules.specs.Build.{Whole}
 use Rattle.fisca_rules.specs.Steps.Build.{tables_of}
 use Rattle.fisca_declarations.specs.VariableForms.{Written}
-use Rattle.fisca_rules.specs.Rules.{known, Dated, assigned_of, all_of, Rules}
+use Rattle.fisca_rules.specs.Rules.{known, DatedFormula, assigned_of, all_of, Rules}
 
 -- Third pass: formulas
 
@@ -44,21 +44,21 @@ told_in place f (Ok x) = Ok x
 told_in place f (Err r) = fault_at place (line_at f r.place) r.kind
 
 -- a formula of a variable of this entity and type, in this module
-unfoldable pub dated_of : Tables → ℕ → ℕ → ValueType → Formula → Result Dated BuildFault
+unfoldable pub dated_of : Tables → ℕ → ℕ → ValueType → Formula → Result DatedFormula BuildFault
 dated_of c place entity t f =
     and_then (told_in place f (typing.formula_of (names_for c entity f) t (map assigned_of f.locals) f.returned.value)) (λ g. Ok (record { start = f.start; formula = g }))
 
 -- days and texts have no formulas
-abbrev pub formulas_by : Tables → ℕ → Written → Option ValueType → Result (List Dated) BuildFault
+abbrev pub formulas_by : Tables → ℕ → Written → Option ValueType → Result (List DatedFormula) BuildFault
 formulas_by c entity d None = Ok []
 formulas_by c entity d (Some t) = all_of (dated_of c d.module entity t) d.formulas
 
 -- the formulas of a variable of this declaration, or its first fault
-unfoldable pub formulas_of : Tables → Variable × Written → Result (List Dated) BuildFault
+unfoldable pub formulas_of : Tables → Variable × Written → Result (List DatedFormula) BuildFault
 formulas_of c p = formulas_by c p.0.entity p.1 (value_type p.0.value_type)
 
 -- the formulas of each variable, with its declaration beside it
-abbrev pub all_formulas : Tables → List Variable → List Written → Result (List (List Dated)) BuildFault
+abbrev pub all_formulas : Tables → List Variable → List Written → Result (List (List DatedFormula)) BuildFault
 all_formulas c vs ds = all_of (formulas_of c) (zip vs ds)
 
 -- All passes

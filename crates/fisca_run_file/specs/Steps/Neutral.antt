@@ -5,7 +5,7 @@ use Rattle.fisca_columns.specs.Faults.{fault_at}
 use Rattle.fisca_columns.specs.declared.fault.RunFileFault.{RunFileFault}
 use Rattle.fisca_columns.specs.declared.fault.RunFileKind.TheVariants.{BadNeutral}
 use Rattle.fisca_columns.specs.Columns.{if_usable}
-use Rattle.fisca_params.specs.Results.{and_then}
+use Rattle.fisca_num.specs.Results.{and_then}
 use Rattle.fisca_symbols.specs.Known.{tables as known}
 use Rattle.fisca_symbols.specs.declared.tables.Tables.{Tables}
 use Rattle.fisca_model.specs.Tables.{variable_named}

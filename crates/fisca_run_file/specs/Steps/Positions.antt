@@ -12,7 +12,7 @@ use Rattle.fisca_inputs.specs.declared.given.Given.{Given}
 use Rattle.fisca_model.specs.declared.value.Value.TheVariants as value
 use Rattle.fisca_groups.specs.Lookup.{counts_of}
 use Rattle.fisca_num.specs.Number.{Number}
-use Rattle.fisca_params.specs.Results.{and_then}
+use Rattle.fisca_num.specs.Results.{and_then}
 use Rattle.fisca_situations.specs.Steps.Cuts.{cut_for}
 use Rattle.fisca_symbols.specs.declared.tables.Tables.{Tables}
 use Rattle.fisca_symbols.specs.declared.variable.Variable.{Variable}

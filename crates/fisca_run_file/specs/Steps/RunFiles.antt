@@ -8,7 +8,7 @@ use Rattle.fisca_inputs.specs.Inputs.{inputs_of, without_marked}
 use Rattle.fisca_inputs.specs.Rules.{rule_of}
 use Rattle.fisca_inputs.specs.declared.fault.SituationFault.{SituationFault}
 use Rattle.fisca_inputs.specs.declared.given.Given.{Given}
-use Rattle.fisca_params.specs.Results.{and_then}
+use Rattle.fisca_num.specs.Results.{and_then}
 use Rattle.fisca_situations.specs.AllAxes.{put_all_in}
 use Rattle.fisca_symbols.specs.declared.tables.Tables.{Tables}
 use Rattle.fisca_run_file.specs.RunFiles.{BaseSituation}

@@ -3,16 +3,16 @@
 use Rattle.std.specs.Prelude.{ℕ, List, [], ◌∷◌, Bool, false, true, slice_get, Option, Some, None}
 use Rattle.fisca_model.specs.Values.{Key}
 use Rattle.fisca_model.specs.Periods.{key_period}
-use Rattle.fisca_rules.specs.Rules.{Dated, Rules}
+use Rattle.fisca_rules.specs.Rules.{DatedFormula, Rules}
 use Rattle.fisca_symbols.specs.declared.variable.Variable.{Variable}
 
 -- Formulas
 
-abbrev pub all_dated : Option (List Dated) → List Dated
+abbrev pub all_dated : Option (List DatedFormula) → List DatedFormula
 all_dated None = []
 all_dated (Some ds) = ds
 
-abbrev pub are_some : List Dated → Bool
+abbrev pub are_some : List DatedFormula → Bool
 are_some [] = false
 are_some (d ∷ ds) = true
 

@@ -15,7 +15,7 @@ use Rattle.fisca_model.specs.declared.value.Value.TheVariants.{Number}
 use Rattle.fisca_model.specs.declared.key.Key.{Key}
 use Rattle.fisca_model.specs.Periods.{key_period}
 use Rattle.fisca_num.specs.Number.{zero_number}
-use Rattle.fisca_params.specs.Results.{and_then}
+use Rattle.fisca_num.specs.Results.{and_then}
 use Rattle.fisca_groups.specs.Lookup.{count_at, counts_of}
 use Rattle.fisca_groups.specs.declared.entity_members.EntityMembers.{EntityMembers}
 use Rattle.fisca_symbols.specs.declared.tables.Tables.{Tables}

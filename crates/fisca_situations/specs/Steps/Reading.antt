@@ -15,7 +15,7 @@ use Rattle.fisca_members.specs.Faults.{entries_in}
 use Rattle.fisca_members.specs.Steps.Groups.{role_named}
 use Rattle.fisca_members.specs.Persons.{most_members}
 use Rattle.fisca_members.specs.Sections.{Input, one_person, sections, Section}
-use Rattle.fisca_params.specs.Results.{and_then}
+use Rattle.fisca_num.specs.Results.{and_then}
 use Rattle.fisca_symbols.specs.Known.{tables as known}
 use Rattle.fisca_symbols.specs.declared.tables.Tables.{Tables}
 use Rattle.fisca_symbols.specs.declared.variable.Variable.{Variable}

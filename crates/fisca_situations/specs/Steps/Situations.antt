@@ -14,7 +14,7 @@ use Rattle.fisca_groups.specs.Lookup.{counts_of}
 use Rattle.fisca_members.specs.Steps.Members.{members_in}
 use Rattle.fisca_members.specs.Sections.{Input}
 use Rattle.fisca_members.specs.Steps.Sections.{input_of, titles_of}
-use Rattle.fisca_params.specs.Results.{and_then}
+use Rattle.fisca_num.specs.Results.{and_then}
 use Rattle.fisca_symbols.specs.Known.{tables as known}
 use Rattle.fisca_symbols.specs.declared.tables.Tables.{Tables}
 use Rattle.fisca_time.specs.Period.{Span}

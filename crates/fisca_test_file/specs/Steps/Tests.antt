@@ -10,7 +10,7 @@ use Rattle.fisca_groups.specs.declared.entity_members.EntityMembers.{EntityMembe
 use Rattle.fisca_num.specs.Number.{Number}
 use Rattle.fisca_expected.specs.Outputs.{Output}
 use Rattle.fisca_expected.specs.Steps.Reading.{outputs_of}
-use Rattle.fisca_params.specs.Results.{and_then}
+use Rattle.fisca_num.specs.Results.{and_then}
 use Rattle.fisca_situations.specs.Situations.{Situation}
 use Rattle.fisca_situations.specs.Steps.Situations.{situation_of}
 use Rattle.fisca_symbols.specs.declared.tables.Tables.{Tables}

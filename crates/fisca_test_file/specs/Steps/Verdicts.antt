@@ -9,7 +9,7 @@ use Rattle.fisca_model.specs.declared.value.Value.TheVariants as v
 use Rattle.fisca_num.specs.Number.{Number, number_cmp, negation_of}
 use Rattle.fisca_num.specs.Operations.{difference_of, product_of}
 use Rattle.fisca_num.specs.declared.faults.NumFault.{NumFault}
-use Rattle.fisca_params.specs.Results.{and_then}
+use Rattle.fisca_num.specs.Results.{and_then}
 use Rattle.fisca_test_file.specs.declared.margins.Margins.{Margins}
 use Rattle.fisca_test_file.specs.declared.outcome.Outcome.{Outcome}
 use Rattle.fisca_test_file.specs.declared.outcome.Outcome.TheVariants.{Passed, Missed, TooWide, Faulted}

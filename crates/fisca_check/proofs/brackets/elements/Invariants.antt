@@ -3,7 +3,7 @@ use Rattle.std.specs.Prelude.{map}
 use Rattle.std.specs.Vec.Iter.{into_iter_items, into_iter_len}
 use Rattle.fisca_check_calls.specs.Arguments.{all_given}
 use Rattle.fisca_ir.specs.Views.{thing}
-use Rattle.fisca_params.specs.Results.{and_then}
+use Rattle.fisca_num.specs.Results.{and_then}
 use Rattle.fisca_check.specs.Elements.{all_elements}
 use Rattle.fisca_check.proofs.brackets.elements.Given as goal
 

@@ -1,7 +1,7 @@
 use Rattle.std.proofs.Common.{Ok, None, ◌∙◌, ap}
 use Rattle.fisca_check_calls.specs.Arguments.{all_settled, positions as positions_view}
 use Rattle.fisca_ir.specs.Views.{thing}
-use Rattle.fisca_params.specs.Results.{and_then}
+use Rattle.fisca_num.specs.Results.{and_then}
 use Rattle.fisca_typing.specs.Asks.{total_by, total_of}
 use Rattle.fisca_check.proofs.Outcomes.{gives_same}
 use Rattle.fisca_check.proofs.Shapes.{total_alone}

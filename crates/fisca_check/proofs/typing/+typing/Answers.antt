@@ -4,7 +4,7 @@ use Rattle.fisca_ast.specs.Tree.{applied, attribute, binary, bracketed, compare,
 use Rattle.fisca_ast.specs.Views.{argument_view, series_view, tree}
 use Rattle.fisca_ast.specs.declared.tree.Arguments.{the_lemmas as all_lemmas}
 use Rattle.fisca_ir.specs.Views.{thing}
-use Rattle.fisca_params.specs.Results.{and_then}
+use Rattle.fisca_num.specs.Results.{and_then}
 use Rattle.fisca_typing.specs.Operations.{comparison_of, operated, operation}
 use Rattle.fisca_typing.specs.Typing.{all_given, attribute_of, given, given_of, in_brackets, thing_of, with_suffix}
 use Rattle.fisca_check.specs.Views.{names}

@@ -1,6 +1,6 @@
 use Rattle.std.proofs.Common.{◌≡◌, ◌++◌, Ok, length}
 use Rattle.std.specs.Vec.Iter.{into_iter_items, into_iter_len}
-use Rattle.fisca_params.specs.Results.{and_then}
+use Rattle.fisca_num.specs.Results.{and_then}
 use Rattle.fisca_typing.specs.Calls.{settled}
 use Rattle.fisca_check_calls.specs.Arguments.{all_given, all_settled}
 use Rattle.fisca_check_calls.proofs.arguments.settle.Given as goal

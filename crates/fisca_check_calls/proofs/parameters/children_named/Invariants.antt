@@ -1,6 +1,6 @@
 use Rattle.std.proofs.Common.{◌≡◌, ◌++◌, drop, Ok}
 use Rattle.std.specs.Prelude.{map}
-use Rattle.fisca_params.specs.Results.{and_then}
+use Rattle.fisca_num.specs.Results.{and_then}
 use Rattle.fisca_typing.specs.Parameters.{children_named}
 use Rattle.fisca_check_calls.proofs.parameters.children_named.Given as goal
 

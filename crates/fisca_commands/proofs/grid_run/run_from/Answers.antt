@@ -25,7 +25,7 @@ use Rattle.fisca_commands.specs.Ends.{HasLacked, end_of, stop_of}
 use Rattle.fisca_commands.specs.Kept.{IsKept}
 use Rattle.fisca_commands.specs.Remembered.{AreCounts, HasEnded, marks_of_run}
 use Rattle.fisca_commands.specs.Runs.{positions, run_row}
-use Rattle.fisca_commands.specs.declared.style.RowStyle.{RowStyle}
+use Rattle.fisca_rows.specs.declared.style.RowStyle.{RowStyle}
 use Rattle.fisca_commands.proofs.grid_run.run_from.Goals as goal
 
 -- of the same file, whose members are others by name alone

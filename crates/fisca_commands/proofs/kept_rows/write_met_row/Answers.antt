@@ -2,10 +2,10 @@ use Rattle.std.proofs.Common.{Bool, Err, Ok, ap, subst, ◌∙◌}
 use Rattle.std.proofs.lemmas.Result.{err_from_is_err_and}
 use Rattle.fisca_situations.proofs.Asking.{some_all, some_first}
 use Rattle.fisca_situations.specs.Asked.{HaveAsked}
-use Rattle.fisca_commands.proofs.Asking.{handed_on, row_fault, row_written}
-use Rattle.fisca_commands.specs.Asked.{keys_if_met, keys_met, keys_written}
-use Rattle.fisca_commands.specs.Conditions.{all_met as are_met}
-use Rattle.fisca_commands.specs.Outcomes.{IsOutcome}
+use Rattle.fisca_rows.proofs.Asking.{handed_on, row_fault, row_written}
+use Rattle.fisca_rows.specs.Asked.{keys_if_met, keys_met, keys_written}
+use Rattle.fisca_rows.specs.Met.{all_met as are_met}
+use Rattle.fisca_rows.specs.Outcomes.{IsOutcome}
 use Rattle.fisca_commands.proofs.kept_rows.write_met_row.Goals as goal
 
 pub returns-in_err-all_met-clause-asked : goal.returns-in_err-all_met-clause-asked

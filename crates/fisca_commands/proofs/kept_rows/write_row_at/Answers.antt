@@ -9,9 +9,9 @@ use Rattle.fisca_writer.specs.Row.{IsWorkedOut}
 use Rattle.fisca_commands.proofs.Fitting.{ready_at}
 use Rattle.fisca_commands.proofs.Lacking.{or_none, row_there, step_always}
 use Rattle.fisca_commands.specs.Begun.{file_in}
-use Rattle.fisca_commands.specs.Going.{keys_styled, lacks_in}
+use Rattle.fisca_rows.specs.Going.{keys_styled, lacks_in}
 use Rattle.fisca_commands.specs.Runs.{run_row}
-use Rattle.fisca_commands.specs.declared.style.RowStyle.TheVariants.{Plain, Formed, Going}
+use Rattle.fisca_rows.specs.declared.style.RowStyle.TheVariants.{Plain, Formed, Going}
 use Rattle.fisca_commands.proofs.kept_rows.write_row_at.Goals as goal
 
 pub write_met_row-requires-clause-ready : goal.write_met_row-requires-clause-ready

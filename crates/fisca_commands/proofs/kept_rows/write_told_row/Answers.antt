@@ -7,9 +7,9 @@ use Rattle.fisca_writer.specs.declared.rows.Selection.{Selection}
 use Rattle.fisca_writer.specs.declared.rows.Selection.TheVariants.{Dropped}
 use Rattle.fisca_symbols.specs.Known.{tables as known}
 use Rattle.fisca_commands.proofs.Lacking.{or_none}
-use Rattle.fisca_commands.specs.Asked.{keys_met}
-use Rattle.fisca_commands.specs.Conditions.{all_met as are_met}
-use Rattle.fisca_commands.specs.Going.{columns_if_met, going_row_by, lacks_by}
+use Rattle.fisca_rows.specs.Asked.{keys_met}
+use Rattle.fisca_rows.specs.Met.{all_met as are_met}
+use Rattle.fisca_rows.specs.Going.{columns_if_met, going_row_by, lacks_by}
 use Rattle.fisca_commands.proofs.kept_rows.write_told_row.Goals as goal
 
 pub returns-in_default-clause-asked : goal.returns-in_default-clause-asked

@@ -1,5 +1,5 @@
 use Rattle.std.proofs.Common.{Ok, ap, sym, subst, string_bytes}
-use Rattle.fisca_params.specs.Results.{and_then}
+use Rattle.fisca_num.specs.Results.{and_then}
 use Rattle.fisca_situations.specs.Situations.{Situation}
 use Rattle.fisca_writer.specs.Row.{IsWorkedOut}
 use Rattle.fisca_run_file.specs.Views.{file_with}

@@ -2,7 +2,7 @@ use Rattle.std.proofs.Common.{◌≡◌, ◌<◌, ◌+◌, suc, length, sym, sub
 use Rattle.fisca_grid.proofs.Groups.{length-axes_at}
 use Rattle.fisca_grid.specs.Grid.{axes_at}
 use Rattle.fisca_evaluator.specs.Evaluators.{AreMarked}
-use Rattle.fisca_commands.proofs.AxisValues.{get_there}
+use Rattle.fisca_rows.proofs.Places.{get_there}
 use Rattle.fisca_commands.proofs.OnTheWay.{IsOnTheWay, on_end, on_passed, on_start, on_turned}
 use Rattle.fisca_situations.specs.Views.{slot as slot_view}
 use Rattle.fisca_commands.proofs.turning.turn_slots.Goals as goal

@@ -4,11 +4,10 @@ use Rattle.fisca_yaml.specs.Views.{node}
 use Rattle.fisca_params.specs.Answers.{cause_of}
 use Rattle.fisca_params.specs.Causes.{Cause}
 use Rattle.fisca_params.specs.Paths.{names_in}
-use Rattle.fisca_params.specs.Results.{and_then}
+use Rattle.fisca_num.specs.Results.{and_then}
 use Rattle.fisca_params.specs.Tree.{Entered}
 use Rattle.fisca_params.specs.Steps.Tree.{put_below}
-use Rattle.fisca_params.proofs.PathTexts.{names_cut, put-cut}
-use Rattle.fisca_params.proofs.Thresholds.{none_if_not}
+use Rattle.fisca_params.proofs.PathTexts.{names_cut, none_if_not, put-cut}
 use Rattle.fisca_params.proofs.build.put_below.Goals as goal
 
 pub returns-in_err-folder : goal.returns-in_err-folder

@@ -1,6 +1,6 @@
 use Rattle.std.proofs.Common.{ap}
 use Rattle.std.specs.Prelude.{Ok}
-use Rattle.fisca_params.specs.Results.{and_then}
+use Rattle.fisca_num.specs.Results.{and_then}
 use Rattle.fisca_rules.specs.Steps.Rules.{dated_of, told_in}
 use Rattle.fisca_ast.specs.ModuleViews.{formula_view}
 use Rattle.fisca_rules.proofs.typed.dated_of.Goals as goal

@@ -1,5 +1,5 @@
 use Rattle.std.proofs.Common.{◌≡◌, ◌∙◌, ◌+◌, ◌<◌, [], ◌∷◌, ◌++◌, drop, length, ap, arith}
-use Rattle.fisca_params.specs.Results.{and_then}
+use Rattle.fisca_num.specs.Results.{and_then}
 use Rattle.fisca_yaml.specs.Views.{items_view}
 use Rattle.fisca_test_file.proofs.Items.{items-drop}
 use Rattle.fisca_test_file.specs.Tests.{Test}

@@ -1,5 +1,5 @@
 use Rattle.std.proofs.Common.{◌≡◌, [], ◌∷◌, ap, Ok}
-use Rattle.fisca_params.specs.Results.{and_then}
+use Rattle.fisca_num.specs.Results.{and_then}
 use Rattle.fisca_test_file.specs.Tests.{Test}
 use Rattle.fisca_test_file.specs.Views.{test}
 use Rattle.fisca_test_file.proofs.checking.check_only.Goals as goal

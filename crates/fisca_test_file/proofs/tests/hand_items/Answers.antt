@@ -2,7 +2,7 @@ use Rattle.std.proofs.Common.{◌≡◌, ◌∙◌, ◌+◌, ◌<◌, [], ◌∷
 use Rattle.std.specs.Prelude.{Err, IfErr}
 use Rattle.std.proofs.lemmas.List.{length-append}
 use Rattle.std.proofs.lemmas.Result.{err_from_is_err_and}
-use Rattle.fisca_params.specs.Results.{and_then}
+use Rattle.fisca_num.specs.Results.{and_then}
 use Rattle.fisca_symbols.specs.Known.{tables as known}
 use Rattle.fisca_yaml.specs.Views.{items_view, node}
 use Rattle.fisca_test_file.proofs.Items.{items-drop}

@@ -9,7 +9,7 @@ use Rattle.fisca_writer.specs.Row.{IsWorkedOut}
 use Rattle.fisca_commands.proofs.Stepping.{kept_there, many_slots, row_step, situated_there, stays, with_same}
 use Rattle.fisca_commands.proofs.Lacking.{lacks_there, step_for}
 use Rattle.fisca_commands.proofs.Placing.{situated_members}
-use Rattle.fisca_commands.specs.Going.{keys_styled, lacks_in}
+use Rattle.fisca_rows.specs.Going.{keys_styled, lacks_in}
 use Rattle.fisca_commands.specs.Kept.{IsKept, IsRunFile, IsSituated}
 use Rattle.fisca_commands.specs.Remembered.{IsPassed, IsRefused}
 use Rattle.fisca_commands.specs.Runs.{lacks_at, run_row}

@@ -1,6 +1,6 @@
 use Rattle.std.proofs.Common.{map, ap, sym, ◌∙◌}
 use Rattle.std.specs.Map.{keys_of}
-use Rattle.fisca_params.specs.Results.{and_then}
+use Rattle.fisca_num.specs.Results.{and_then}
 use Rattle.fisca_inputs.specs.Defaults.{with_defaults}
 use Rattle.fisca_inputs.specs.Rules.{rule_of}
 use Rattle.fisca_inputs.proofs.First.{rows_stay}

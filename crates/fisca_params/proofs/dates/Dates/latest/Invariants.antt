@@ -1,8 +1,0 @@
-use Rattle.fisca_params.proofs.Latest.{IsBetween}
-use Rattle.fisca_params.proofs.dates.Dates.latest.Given as goal
-
-abbrev pub invariant-halves : goal.invariant-halves
-invariant-halves g l = IsBetween l.instant l.self l.place l.size
-
-abbrev pub decreases-halves : goal.decreases-halves
-decreases-halves g l = l.size

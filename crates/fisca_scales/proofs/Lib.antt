@@ -1,0 +1,6 @@
+pub mod BracketMaps
+pub mod DateMaps
+pub mod Days
+pub mod Latest
+pub mod Thresholds
+pub mod Worked

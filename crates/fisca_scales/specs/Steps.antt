@@ -1,0 +1,4 @@
+pub mod Dates
+pub mod Lowest
+pub mod Scale
+pub mod Tally

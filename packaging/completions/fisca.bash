@@ -30,7 +30,7 @@ _fisca() {
       [=:]*) ((at++)) ;; # bash cuts words there: the next one belongs to the one before
       -*)
         case "$command $word" in
-          'calc --decimals' | 'calc --format' | 'run --from' | 'run --to' | 'run --part' | 'run --rows' | 'run --decimals' | 'run --format' | 'list --format' | 'axes --keep' | 'axes --from' | 'axes --to' | 'axes --part' | 'axes --rows' | 'axes --decimals' | 'axes --format')
+          'check --reform' | 'calc --reform' | 'calc --decimals' | 'calc --format' | 'test --reform' | 'run --reform' | 'run --from' | 'run --to' | 'run --part' | 'run --rows' | 'run --decimals' | 'run --format' | 'size --reform' | 'list --reform' | 'list --format' | 'axes --keep' | 'axes --from' | 'axes --to' | 'axes --part' | 'axes --rows' | 'axes --decimals' | 'axes --format')
             [[ ${COMP_WORDS[at + 1]} != = ]] || ((at++))
             ((++at < COMP_CWORD)) || wanted=$word
             ;;
@@ -54,7 +54,7 @@ axes   List the values of axes
 help   Print this message or the help of the given subcommand(s)
 END
       ;;
-    'check 0' | 'calc 0' | 'test 0' | 'run 0' | 'size 0' | 'list 0') _fisca_paths -d ;;
+    'check 0' | 'calc 0' | 'test 0' | 'run 0' | 'size 0' | 'list 0' | 'check --reform' | 'calc --reform' | 'test --reform' | 'run --reform' | 'size --reform' | 'list --reform') _fisca_paths -d ;;
     'calc 1' | 'test 1' | 'run 1' | 'size 1') _fisca_paths -f ;;
     ' -')
       _fisca_words <<'END'
@@ -66,12 +66,14 @@ END
       ;;
     'check -')
       _fisca_words <<'END'
--h      Print help
---help  Print help
+--reform  Lay the files of a reform's folder over those of the rule set
+-h        Print help
+--help    Print help
 END
       ;;
     'calc -')
       _fisca_words <<'END'
+--reform    Lay the files of a reform's folder over those of the rule set
 --header    Write a first line with the names of the cells
 --decimals  Round numbers to N places, 0 to 18 [default: exact]
 --format    Write lines as tsv, csv or jsonl
@@ -82,12 +84,14 @@ END
       ;;
     'test -')
       _fisca_words <<'END'
--h      Print help
---help  Print help
+--reform  Lay the files of a reform's folder over those of the rule set
+-h        Print help
+--help    Print help
 END
       ;;
     'run -')
       _fisca_words <<'END'
+--reform      Lay the files of a reform's folder over those of the rule set
 --from        Begin at this position [default: 0]
 --to          End before this position [default: the last one is worked out]
 --part        Take part I of N, such as 1/4, in place of --from and --to
@@ -102,12 +106,14 @@ END
       ;;
     'size -')
       _fisca_words <<'END'
--h      Print help
---help  Print help
+--reform  Lay the files of a reform's folder over those of the rule set
+-h        Print help
+--help    Print help
 END
       ;;
     'list -')
       _fisca_words <<'END'
+--reform  Lay the files of a reform's folder over those of the rule set
 --header  Write a first line with the names of the cells
 --format  Write lines as tsv, csv or jsonl
 -h        Print help

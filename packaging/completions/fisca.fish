@@ -8,7 +8,7 @@ function __fisca_at --argument-names command place
     set -l found ''
     set -l at 0
     set -l is_value no
-    set -l valued 'calc --decimals' 'calc --format' 'run --from' 'run --to' 'run --part' 'run --rows' 'run --decimals' 'run --format' 'list --format' 'axes --keep' 'axes --from' 'axes --to' 'axes --part' 'axes --rows' 'axes --decimals' 'axes --format'
+    set -l valued 'check --reform' 'calc --reform' 'calc --decimals' 'calc --format' 'test --reform' 'run --reform' 'run --from' 'run --to' 'run --part' 'run --rows' 'run --decimals' 'run --format' 'size --reform' 'list --reform' 'list --format' 'axes --keep' 'axes --from' 'axes --to' 'axes --part' 'axes --rows' 'axes --decimals' 'axes --format'
     for word in $words
         if test $is_value = yes
             set is_value no
@@ -52,13 +52,17 @@ complete -c fisca -n '__fisca_at run 1' -F
 complete -c fisca -n '__fisca_at size 1' -F
 complete -c fisca -n '__fisca_at \'\'' -s h -l help -d 'Print help'
 complete -c fisca -n '__fisca_at \'\'' -s V -l version -d 'Print version'
+complete -c fisca -n '__fisca_at check' -l reform -x -a '(__fish_complete_directories)' -d 'Lay the files of a reform\'s folder over those of the rule set'
 complete -c fisca -n '__fisca_at check' -s h -l help -d 'Print help'
+complete -c fisca -n '__fisca_at calc' -l reform -x -a '(__fish_complete_directories)' -d 'Lay the files of a reform\'s folder over those of the rule set'
 complete -c fisca -n '__fisca_at calc' -l header -d 'Write a first line with the names of the cells'
 complete -c fisca -n '__fisca_at calc' -l decimals -x -d 'Round numbers to N places, 0 to 18 [default: exact]'
 complete -c fisca -n '__fisca_at calc' -l format -x -d 'Write lines as tsv, csv or jsonl'
 complete -c fisca -n '__fisca_at calc' -l lines -d 'Take each line of FILE as a file of its own'
 complete -c fisca -n '__fisca_at calc' -s h -l help -d 'Print help'
+complete -c fisca -n '__fisca_at test' -l reform -x -a '(__fish_complete_directories)' -d 'Lay the files of a reform\'s folder over those of the rule set'
 complete -c fisca -n '__fisca_at test' -s h -l help -d 'Print help'
+complete -c fisca -n '__fisca_at run' -l reform -x -a '(__fish_complete_directories)' -d 'Lay the files of a reform\'s folder over those of the rule set'
 complete -c fisca -n '__fisca_at run' -l from -x -d 'Begin at this position [default: 0]'
 complete -c fisca -n '__fisca_at run' -l to -x -d 'End before this position [default: the last one is worked out]'
 complete -c fisca -n '__fisca_at run' -l part -x -d 'Take part I of N, such as 1/4, in place of --from and --to'
@@ -68,7 +72,9 @@ complete -c fisca -n '__fisca_at run' -l decimals -x -d 'Round numbers to N plac
 complete -c fisca -n '__fisca_at run' -l format -x -d 'Write lines as tsv, csv or jsonl'
 complete -c fisca -n '__fisca_at run' -l keep-going -d 'Write the word of a fault in place of a value, and go on'
 complete -c fisca -n '__fisca_at run' -s h -l help -d 'Print help'
+complete -c fisca -n '__fisca_at size' -l reform -x -a '(__fish_complete_directories)' -d 'Lay the files of a reform\'s folder over those of the rule set'
 complete -c fisca -n '__fisca_at size' -s h -l help -d 'Print help'
+complete -c fisca -n '__fisca_at list' -l reform -x -a '(__fish_complete_directories)' -d 'Lay the files of a reform\'s folder over those of the rule set'
 complete -c fisca -n '__fisca_at list' -l header -d 'Write a first line with the names of the cells'
 complete -c fisca -n '__fisca_at list' -l format -x -d 'Write lines as tsv, csv or jsonl'
 complete -c fisca -n '__fisca_at list' -s h -l help -d 'Print help'

@@ -4,7 +4,7 @@ from __future__ import annotations
 import operator
 import os
 import re
-from typing import TYPE_CHECKING, Any, Iterator, List, NamedTuple, Optional, Tuple
+from typing import TYPE_CHECKING, Any, Iterable, Iterator, List, NamedTuple, Optional, Tuple, Union
 
 from ._errors import FiscaError
 from ._lines import Amount, Population, Situation, amount_of, situations_of
@@ -38,7 +38,10 @@ class Verdict(NamedTuple):
 
 
 class Rules:
-    """The rules of a folder: `entities.py`, `variables` and `parameters`.
+    """The rules of a folder: `entities.py`, `variables` and `parameters`, with those of the folders of reforms laid over.
+
+    A file of a reform takes the place of that of the same path, and one that is empty takes it away; of several reforms
+    each is laid over those before it.
 
     They are read anew at each call, by the program. Each method raises Refused where a rule file or the file of the
     command is refused, Failed where a file or folder cannot be read, OutOfMemory where there is no memory, and
@@ -50,16 +53,29 @@ class Rules:
     as a third or an infinity, and TypeError for data of another kind.
     """
 
-    def __init__(self, folder: PathLike, program: Optional[PathLike] = None) -> None:
+    def __init__(
+        self,
+        folder: PathLike,
+        program: Optional[PathLike] = None,
+        *,
+        reforms: Union[PathLike, Iterable[PathLike]] = (),
+    ) -> None:
         self.folder = os.fspath(folder)
         self.program = program
+        several = [reforms] if isinstance(reforms, (str, os.PathLike)) else reforms
+        self.reforms = tuple(os.fspath(it) for it in several)
 
     def __repr__(self) -> str:
-        return f"Rules({self.folder!r})"
+        reforms = f", reforms={list(self.reforms)!r}" if self.reforms else ""
+        return f"Rules({self.folder!r}{reforms})"
+
+    def _call(self, command: str, *options: str) -> List[str]:
+        """The words of a call, but for its folder and its file."""
+        return [program_of(self.program), command, *options, *(f"--reform={it}" for it in self.reforms)]
 
     def _words(self, command: str, *options: str) -> List[str]:
         """The words of a call, but for its file."""
-        return [program_of(self.program), command, *options, "--", self.folder]
+        return [*self._call(command, *options), "--", self.folder]
 
     def check(self) -> Counts:
         """Reads all rule files, and tells how many entities, variables and parameters there are."""
@@ -139,7 +155,7 @@ class Rules:
         if max(start, stop) > size or workers == 1:
             # past the end it is refused as a whole
             return run_of(lines_of(self._words("run", *options), file, good), said, is_rounded)
-        words = [program_of(self.program), "run", *options_of(decimals=decimals, keep_going=keep_going)]
+        words = self._call("run", *options_of(decimals=decimals, keep_going=keep_going))
         parts = parts_of(words, self.folder, size, start, stop, workers)
         return run_of(lines_of_parts(parts, file, workers, good), said, is_rounded)
 

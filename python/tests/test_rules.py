@@ -237,3 +237,36 @@ def test_the_program_is_found(small, tmp_path, monkeypatch):
         own.check()
     (tmp_path / "crates.txt").touch()
     assert own.check().parameters == 9
+
+
+def test_reforms_are_laid_over_the_rules(tmp_path):
+    (tmp_path / "entities.py").write_text("Person = build_entity(key='person', plural='persons', is_person=True)\n")
+    (tmp_path / "variables").mkdir()
+    (tmp_path / "parameters").mkdir()
+    (tmp_path / "parameters" / "rate.yaml").write_text("values: {2017-01-01: 0.1}\n")
+    lines = ["class tax(Variable):", "    value_type = float", "    entity = Person", "    definition_period = MONTH"]
+    lines += ["    def formula(person, period, parameters):", "        return parameters(period).rate * 10"]
+    (tmp_path / "variables" / "tax.py").write_text("\n".join([*lines, ""]))
+    for name, rate in (("one", 0.2), ("two", 0.3)):
+        (tmp_path / name / "parameters").mkdir(parents=True)
+        (tmp_path / name / "parameters" / "rate.yaml").write_text(f"values: {{2017-01-01: {rate}}}\n")
+    said = {"period": "2017-01", "input": {"persons": {"Ann": {}}}, "columns": "tax"}
+    found = [fisca.Rules(tmp_path, reforms=it).calc(said)[0].value for it in ([], [tmp_path / "one"], tmp_path / "two")]
+    assert found == [1, 2, 3]
+    both = fisca.Rules(tmp_path, reforms=[tmp_path / "one", str(tmp_path / "two")])
+    assert both.calc(said)[0].value == 3
+    assert repr(both) == f"Rules({str(tmp_path)!r}, reforms=[{str(tmp_path / 'one')!r}, {str(tmp_path / 'two')!r}])"
+    assert [it.amounts[0].value for it in both.calc_lines([said, said])] == [3, 3]
+    axes = [[{"name": "tax", "count": 2, "min": 0, "max": 1}]]
+    grid = {"period": "2017-01", "input": {"persons": {"Ann": {}}}, "axes": axes, "columns": "tax"}
+    assert (both.size(grid), len(list(both.run(grid, workers=2)))) == (2, 2)
+
+
+def test_messages_name_the_folder_of_a_reform(tmp_path):
+    for name in ("rules", "reform"):
+        (tmp_path / name).mkdir()
+    (tmp_path / "rules" / "entities.py").write_text("Person = build_entity(key='person', plural='persons', is_person=True)\n")
+    (tmp_path / "reform" / "entities.py").write_text("x\n")
+    with pytest.raises(fisca.Refused) as told:
+        fisca.Rules(tmp_path / "rules", reforms=[tmp_path / "reform"]).check()
+    assert (told.value.path, told.value.line) == (str(tmp_path / "reform" / "entities.py"), 1)

@@ -37,6 +37,10 @@ impl<R: Files + AllocGlobal + Clone + Drop> RuleFolder for DiskFolder<'_, R> {
     // what a machine's folders hold is not known
     ghost says = { λ _ _. ⊥ };
 
+    fn name(&self) -> &str {
+        self.rules
+    }
+
     fn entries(&self, path: &str, most: usize) -> Result<Option<Vec<FolderEntry>>, AllocError> {
         let whole = self.whole(path)?;
         match retried(|| list(self.rt, whole.as_str(), most)) {

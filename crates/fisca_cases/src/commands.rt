@@ -155,7 +155,7 @@ fn push_end(
             shown.push("status ");
             shown.push_number(u64::from(refusal.status()));
             shown.push(", ");
-            shown.push(refusal.line(alloc, "file.yaml")?.as_str());
+            shown.push(refusal.line(alloc, "file.yaml", &[])?.as_str());
             if let Some(position) = position_of(refusal) {
                 shown.push(" at ");
                 shown.push_number(position);

@@ -30,6 +30,10 @@ places_rule id = record (option_rule id) { parser = Some (Unsigned 0 18) }
 abbrev pub axis_rule : Rule
 axis_rule = record (required_rule (codes "AXIS")) { action = Some Append; range = Some (record { start_inclusive = 1; end_inclusive = usize_max }) }
 
+-- the folder of a reform, once or several times: [--reform DIR]..
+abbrev pub reform_rule : Rule
+reform_rule = record (option_rule (codes "reform")) { action = Some Append }
+
 -- the options of a range and its lines: [--from P] [--to P] [--part I/N] [--rows N]
 abbrev pub with_range : App → App
 with_range app = with_rule (with_rule (with_rule (with_rule app (number_rule (codes "from"))) (number_rule (codes "to"))) (option_rule (codes "part"))) (number_rule (codes "rows"))
@@ -46,29 +50,33 @@ with_form app = with_rule (with_rule (with_rule app (flag_rule (codes "header"))
 abbrev pub axes_app : App
 axes_app = with_form (with_range (with_rule (with_rule (new_app (codes "axes")) axis_rule) (option_rule (codes "keep"))))
 
--- RULES
+-- RULES [--reform DIR]..
 abbrev pub check_app : App
-check_app = with_rule (new_app (codes "check")) (required_rule (codes "RULES"))
+check_app = with_rule (with_rule (new_app (codes "check")) (required_rule (codes "RULES"))) reform_rule
 
--- RULES FILE, the options of a form, and [--lines]
+-- a command over a rule set and a file: RULES FILE [--reform DIR]..
+abbrev pub with_files : Text → App → App
+with_files file app = with_rule (with_rule (with_rule app (required_rule (codes "RULES"))) (required_rule file)) reform_rule
+
+-- RULES FILE [--reform DIR].., the options of a form, and [--lines]
 abbrev pub calc_app : App
-calc_app = with_rule (with_form (with_rule (with_rule (new_app (codes "calc")) (required_rule (codes "RULES"))) (required_rule (codes "FILE")))) (flag_rule (codes "lines"))
+calc_app = with_rule (with_form (with_files (codes "FILE") (new_app (codes "calc")))) (flag_rule (codes "lines"))
 
--- RULES TESTS
+-- RULES TESTS [--reform DIR]..
 abbrev pub test_app : App
-test_app = with_rule (with_rule (new_app (codes "test")) (required_rule (codes "RULES"))) (required_rule (codes "TESTS"))
+test_app = with_files (codes "TESTS") (new_app (codes "test"))
 
--- RULES FILE, the options of a range and of a form, and [--keep-going]
+-- RULES FILE [--reform DIR].., the options of a range and of a form, and [--keep-going]
 abbrev pub run_app : App
-run_app = with_rule (with_form (with_range (with_rule (with_rule (new_app (codes "run")) (required_rule (codes "RULES"))) (required_rule (codes "FILE"))))) (flag_rule (codes "keep-going"))
+run_app = with_rule (with_form (with_range (with_files (codes "FILE") (new_app (codes "run"))))) (flag_rule (codes "keep-going"))
 
--- RULES FILE
+-- RULES FILE [--reform DIR]..
 abbrev pub size_app : App
-size_app = with_rule (with_rule (new_app (codes "size")) (required_rule (codes "RULES"))) (required_rule (codes "FILE"))
+size_app = with_files (codes "FILE") (new_app (codes "size"))
 
--- RULES and the options of a table
+-- RULES [--reform DIR].. and the options of a table
 abbrev pub list_app : App
-list_app = with_table (with_rule (new_app (codes "list")) (required_rule (codes "RULES")))
+list_app = with_table (with_rule (with_rule (new_app (codes "list")) (required_rule (codes "RULES"))) reform_rule)
 
 -- the program without its commands
 abbrev pub top_app : App

@@ -95,6 +95,8 @@ name, description, keywords   what the test is about; one without a name is told
 period                        the period that values without one have
 input                         what is known of the persons and their groups
 output                        the values that are expected
+only_variables                variables whose values alone are compared, one or a list
+ignore_variables              variables whose values are not compared, one or a list
 absolute_error_margin         how far a number may be off
 relative_error_margin         how far, as a share of the expected number
 
@@ -110,7 +112,7 @@ pub const TEST_MORE: &str = "Example:
 FAULT is a word:
   of a rule file       see 'fisca check --help'
   of the file's YAML   Tab, BadIndent, DuplicateKey, BadFlow, BadQuote, Unsupported, TooDeep, TooLong
-  of a test            BadTest, BadOutput
+  of a test            BadTest, BadOutput; UseReform (it names reforms or extensions: use --reform)
   of its input         UnknownEntity, UnknownVariable, UnknownPerson, PersonTwice, RoleFull,
                        BadValue, PeriodMismatch, InconsistentInput, TooMany
 A value that cannot be worked out fails its test, and its word stands where the value would.
@@ -236,6 +238,14 @@ pub const RUN_FILE_HELP: &str =
 pub const FILE_HELP: &str = "The file that says what is worked out, or - for standard input";
 
 pub const RULES_HELP: &str = "The folder of the rule set: entities.py, variables and parameters";
+
+pub const REFORM_HELP: &str = "Lay the files of a reform's folder over those of the rule set";
+
+pub const REFORM_LONG: &str = "Lay the files of a reform's folder over those of the rule set
+
+A file of DIR takes the place of that of the same path, and one that is empty takes it away; the others
+are added. With several, each is laid over those before it. The path of each file is then told with
+the folder that it is in, such as fisca: DIR/PATH:LINE: FAULT.";
 
 pub const AXES_ABOUT: &str = "List the values of axes";
 

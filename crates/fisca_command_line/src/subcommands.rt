@@ -6,8 +6,8 @@ ghost use Rattle.clap.specs.Simple.{app_of, new_app};
 ghost use Rattle.fisca_command_line.specs.CommandLine.{axes_app, calc_app, check_app, fisca_app, list_app, run_app, size_app, test_app, top_app};
 
 use crate::arguments::{
-    axis_argument, keep_going_option, keep_option, lines_option, required, with_form, with_range,
-    with_table,
+    axis_argument, keep_going_option, keep_option, lines_option, reform_option, required,
+    with_files, with_form, with_range, with_table,
 };
 use crate::help::{
     ABOUT, AXES_ABOUT, AXES_EXAMPLE, AXES_EXAMPLES, AXES_LONG, CALC_ABOUT, CALC_EXAMPLE, CALC_LONG,
@@ -42,18 +42,26 @@ pub fn axes_command<'a>(alloc: Global) -> Result<Command<'a>, AllocError>
     with_form(alloc, command)
 }
 
+/// The command `check` with its help, and no arguments yet.
+fn check_page<'a>(alloc: Global) -> Command<'a>
+    ensures app { app_of result ≡ new_app (codes "check") }
+    ensures local { (out-Command result).has_globals ≡ false }
+{
+    Command::new(alloc, "check")
+        .about(CHECK_ABOUT)
+        .long_about(CHECK_LONG)
+        .after_help(CHECK_EXAMPLE)
+        .after_long_help(CHECK_MORE)
+}
+
 /// The command `check`.
 fn check_command<'a>(alloc: Global) -> Result<Command<'a>, AllocError>
     ensures app { IfOk result (λ command. app_of command ≡ check_app) }
     ensures local { IfOk result (λ command. (out-Command command).has_globals ≡ false) }
 {
     let rules = required(alloc, "RULES", RULES_HELP);
-    Command::new(alloc, "check")
-        .about(CHECK_ABOUT)
-        .long_about(CHECK_LONG)
-        .after_help(CHECK_EXAMPLE)
-        .after_long_help(CHECK_MORE)
-        .arg(rules)
+    let reform = reform_option(alloc);
+    check_page(alloc).arg(rules)?.arg(reform)
 }
 
 /// The command `calc` with its help, and no arguments yet.
@@ -73,10 +81,9 @@ pub fn calc_command<'a>(alloc: Global) -> Result<Command<'a>, AllocError>
     ensures app { IfOk result (λ command. app_of command ≡ calc_app) }
     ensures local { IfOk result (λ command. (out-Command command).has_globals ≡ false) }
 {
-    let rules = required(alloc, "RULES", RULES_HELP);
-    let file = required(alloc, "FILE", FILE_HELP);
     let lines = lines_option(alloc);
-    with_form(alloc, calc_page(alloc).arg(rules)?.arg(file)?)?.arg(lines)
+    let command = with_files(alloc, calc_page(alloc), "FILE", FILE_HELP)?;
+    with_form(alloc, command)?.arg(lines)
 }
 
 /// The command `test` with its help, and no arguments yet.
@@ -96,9 +103,7 @@ fn test_command<'a>(alloc: Global) -> Result<Command<'a>, AllocError>
     ensures app { IfOk result (λ command. app_of command ≡ test_app) }
     ensures local { IfOk result (λ command. (out-Command command).has_globals ≡ false) }
 {
-    let rules = required(alloc, "RULES", RULES_HELP);
-    let tests = required(alloc, "TESTS", TESTS_HELP);
-    test_page(alloc).arg(rules)?.arg(tests)
+    with_files(alloc, test_page(alloc), "TESTS", TESTS_HELP)
 }
 
 /// The command `run` with its help, and no arguments yet.
@@ -118,10 +123,9 @@ pub fn run_command<'a>(alloc: Global) -> Result<Command<'a>, AllocError>
     ensures app { IfOk result (λ command. app_of command ≡ run_app) }
     ensures local { IfOk result (λ command. (out-Command command).has_globals ≡ false) }
 {
-    let rules = required(alloc, "RULES", RULES_HELP);
-    let file = required(alloc, "FILE", RUN_FILE_HELP);
     let going = keep_going_option(alloc);
-    let command = with_range(alloc, run_page(alloc).arg(rules)?.arg(file)?)?;
+    let command = with_files(alloc, run_page(alloc), "FILE", RUN_FILE_HELP)?;
+    let command = with_range(alloc, command)?;
     with_form(alloc, command)?.arg(going)
 }
 
@@ -142,9 +146,7 @@ fn size_command<'a>(alloc: Global) -> Result<Command<'a>, AllocError>
     ensures app { IfOk result (λ command. app_of command ≡ size_app) }
     ensures local { IfOk result (λ command. (out-Command command).has_globals ≡ false) }
 {
-    let rules = required(alloc, "RULES", RULES_HELP);
-    let file = required(alloc, "FILE", RUN_FILE_HELP);
-    size_page(alloc).arg(rules)?.arg(file)
+    with_files(alloc, size_page(alloc), "FILE", RUN_FILE_HELP)
 }
 
 /// The command `list` with its help, and no arguments yet.
@@ -165,7 +167,8 @@ pub fn list_command<'a>(alloc: Global) -> Result<Command<'a>, AllocError>
     ensures local { IfOk result (λ command. (out-Command command).has_globals ≡ false) }
 {
     let rules = required(alloc, "RULES", RULES_HELP);
-    with_table(alloc, list_page(alloc).arg(rules)?)
+    let reform = reform_option(alloc);
+    with_table(alloc, list_page(alloc).arg(rules)?.arg(reform)?)
 }
 
 /// The program with its help, and no commands yet.

@@ -1,3 +1,4 @@
 pub mod Counts
 pub mod Places
+mod Kept
 mod Worked

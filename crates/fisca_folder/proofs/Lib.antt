@@ -1,2 +1,4 @@
 mod Looks
 mod FirstFiles
+mod Laying
+mod LaidOver

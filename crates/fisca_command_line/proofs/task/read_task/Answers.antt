@@ -55,7 +55,7 @@ returns-in_err-matches-clause-fault c =
 pub returns-in-Some-check-default-clause-work : goal.returns-in-Some-check-default-clause-work
 returns-in-Some-check-default-clause-work c =
     let w = c.in-Some-check-default in
-    rw (met _ _ _ _ _ c.in_ok-command.ensures.app c.in_ok-matches.ensures.matches w.ensures.name w.ensures.rows) (inl (w.is-check, c.check_task.ensures))
+    rw (met _ _ _ _ _ c.in_ok-command.ensures.app c.in_ok-matches.ensures.matches w.ensures.name w.ensures.rows) (inl (w.is-check, c.in_ok-check_task-in-Some-check-default.ensures))
 
 pub returns-in-Some-calc-default-clause-work : goal.returns-in-Some-calc-default-clause-work
 returns-in-Some-calc-default-clause-work c =
@@ -65,7 +65,7 @@ returns-in-Some-calc-default-clause-work c =
 pub returns-in-Some-test-default-clause-work : goal.returns-in-Some-test-default-clause-work
 returns-in-Some-test-default-clause-work c =
     let w = c.in-Some-test-default in
-    rw (met _ _ _ _ _ c.in_ok-command.ensures.app c.in_ok-matches.ensures.matches w.ensures.name w.ensures.rows) (inr (inr (inl (w.is-test, c.test_task.ensures))))
+    rw (met _ _ _ _ _ c.in_ok-command.ensures.app c.in_ok-matches.ensures.matches w.ensures.name w.ensures.rows) (inr (inr (inl (w.is-test, c.in_ok-test_task-in-Some-test-default.ensures))))
 
 pub returns-in-Some-run-default-clause-work : goal.returns-in-Some-run-default-clause-work
 returns-in-Some-run-default-clause-work c =
@@ -75,7 +75,7 @@ returns-in-Some-run-default-clause-work c =
 pub returns-in-Some-size-default-clause-work : goal.returns-in-Some-size-default-clause-work
 returns-in-Some-size-default-clause-work c =
     let w = c.in-Some-size-default in
-    rw (met _ _ _ _ _ c.in_ok-command.ensures.app c.in_ok-matches.ensures.matches w.ensures.name w.ensures.rows) (inr (inr (inr (inr (inl (w.is-size, c.size_task.ensures))))))
+    rw (met _ _ _ _ _ c.in_ok-command.ensures.app c.in_ok-matches.ensures.matches w.ensures.name w.ensures.rows) (inr (inr (inr (inr (inl (w.is-size, c.in_ok-size_task-in-Some-size-default.ensures))))))
 
 pub returns-in-Some-list-default-clause-work : goal.returns-in-Some-list-default-clause-work
 returns-in-Some-list-default-clause-work c =

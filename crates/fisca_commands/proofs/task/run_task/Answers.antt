@@ -5,16 +5,16 @@ use Rattle.fisca_commands.proofs.task.run_task.Goals as goal
 
 pub returns-in-Calc-clause-ending : goal.returns-in-Calc-clause-ending
 returns-in-Calc-clause-ending g c =
-    subst (λ (task : Task). IsTaskEnding task c.args.files.now c.args.text.now (g.S.RowSink.taken c.args.sink.now) (g.S.RowSink.taken c.run_calc.new.sink) c.run_calc.result) (sym c.in-Calc.is)
+    subst (λ (task : Task). IsTaskEnding task c.args.files.now c.args.told_paths.now c.args.text.now (g.S.RowSink.taken c.args.sink.now) (g.S.RowSink.taken c.run_calc.new.sink) c.run_calc.result) (sym c.in-Calc.is)
     c.run_calc.ensures.ending
 
 pub returns-in-List-clause-ending : goal.returns-in-List-clause-ending
 returns-in-List-clause-ending g c =
-    subst (λ (task : Task). IsTaskEnding task c.args.files.now c.args.text.now (g.S.RowSink.taken c.args.sink.now) (g.S.RowSink.taken c.run_list.new.sink) c.run_list.result) (sym c.in-List.is)
+    subst (λ (task : Task). IsTaskEnding task c.args.files.now c.args.told_paths.now c.args.text.now (g.S.RowSink.taken c.args.sink.now) (g.S.RowSink.taken c.run_list.new.sink) c.run_list.result) (sym c.in-List.is)
     c.run_list.ensures.ending
 
 pub returns-in-Axes-clause-ending : goal.returns-in-Axes-clause-ending
 returns-in-Axes-clause-ending g c =
-    subst (λ (task : Task). IsTaskEnding task c.args.files.now c.args.text.now (g.S.RowSink.taken c.args.sink.now) (g.S.RowSink.taken c.run_axes.new.sink) c.run_axes.result) (sym c.in-Axes.is)
+    subst (λ (task : Task). IsTaskEnding task c.args.files.now c.args.told_paths.now c.args.text.now (g.S.RowSink.taken c.args.sink.now) (g.S.RowSink.taken c.run_axes.new.sink) c.run_axes.result) (sym c.in-Axes.is)
     (subst (λ words. IsAxesEnding (map (λ word. string_bytes word) words) (option_map (λ text. text.now) c.in-Axes.keep) c.in-Axes.options (g.S.RowSink.taken c.args.sink.now) (g.S.RowSink.taken c.run_axes.new.sink) c.run_axes.result)
     c.as_slice.ensures.value c.run_axes.ensures.ending)

@@ -122,7 +122,12 @@ fn run_in(rt: &HostRuntime, task: &Task<'_>, folders: &RuleFolders<'_>, file: Op
 }
 
 /// Runs a task over these files and its own file, if it has one, and answers the exit status.
-fn run_under(rt: &HostRuntime, task: &Task<'_>, laid: &LaidFiles, file: Option<&str>) -> u8 {
+fn run_under<'x>(
+    rt: &HostRuntime,
+    task: &'x Task<'_>,
+    laid: &'x LaidFiles,
+    file: Option<&str>,
+) -> u8 {
     match read_own(rt, file) {
         Ok(text) => run_over(
             rt,

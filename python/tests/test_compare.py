@@ -111,6 +111,14 @@ def test_refusals(housing, small, tmp_path):
         housing.compare([], GRID, workers=0)
 
 
+def test_the_first_run_is_closed_where_the_second_is_refused(small, tmp_path, monkeypatch):
+    closed = []
+    monkeypatch.setattr(fisca.Run, "close", lambda run: closed.append(run))
+    with pytest.raises(fisca.Refused):
+        small.compare(reform_of(tmp_path, "variables/b.py", "class b(Variable):\n    value_type = float\n"), SALARIES)
+    assert len(closed) == 1
+
+
 def test_a_comparison_is_closed(housing, higher):
     with housing.compare(higher, GRID) as found:
         next(found)

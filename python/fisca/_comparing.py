@@ -9,6 +9,8 @@ from ._values import Number, Value
 
 # what a run has next: a row, the fault that ends it, or nothing
 Next = Union[Row, NoValue, None]
+# that this is not read yet: what is told behind a row is told behind its difference
+UNREAD = Row(-1, (), ())
 
 
 class Difference(NamedTuple):
@@ -34,7 +36,7 @@ class Comparison(Iterator[Difference]):
 
     def __init__(self, before: Run, after: Run) -> None:
         self._runs = before, after
-        self._next: Optional[Tuple[Next, Next]] = None
+        self._next: Tuple[Next, Next] = UNREAD, UNREAD
         self.axes, self.columns = before.axes, before.columns
         self.more: Optional[int] = None
 
@@ -63,14 +65,16 @@ class Comparison(Iterator[Difference]):
     def _next_difference(self) -> Difference:
         before, after = self._runs
         while True:
-            first, second = self._next or (next_of(before), next_of(after))
+            first, second = self._next
+            first = next_of(before) if first is UNREAD else first
+            second = next_of(after) if second is UNREAD else second
             places = [it.position for it in (first, second) if it is not None and it.position is not None]
             if not places:
                 self._next, self.more = (None, None), before.more
                 raise StopIteration
             place = min(places)
             one, other = row_at(first, place), row_at(second, place)
-            self._next = next_of(before) if one else first, next_of(after) if other else second
+            self._next = UNREAD if one else first, UNREAD if other else second
             if are_other(one, other):
                 return difference_of(one, other)
 

@@ -119,6 +119,16 @@ def test_the_first_run_is_closed_where_the_second_is_refused(small, tmp_path, mo
     assert len(closed) == 1
 
 
+def test_what_comes_behind_a_difference_is_told_behind_it(stand_in):
+    # the rules run out of memory behind a row that the reform has not
+    rules = stand_in("""case "$*" in *--reform*) printf 'position\\trent\\tx\\n'; echo end >&2; exit 0 ;; esac
+printf 'position\\trent\\tx\\n0\\t1\\t2\\n'; echo 'fisca: out of memory' >&2; exit 6""")
+    found = rules.compare("reform", {"axes": [[{"name": "rent", "count": 2, "min": 0, "max": 1}]]})
+    assert next(found) == (0, (1,), (2,), None)
+    with pytest.raises(fisca.OutOfMemory):
+        next(found)
+
+
 def test_a_comparison_is_closed(housing, higher):
     with housing.compare(higher, GRID) as found:
         next(found)

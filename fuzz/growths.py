@@ -127,6 +127,8 @@ def calls():
         "calc of a right input": Call("calc", files, OWNER),
         "calc of a wrong input": Call("calc", files, CASTLE),
         "calc of a chain": Call("calc", files, CHAIN),
+        "explain": Call("explain", files, COLUMNS),
+        "explain of scales": Call("explain", graded(files), PAY),
         "test": Call("test", files, TESTS),
         "size": Call("size", files, RUN),
         "list": Call("list", files),

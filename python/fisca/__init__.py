@@ -13,6 +13,7 @@ as a `FiscaError`.
 """
 from ._comparing import Comparison, Difference
 from ._errors import Failed, FiscaError, NoValue, OutOfMemory, Refused
+from ._explaining import Step
 from ._lines import Amount, Situation
 from ._listing import Variable
 from ._rows import Row, Run, axes
@@ -34,6 +35,7 @@ __all__ = [
     "Rules",
     "Run",
     "Situation",
+    "Step",
     "Value",
     "Variable",
     "Verdict",

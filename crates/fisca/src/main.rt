@@ -100,7 +100,8 @@ fn run_task_of(rt: &HostRuntime, task: &Task<'_>) -> u8 {
         Task::Calc { rules, file, .. }
         | Task::Test { rules, file }
         | Task::Run { rules, file, .. }
-        | Task::Size { rules, file } => run_in(rt, task, rules, Some(*file)),
+        | Task::Size { rules, file }
+        | Task::Explain { rules, file, .. } => run_in(rt, task, rules, Some(*file)),
         Task::Axes { .. } => run_over(
             rt,
             task,
@@ -149,6 +150,7 @@ fn own_file<'a>(task: &'a Task<'_>, text: &'a str) -> OwnFile<'a> {
         Task::Calc { file, .. } => (*file, Place::Calc),
         Task::Test { file, .. } => (*file, Place::Test),
         Task::Run { file, .. } | Task::Size { file, .. } => (*file, Place::Run),
+        Task::Explain { file, .. } => (*file, Place::Explain),
         Task::Axes { .. } => ("", Place::Axes),
     };
     OwnFile { path, text, place }

@@ -33,7 +33,7 @@ fn behind_local<'n, 'a>(
         return Err(FormulaKind::TooDeep);
     };
     let latest = Local {
-        name: Slice::new(local.name.as_bytes()),
+        name: Slice::new(local.name.as_str()),
         held,
         size,
     };

@@ -140,7 +140,7 @@ pub fn library_function(name: &[u8]) -> Result<Thing, FormulaKind>
 }
 
 /// What the name of an Enum or of an entity stands for.
-fn declared(tables: &Tables, name: &[u8]) -> Option<Thing>
+fn declared(tables: &Tables, name: &str) -> Option<Thing>
     ensures { option_map thing result ≡ spec.declared (tables_of tables.now) name.now }
 {
     match tables.enums.of_name(name) {
@@ -153,16 +153,16 @@ fn declared(tables: &Tables, name: &[u8]) -> Option<Thing>
 }
 
 /// What a name stands for that is no local's.
-fn other_named(alloc: Global, names: &FormulaScope, name: &[u8]) -> Option<Thing>
+fn other_named(alloc: Global, names: &FormulaScope, name: &str) -> Option<Thing>
     ensures { option_map thing result ≡ other_name (names_of names.now) name.now }
 {
-    match argument_named(alloc, names, name) {
+    match argument_named(alloc, names, name.as_bytes()) {
         Some(found) => Some(found),
-        None => match known_word(name) {
+        None => match known_word(name.as_bytes()) {
             Some(found) => Some(found),
             None => match declared(names.tables, name) {
                 Some(found) => Some(found),
-                None => added_word(name),
+                None => added_word(name.as_bytes()),
             },
         },
     }
@@ -171,10 +171,10 @@ fn other_named(alloc: Global, names: &FormulaScope, name: &[u8]) -> Option<Thing
 /// What a name stands for, or `UnknownName`: the latest local, else an argument, else a word of the language, else an
 /// Enum or an entity, else a function that this project adds, which hides no name so.
 #[inline(never)]
-pub fn named(alloc: Global, names: &FormulaScope, name: &[u8]) -> Result<Thing, FormulaKind>
+pub fn named(alloc: Global, names: &FormulaScope, name: &str) -> Result<Thing, FormulaKind>
     ensures { Gives thing (spec.named (names_of names.now) name.now) result }
 {
-    match names.locals.find(alloc, name)? {
+    match names.locals.find(alloc, name.as_bytes())? {
         Some(found) => Ok(found),
         None => match other_named(alloc, names, name) {
             Some(found) => Ok(found),

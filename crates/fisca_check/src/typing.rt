@@ -33,13 +33,11 @@ pub fn thing_of<'a, 't>(
     ensures { Gives thing (spec.thing_of (names_of names.now) (tree_of tree.now)) result }
 {
     match tree {
-        Expr::Name(name) => named(alloc, names, name.as_bytes()),
+        Expr::Name(name) => named(alloc, names, name.as_str()),
         Expr::Number(digits) => number_thing(digits.as_bytes()),
-        Expr::Text(text) => text_thing(alloc, text.as_bytes()),
+        Expr::Text(text) => text_thing(alloc, text.as_str()),
         Expr::Bracketed(bracket, inside) => bracketed(alloc, names, *bracket, inside),
-        Expr::Attribute(access) => {
-            attribute(alloc, names, &access.front, access.name.as_bytes())
-        }
+        Expr::Attribute(access) => attribute(alloc, names, &access.front, access.name.as_str()),
         Expr::Applied(suffix, application) => {
             let before = thing_of(alloc, &application.front, names);
             applied(alloc, names, *suffix, before, &application.behind)
@@ -99,7 +97,7 @@ fn attribute<'a, 't>(
     alloc: Global,
     names: &FormulaScope,
     front: &'t Expr<'a>,
-    name: &[u8],
+    name: &str,
 ) -> Result<Thing, FormulaKind>
     ensures { Gives thing (and_then (spec.thing_of (names_of names.now) (tree_of front.now)) (spec.attribute_of (names_of names.now) name.now)) result }
 {

@@ -351,7 +351,7 @@ pub fn offset_of(moves: Vec<Move>, positions: Positions) -> Result<Thing, Formul
     match arguments.as_slice() {
         [] => Err(FormulaKind::BadType),
         [count] => offset_by(moves, count.tree),
-        [count, unit] => offset_by_unit(moves, count.tree, text_of(&unit.thing)?),
+        [count, unit] => offset_by_unit(moves, count.tree, text_of(&unit.thing)?.as_bytes()),
         [_, _, _, ..] => Err(FormulaKind::BadType),
     }
 }

@@ -23,7 +23,7 @@ use fisca_yaml::{Entry, Tree};
 use std::alloc::Global;
 
 /// Whether the name at a place is this one.
-fn is_at(names: &MemberNames, place: usize, name: &[u8]) -> bool
+fn is_at(names: &MemberNames, place: usize, name: &str) -> bool
     ensures { (k : List ℕ) → slice_get names.now place ≡ Some k → result ≡ bytes_eq k name.now }
 {
     match names.get(place) {
@@ -33,7 +33,7 @@ fn is_at(names: &MemberNames, place: usize, name: &[u8]) -> bool
 }
 
 /// The first place of a name.
-fn place_among(names: &MemberNames, name: &[u8]) -> Option<u32>
+fn place_among(names: &MemberNames, name: &str) -> Option<u32>
     ensures { result ≡ place_in (λ k. bytes_eq k name.now) names.now }
 {
     for place in 0..names.len() {
@@ -45,7 +45,7 @@ fn place_among(names: &MemberNames, name: &[u8]) -> Option<u32>
 }
 
 /// The place of the first member of this name.
-fn member_named(situation: &Situation, entity: usize, name: &[u8]) -> Option<u32>
+fn member_named(situation: &Situation, entity: usize, name: &str) -> Option<u32>
     ensures { result ≡ spec.member_named (situation_view situation.now).members entity name.now }
 {
     match situation.members.as_slice().get(entity) {
@@ -103,7 +103,7 @@ fn members_read(
 {
     let mut found = outputs;
     for entry in entries {
-        let member = member_named(situation, entity, entry.key.as_str().as_bytes());
+        let member = member_named(situation, entity, entry.key.as_str());
         found = member_read(
             tables,
             situation,

@@ -1,5 +1,5 @@
 -- The nodes and the things of the theory that those in memory stand for.
-use Rattle.std.specs.Prelude.{ℕ, List, [], ◌∷◌, map, Option, option_map}
+use Rattle.std.specs.Prelude.{ℕ, List, [], ◌∷◌, map, Option, option_map, string_bytes}
 use Rattle.fisca_model.specs.declared.role_place.RolePlace.{RolePlace}
 use Rattle.fisca_typing.specs.declared.moves.Move.{Move}
 use Rattle.fisca_typing.specs.Nodes as spec
@@ -121,7 +121,7 @@ thing_step (Thing-F.GroupCount g) = things.group_count g
 thing_step Thing-F.Library = things.library
 thing_step (Thing-F.Function f) = things.function f
 thing_step (Thing-F.Asking a) = things.option a
-thing_step (Thing-F.Text t) = things.text t.items
+thing_step (Thing-F.Text t) = things.text (string_bytes t)
 thing_step (Thing-F.Listed xs) = things.listed (all_things xs.items)
 
 abbrev pub thing : Thing → things.Thing

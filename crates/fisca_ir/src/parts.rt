@@ -40,11 +40,11 @@ pub fn instant_of(thing: Thing) -> Result<Vec<Move>, FormulaKind>
 }
 
 /// The text that a thing is, or `BadType`.
-pub fn text_of(thing: &Thing) -> Result<&[u8], FormulaKind>
+pub fn text_of(thing: &Thing) -> Result<&str, FormulaKind>
     ensures { Gives (λ t. t.now) (spec.text_of (thing_of thing.now)) result }
 {
     match thing {
-        Thing::Text(text) => Ok(text.as_slice()),
+        Thing::Text(text) => Ok(text.as_str()),
         _ => Err(FormulaKind::BadType),
     }
 }

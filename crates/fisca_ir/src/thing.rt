@@ -62,6 +62,6 @@ pub enum Thing {
     Function(Function),
     /// `ADD` and `DIVIDE`
     Asking(Asking),
-    Text(Vec<u8>),
+    Text(String),
     Listed(Vec<Thing>),
 }

@@ -52,7 +52,7 @@ fn roles_from(
     ensures { Leaves homes.new (spec.roles_from roles.now persons.now group homes.old (entries_view entries.now)) result }
 {
     for entry in entries {
-        let place = roles.of_name(entry.key.as_str().as_bytes());
+        let place = roles.of_name(entry.key.as_str());
         role_at(
             roles,
             persons,
@@ -82,7 +82,7 @@ fn with_group(
     room(line, count)?;
     let entries = entries_at(line, tree)?;
     roles_from(roles, persons, count as u32, &mut groups.homes, entries)?;
-    groups.names.push(alloc, name.as_bytes())?;
+    groups.names.push(alloc, name)?;
     Ok(())
 }
 

@@ -96,7 +96,7 @@ impl Members {
     }
 
     /// The name of the member at a place, where there is one.
-    pub fn name(&self, entity: usize, member: u32) -> Option<&[u8]>
+    pub fn name(&self, entity: usize, member: u32) -> Option<&str>
         ensures { option_map (λ n. n.now) result ≡ lookup.name_at self.now entity member }
     {
         match self.items.as_slice().get(entity) {
@@ -155,7 +155,7 @@ fn names_of(alloc: Global, persons: &Persons<'_>) -> Result<MemberNames, AllocEr
 {
     let mut names = MemberNames::with_capacity(alloc, persons.len())?;
     for person in persons.as_slice() {
-        names.push(alloc, person.name.as_bytes())?;
+        names.push(alloc, person.name.as_str())?;
     }
     Ok(names)
 }

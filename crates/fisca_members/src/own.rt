@@ -23,7 +23,7 @@ fn with_own(
 {
     let count = groups.names.len();
     room(person.line, count)?;
-    groups.names.push(alloc, person.name.as_bytes())?;
+    groups.names.push(alloc, person.name.as_str())?;
     let group = count as u32;
     groups.homes.hold(place, Home { group, role: first });
     Ok(())

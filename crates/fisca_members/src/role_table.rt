@@ -36,8 +36,8 @@ fn title<'e>(role: &'e Role<'_>) -> SourceText<'e>
     ensures { result ≡ spec.title (known_role role.now) }
 {
     match &role.plural {
-        Some(plural) => SourceText::borrowed(plural.as_bytes()),
-        None => SourceText::borrowed(role.key.as_bytes()),
+        Some(plural) => SourceText::borrowed(plural.as_str()),
+        None => SourceText::borrowed(role.key.as_str()),
     }
 }
 
@@ -53,11 +53,11 @@ fn titles_of<'e>(alloc: Global, roles: &'e [Role<'_>]) -> Result<Names<'e>, Allo
 }
 
 /// The place of the first role of this name.
-fn place_among(roles: &[Role<'_>], name: &[u8]) -> Option<usize>
+fn place_among(roles: &[Role<'_>], name: &str) -> Option<usize>
     ensures { result ≡ spec.role_named (known_roles roles.now) name.now }
 {
     for (place, role) in roles.iter().enumerate() {
-        if title(role).as_bytes() == name {
+        if title(role).as_str() == name {
             return Some(place);
         }
     }
@@ -109,7 +109,7 @@ impl<'e, 'r> RoleTable<'e, 'r> {
     }
 
     /// The place of the role of this name.
-    pub fn of_name(&self, name: &[u8]) -> Option<usize>
+    pub fn of_name(&self, name: &str) -> Option<usize>
         ensures { result ≡ spec.role_named self.now name.now }
     {
         match &self.names {

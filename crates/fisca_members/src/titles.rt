@@ -52,12 +52,12 @@ pub struct Titles<'e, 'r> {
 }
 
 /// A name of an entity.
-fn name_of<'e>(entity: &'e Entity<'_>, naming: Naming) -> &'e [u8]
+fn name_of<'e>(entity: &'e Entity<'_>, naming: Naming) -> &'e str
     ensures { result.now ≡ name_by naming (known_entity entity.now) }
 {
     match naming {
-        Naming::Plural => entity.plural.as_bytes(),
-        Naming::Key => entity.key.as_bytes(),
+        Naming::Plural => entity.plural.as_str(),
+        Naming::Key => entity.key.as_str(),
     }
 }
 
@@ -77,7 +77,7 @@ fn names_of<'e>(
 }
 
 /// The place of the first entity of this name.
-fn place_among(entities: &[Entity<'_>], naming: Naming, name: &[u8]) -> Option<usize>
+fn place_among(entities: &[Entity<'_>], naming: Naming, name: &str) -> Option<usize>
     ensures { result ≡ place_in (λ k. bytes_eq k name.now) (map (name_by naming) (known entities.now)) }
 {
     for (place, entity) in entities.iter().enumerate() {
@@ -110,7 +110,7 @@ impl<'e, 'r> EntityNames<'e, 'r> {
     }
 
     /// The first place of a name.
-    fn place_of(&self, name: &[u8]) -> Option<usize>
+    fn place_of(&self, name: &str) -> Option<usize>
         ensures { result ≡ place_in (λ k. bytes_eq k name.now) self.now }
     {
         match &self.names {
@@ -135,7 +135,7 @@ pub fn titles_of<'e, 'r>(
 
 impl Titles<'_, '_> {
     /// The entity that a key names: by its plural, which stands for all its members, or by its key, which stands for the only one.
-    pub fn named(&self, key: &[u8]) -> Option<Named>
+    pub fn named(&self, key: &str) -> Option<Named>
         ensures { result ≡ spec.named self.now key.now }
     {
         if let Some(entity) = self.plurals.place_of(key) {

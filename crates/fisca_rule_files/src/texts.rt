@@ -2,6 +2,7 @@
 
 ghost use Rattle.std.specs.Prelude.{◌≡◌, ◌++◌, IfOk, OnOk, map, option_map, slice_get, string_bytes};
 ghost use Rattle.fisca_declarations.specs.VariableForms.{written};
+ghost use Rattle.fisca_folder.specs.Shown.{shown};
 ghost use Rattle.fisca_rule_files.specs.Listing as spec;
 ghost use Rattle.fisca_rules.specs.Views.{dated, rule_set};
 ghost use Rattle.fisca_time.specs.PeriodText.{date_text};
@@ -15,12 +16,11 @@ use fisca_time::{Instant, Unit};
 use std::alloc::{AllocError, Global};
 
 /// A text of a module, in one line.
-pub(crate) fn text_of(alloc: Global, bytes: &[u8]) -> Result<String, AllocError>
-    ensures { IfOk result (λ text. string_bytes text ≡ spec.text_of bytes.now) }
+pub(crate) fn text_of(alloc: Global, said: &str) -> Result<String, AllocError>
+    ensures { IfOk result (λ text. string_bytes text ≡ shown said.now) }
 {
-    let whole = String::from_utf8_lossy(alloc, bytes)?;
     let mut text = String::new(alloc);
-    write_shown(whole.as_str(), &mut text)?;
+    write_shown(said, &mut text)?;
     Ok(text)
 }
 
@@ -29,7 +29,7 @@ pub(crate) fn text_told(alloc: Global, told: &Option<SourceText<'_>>) -> Result<
     ensures { IfOk result (λ text. string_bytes text ≡ spec.text_told told.now) }
 {
     match told {
-        Some(said) => text_of(alloc, said.as_bytes()),
+        Some(said) => text_of(alloc, said.as_str()),
         None => Ok(String::new(alloc)),
     }
 }
@@ -43,7 +43,7 @@ pub(crate) fn entity_text(
     ensures { IfOk result (λ text. string_bytes text ≡ spec.entity_text (slice_get (rule_set rules.now).entities place)) }
 {
     match rules.entities().get(place) {
-        Some(entity) => text_of(alloc, entity.key.as_bytes()),
+        Some(entity) => text_of(alloc, entity.key.as_str()),
         None => Ok(String::new(alloc)),
     }
 }
@@ -53,7 +53,7 @@ fn enum_text(alloc: Global, rules: &RuleSet<'_>, place: usize) -> Result<String,
     ensures { IfOk result (λ text. string_bytes text ≡ spec.enum_text (slice_get (rule_set rules.now).enums place)) }
 {
     match rules.enums().get(place) {
-        Some(choices) => text_of(alloc, choices.name.as_bytes()),
+        Some(choices) => text_of(alloc, choices.name.as_str()),
         None => Ok(String::new(alloc)),
     }
 }

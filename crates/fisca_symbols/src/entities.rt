@@ -56,14 +56,14 @@ impl<'a> Entities<'a> {
     }
 
     /// The place of the first entity with this constant.
-    pub fn of_constant(&self, constant: &[u8]) -> Option<usize>
+    pub fn of_constant(&self, constant: &str) -> Option<usize>
         ensures { result ≡ place_in (λ e. bytes_eq e.constant constant.now) (entities self.now) }
     {
         self.constants.get(&SourceText::borrowed(constant)).copied()
     }
 
     /// The place of the first group with this key.
-    pub fn group_of_key(&self, key: &[u8]) -> Option<usize>
+    pub fn group_of_key(&self, key: &str) -> Option<usize>
         ensures { result ≡ place_in (is_group_of key.now) (entities self.now) }
     {
         self.groups.get(&SourceText::borrowed(key)).copied()

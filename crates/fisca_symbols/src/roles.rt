@@ -53,14 +53,14 @@ impl<'a> Roles<'a> {
     }
 
     /// The first role or subrole with this key.
-    pub fn of_key(&self, key: &[u8]) -> Option<RolePlace>
+    pub fn of_key(&self, key: &str) -> Option<RolePlace>
         ensures { result ≡ role_of_key (roles self.now) key.now }
     {
         self.keys.get(&SourceText::borrowed(key)).copied()
     }
 
     /// The first role or subrole whose key is this one, small letters written as capitals.
-    pub fn of_constant(&self, constant: &[u8]) -> Option<RolePlace>
+    pub fn of_constant(&self, constant: &str) -> Option<RolePlace>
         ensures { result ≡ role_of_constant (roles self.now) constant.now }
     {
         self.constants.get(&SourceText::borrowed(constant)).copied()
@@ -80,7 +80,7 @@ impl<'a> Roles<'a> {
     }
 
     /// The first role or subrole with this key, where one person at most has it.
-    pub fn single_of_key(&self, key: &[u8]) -> Option<RolePlace>
+    pub fn single_of_key(&self, key: &str) -> Option<RolePlace>
         ensures { result ≡ if_single (roles self.now) (role_of_key (roles self.now) key.now) }
     {
         let place = self.of_key(key)?;

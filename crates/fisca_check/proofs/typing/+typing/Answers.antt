@@ -50,7 +50,7 @@ thing_of-returns-in-Attribute t c =
     let x = c.in-Attribute.access.value in
     let seen : tree c.args.tree.now ≡ attribute (tree x.front) x.name = ap tree c.in-Attribute.is ∙ search (all_lemmas, rules) in
     let front = ap (λ y. y.front) (sym c.deref-in-Attribute.ensures) in
-    let name = sym (c.as_bytes-in-Attribute.ensures ∙ ap (λ y. y.name) c.deref-in-Attribute-2.ensures) in
+    let name = sym (c.as_str-in-Attribute.ensures ∙ ap (λ y. y.name) c.deref-in-Attribute-2.ensures) in
     gives_same thing _ _ _ c.attribute.ensures (ap (thing_of n) seen ∙ (λ i. and_then (thing_of n (tree (front i))) (attribute_of n (name i))))
 
 pub thing_of-returns-in-Applied : goal.thing_of-returns-in-Applied

@@ -69,11 +69,10 @@ pub fn attribute_of(
     let bytes = name.as_bytes();
     match thing {
         Thing::Value(value) => value_attribute(bytes, value.value_type),
-        Thing::Period(moves) => period_attribute(bytes, moves),
-        Thing::Start(moves) => start_attribute(alloc, bytes, moves),
+        Thing::Period(moves) => period_attribute(alloc, bytes, moves),
+        Thing::Start(moves) => start_attribute(alloc, bytes, &moves),
         Thing::Nodes(chosen) => {
-            let above = Box::into_inner(chosen);
-            node_attribute(alloc, &names.tables.parameters, bytes, above)
+            node_attribute(alloc, &names.tables.parameters, bytes, chosen.as_ref())
         }
         Thing::Scale(place, moves) => scale_attribute(bytes, place, moves),
         Thing::Enumeration(choices) => member_thing(names.tables, choices, name),

@@ -85,7 +85,7 @@ fn subscript_of(
     let index = only(arguments)?;
     let chosen = nodes_of(thing)?;
     let member = value_of(index)?;
-    subscripted(alloc, names.tables, chosen, member)
+    subscripted(alloc, names.tables, chosen.as_ref(), member)
 }
 
 /// What an expression with brackets behind it stands for, or the first fault. Its frame is not among those of the

@@ -8,21 +8,20 @@ ghost use Rattle.fisca_typing.specs.Names as spec;
 
 use crate::scope::FormulaScope;
 use fisca_ast::FormulaKind;
-use fisca_ir::{Node, Thing, Typed};
+use fisca_ir::{Moves, Node, Thing, Typed};
 use fisca_model::ValueType;
 use fisca_symbols::Tables;
 use fisca_typing::{Asking, Function, Level};
-use std::alloc::Global;
 
 /// What the name of an argument of the formula stands for.
-fn argument_named(alloc: Global, names: &FormulaScope, name: &[u8]) -> Option<Thing>
+fn argument_named(names: &FormulaScope, name: &[u8]) -> Option<Thing>
     ensures { option_map thing result ≡ spec.argument_named (names_of names.now) name.now }
 {
     if names.asker_name == name {
         return Some(Thing::Asker);
     }
     if names.period_name == name {
-        return Some(Thing::Period(Vec::new(alloc)));
+        return Some(Thing::Period(Moves::none()));
     }
     match names.reader_name {
         Some(reader) if reader == name => Some(Thing::Reader),
@@ -153,10 +152,10 @@ fn declared(tables: &Tables, name: &str) -> Option<Thing>
 }
 
 /// What a name stands for that is no local's.
-fn other_named(alloc: Global, names: &FormulaScope, name: &str) -> Option<Thing>
+fn other_named(names: &FormulaScope, name: &str) -> Option<Thing>
     ensures { option_map thing result ≡ other_name (names_of names.now) name.now }
 {
-    match argument_named(alloc, names, name.as_bytes()) {
+    match argument_named(names, name.as_bytes()) {
         Some(found) => Some(found),
         None => match known_word(name.as_bytes()) {
             Some(found) => Some(found),
@@ -171,12 +170,12 @@ fn other_named(alloc: Global, names: &FormulaScope, name: &str) -> Option<Thing>
 /// What a name stands for, or `UnknownName`: the latest local, else an argument, else a word of the language, else an
 /// Enum or an entity, else a function that this project adds, which hides no name so.
 #[inline(never)]
-pub fn named(alloc: Global, names: &FormulaScope, name: &str) -> Result<Thing, FormulaKind>
+pub fn named(names: &FormulaScope, name: &str) -> Result<Thing, FormulaKind>
     ensures { Gives thing (spec.named (names_of names.now) name.now) result }
 {
-    match names.locals.find(alloc, name.as_bytes())? {
+    match names.locals.find(name.as_bytes())? {
         Some(found) => Ok(found),
-        None => match other_named(alloc, names, name) {
+        None => match other_named(names, name) {
             Some(found) => Ok(found),
             None => Err(FormulaKind::UnknownName),
         },

@@ -60,10 +60,10 @@ fn enum_by(value_type: ValueType) -> Result<usize, FormulaKind>
 pub fn subscripted(
     alloc: Global,
     tables: &Tables,
-    chosen: Chosen,
+    chosen: &Chosen,
     index: Typed,
 ) -> Result<Thing, FormulaKind>
-    ensures { Gives thing_of (spec.subscripted (tables_of tables.now) (chosen_of chosen) (typed index)) result }
+    ensures { Gives thing_of (spec.subscripted (tables_of tables.now) (chosen_of chosen.now) (typed index)) result }
 {
     let choices = enum_by(index.value_type)?;
     let level = higher(chosen.level, index.level)?;

@@ -33,7 +33,7 @@ pub fn thing_of<'a, 't>(
     ensures { Gives thing (spec.thing_of (names_of names.now) (tree_of tree.now)) result }
 {
     match tree {
-        Expr::Name(name) => named(alloc, names, name.as_str()),
+        Expr::Name(name) => named(names, name.as_str()),
         Expr::Number(digits) => number_thing(digits.as_bytes()),
         Expr::Text(text) => text_thing(alloc, text.as_str()),
         Expr::Bracketed(bracket, inside) => bracketed(alloc, names, *bracket, inside),

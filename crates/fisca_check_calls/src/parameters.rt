@@ -7,11 +7,14 @@ ghost use Rattle.fisca_ir.specs.Views.{chosen as chosen_of, indices as indices_o
 ghost use Rattle.fisca_typing.specs.Parameters as spec;
 
 use fisca_ast::FormulaKind;
-use fisca_ir::{Chosen, Index, Node, Thing, Typed, parameter_node, push_index};
+use fisca_ir::{
+    Chosen, Index, Moves, Node, Thing, Typed, copy_indices, parameter_node, push_index,
+};
 use fisca_model::ValueType;
 use fisca_params::{NodeId, NodeKind, ParamTree};
-use fisca_typing::{Level, Move};
+use fisca_typing::Level;
 use std::alloc::Global;
+use std::rc::Rc;
 
 /// What all of some nodes may be.
 #[derive(Clone, Copy, Debug, PartialEq, Eq)]
@@ -51,7 +54,12 @@ fn parameter_of(alloc: Global, value_type: ValueType, chosen: Chosen) -> Result<
     Ok(Thing::Value(Typed {
         value_type,
         level: chosen.level,
-        node: parameter_node(alloc, chosen.indices, chosen.places, chosen.moves)?,
+        node: parameter_node(
+            alloc,
+            chosen.indices,
+            chosen.places,
+            chosen.moves.to_vec(alloc)?,
+        )?,
     }))
 }
 
@@ -65,7 +73,7 @@ fn of_one_kind(alloc: Global, tree: &ParamTree, chosen: Chosen) -> Result<Thing,
     } else if are_all(tree, places, Wanted::Bools) {
         parameter_of(alloc, ValueType::Bool, chosen)
     } else if are_all(tree, places, Wanted::Nodes) {
-        Ok(Thing::Nodes(Box::new(alloc, chosen)?))
+        Ok(Thing::Nodes(Rc::new(alloc, chosen)?))
     } else {
         Err(FormulaKind::BadType)
     }
@@ -139,8 +147,8 @@ fn children_below(
 }
 
 /// `parameters(period)`: the root, at the start of a period.
-pub fn root_at(alloc: Global, tree: &ParamTree, moves: Vec<Move>) -> Result<Thing, FormulaKind>
-    ensures { Gives thing (spec.root_at tree.now moves.items) result }
+pub fn root_at(alloc: Global, tree: &ParamTree, moves: Moves) -> Result<Thing, FormulaKind>
+    ensures { Gives thing (spec.root_at tree.now moves) result }
 {
     let mut places = Vec::new(alloc);
     places.push(tree.root())?;
@@ -153,10 +161,10 @@ pub fn root_at(alloc: Global, tree: &ParamTree, moves: Vec<Move>) -> Result<Thin
     thing_chosen(alloc, tree, chosen)
 }
 
-/// The child of this name below a node alone, in the list that had the node; or `UnknownParameter`.
+/// The child of this name below a node alone, or `UnknownParameter`.
 fn child_alone(
+    alloc: Global,
     tree: &ParamTree,
-    mut places: Vec<NodeId>,
     place: NodeId,
     name: &[u8],
 ) -> Result<Vec<NodeId>, FormulaKind>
@@ -165,7 +173,7 @@ fn child_alone(
     let Some(child) = tree.child_by(place, name) else {
         return Err(FormulaKind::UnknownParameter);
     };
-    places.clear();
+    let mut places = Vec::new(alloc);
     places.push(child)?;
     Ok(places)
 }
@@ -174,16 +182,13 @@ fn child_alone(
 fn children_named_so(
     alloc: Global,
     tree: &ParamTree,
-    places: Vec<NodeId>,
+    places: &[NodeId],
     name: &[u8],
 ) -> Result<Vec<NodeId>, FormulaKind>
-    ensures { Gives (λ found. found.items) (spec.children_below tree.now places.items (name.now ∷ [])) result }
+    ensures { Gives (λ found. found.items) (spec.children_below tree.now places.now (name.now ∷ [])) result }
 {
-    match places.as_slice() {
-        [place] => {
-            let alone = *place;
-            child_alone(tree, places, alone, name)
-        }
+    match places {
+        [place] => child_alone(alloc, tree, *place, name),
         several => children_below(alloc, tree, several, &[name]),
     }
 }
@@ -193,23 +198,23 @@ pub fn node_attribute(
     alloc: Global,
     tree: &ParamTree,
     name: &[u8],
-    chosen: Chosen,
+    chosen: &Chosen,
 ) -> Result<Thing, FormulaKind>
-    ensures { Gives thing (spec.node_attribute tree.now name.now (chosen_of chosen)) result }
+    ensures { Gives thing (spec.node_attribute tree.now name.now (chosen_of chosen.now)) result }
 {
-    let places = children_named_so(alloc, tree, chosen.places, name)?;
+    let places = children_named_so(alloc, tree, chosen.places.as_slice(), name)?;
     let below = Chosen {
         level: chosen.level,
-        indices: chosen.indices,
+        indices: copy_indices(alloc, chosen.indices.as_slice())?,
         places,
-        moves: chosen.moves,
+        moves: chosen.moves.shared()?,
     };
     thing_chosen(alloc, tree, below)
 }
 
 /// `scale.calc`, or `BadType`.
-pub fn scale_attribute(name: &[u8], place: NodeId, moves: Vec<Move>) -> Result<Thing, FormulaKind>
-    ensures { Gives thing (spec.scale_attribute name.now place moves.items) result }
+pub fn scale_attribute(name: &[u8], place: NodeId, moves: Moves) -> Result<Thing, FormulaKind>
+    ensures { Gives thing (spec.scale_attribute name.now place moves) result }
 {
     if name == b"calc".as_slice() {
         Ok(Thing::Calculation(place, moves))
@@ -223,21 +228,21 @@ pub fn scale_attribute(name: &[u8], place: NodeId, moves: Vec<Move>) -> Result<T
 pub fn chosen_below(
     alloc: Global,
     tree: &ParamTree,
-    chosen: Chosen,
+    chosen: &Chosen,
     level: Level,
     member: Node,
     names: &[&[u8]],
 ) -> Result<Thing, FormulaKind>
-    ensures { Gives thing (chosen_by tree.now (chosen_of chosen) level (node member) (map (λ name. name.now) names.now)) result }
+    ensures { Gives thing (chosen_by tree.now (chosen_of chosen.now) level (node member) (map (λ name. name.now) names.now)) result }
 {
     let places = children_below(alloc, tree, chosen.places.as_slice(), names)?;
-    let mut indices = chosen.indices;
+    let mut indices = copy_indices(alloc, chosen.indices.as_slice())?;
     push_index(alloc, &mut indices, member, names.len())?;
     let below = Chosen {
         level,
         indices,
         places,
-        moves: chosen.moves,
+        moves: chosen.moves.shared()?,
     };
     thing_chosen(alloc, tree, below)
 }

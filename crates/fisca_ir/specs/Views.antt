@@ -93,7 +93,7 @@ abbrev pub typed : Typed → things.Typed
 typed t = record { value_type = t.value_type; level = t.level; node = node t.node }
 
 abbrev pub chosen : Chosen → things.Chosen
-chosen c = record { level = c.level; indices = indices c.indices.items; places = c.places.items; moves = c.moves.items }
+chosen c = record { level = c.level; indices = indices c.indices.items; places = c.places.items; moves = c.moves }
 
 abbrev pub relation : Relation → things.Relation
 relation r = record { whom = r.whom; entity = r.entity }
@@ -104,13 +104,13 @@ all_things (x ∷ xs) = things.more x (all_things xs)
 
 abbrev pub thing_step : Thing-F things.Thing → things.Thing
 thing_step (Thing-F.Value v) = things.value (typed v)
-thing_step (Thing-F.Period ms) = things.period ms.items
-thing_step (Thing-F.Start ms) = things.start ms.items
-thing_step (Thing-F.Offset ms) = things.offset ms.items
+thing_step (Thing-F.Period ms) = things.period ms
+thing_step (Thing-F.Start ms) = things.start ms
+thing_step (Thing-F.Offset ms) = things.offset ms
 thing_step Thing-F.Reader = things.reader
 thing_step (Thing-F.Nodes c) = things.nodes (chosen c.value)
-thing_step (Thing-F.Scale n ms) = things.scale n ms.items
-thing_step (Thing-F.Calculation n ms) = things.calculation n ms.items
+thing_step (Thing-F.Scale n ms) = things.scale n ms
+thing_step (Thing-F.Calculation n ms) = things.calculation n ms
 thing_step (Thing-F.Enumeration e) = things.enumeration e
 thing_step (Thing-F.Choices e) = things.choices e
 thing_step (Thing-F.Entity g) = things.entity g

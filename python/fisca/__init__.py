@@ -12,6 +12,7 @@ conditions are `bool`, and a member of an Enum is its name, a `str`. What the pr
 as a `FiscaError`.
 """
 from ._errors import Failed, FiscaError, NoValue, OutOfMemory, Refused
+from ._explaining import Step
 from ._lines import Amount, Situation
 from ._listing import Variable
 from ._rows import Row, Run, axes
@@ -31,6 +32,7 @@ __all__ = [
     "Rules",
     "Run",
     "Situation",
+    "Step",
     "Value",
     "Variable",
     "Verdict",

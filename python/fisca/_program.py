@@ -64,11 +64,13 @@ def standard_input(data: Optional[bytes]) -> Iterator[Union[int, IO[bytes]]]:
         yield file
 
 
-def output_of(words: Sequence[str], file: Optional[File] = None, good: Collection[int] = (0,)) -> str:
-    """What the program prints on these words, of which the first one is the program, and a file behind them.
+def output_of(
+    words: Sequence[str], file: Optional[File] = None, good: Collection[int] = (0,), behind: Sequence[str] = ()
+) -> str:
+    """What the program prints on these words, of which the first one is the program, a file and words behind it.
     FiscaError where its status is none of the good ones."""
     with standard_input(file and file.data) as source:
-        call = [*words, *([file.word] if file else [])]
+        call = [*words, *([file.word] if file else []), *behind]
         ran = subprocess.run(call, stdin=source, capture_output=True, check=False)
     if ran.returncode not in good:
         raise error_of(ran.stderr, ran.returncode, file and file.handed)

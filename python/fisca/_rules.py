@@ -4,9 +4,10 @@ from __future__ import annotations
 import operator
 import os
 import re
-from typing import TYPE_CHECKING, Any, Iterable, Iterator, List, NamedTuple, Optional, Tuple, Union
+from typing import TYPE_CHECKING, Any, Iterable, Iterator, List, NamedTuple, Optional, Sequence, Tuple, Union
 
 from ._errors import FiscaError
+from ._explaining import Step, step_of
 from ._lines import Amount, Population, Situation, amount_of, situations_of
 from ._listing import Variable, variable_of
 from ._program import PathLike, Said, file_of, lines_of, output_of, program_of
@@ -98,6 +99,20 @@ class Rules:
         """
         text = output_of(self._words("calc", "--format=jsonl", *places_of(decimals)), file_of(said))
         return [amount_of(line, decimals is not None)[1] for line in text.split("\n")[:-1]]
+
+    def explain(self, said: Said, columns: Sequence[str] = (), depth: Optional[int] = None) -> List[Step]:
+        """How the values of the columns of a file of `fisca calc` come about, or of other `columns`, as texts like
+        `rent@2025-03`: each value, and below it what its formula needed, in order.
+
+        With `depth` no further than so many values below one another. A column that cannot be worked out is no error:
+        its steps say why, and no other column comes behind it. ValueError for a depth below 0.
+        """
+        if depth is not None and depth < 0:
+            raise ValueError(f"a depth is 0 or more, and not {depth}")
+        levels = [] if depth is None else [f"--depth={operator.index(depth)}"]
+        words = self._words("explain", "--format=jsonl", *levels)
+        text = output_of(words, file_of(said), good=(0, 4), behind=columns)
+        return [step_of(line) for line in text.split("\n")[:-1]]
 
     def calc_lines(self, population: Population, decimals: Optional[int] = None) -> Iterator[Situation]:
         """The values of many situations, in their order, as they come: the rules are read once.

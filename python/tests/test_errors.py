@@ -162,7 +162,7 @@ def test_a_program_that_is_killed_or_ends_too_early(stand_in):
     with pytest.raises(fisca.FiscaError):
         next(run)
     hello = stand_in("echo hello")
-    for call in (hello.check, hello.list, lambda: hello.calc({}), lambda: hello.size(GRID), lambda: hello.run(GRID),
+    for call in (hello.check, hello.list, lambda: hello.calc({}), lambda: hello.explain({}), lambda: hello.size(GRID), lambda: hello.run(GRID),
                  lambda: list(hello.calc_lines([{}]))):
         with pytest.raises(fisca.FiscaError):
             call()

@@ -8,6 +8,8 @@ from conftest import ENTITIES, TOP
 
 import fisca
 
+FAMILY = TOP / "examples" / "housing" / "family.yaml"
+SCALE = "parameters/housing_benefit/income_reduction.yaml"
 STORED = sorted(TOP.glob("examples/*/*.stdout")) + sorted(TOP.glob("tests/rules/*/*.stdout"))
 
 
@@ -83,6 +85,26 @@ def test_list_of_texts_that_look_otherwise(small, tmp_path):
 def test_list_without_variables(tmp_path):
     (tmp_path / "entities.py").write_text(ENTITIES)
     assert fisca.Rules(tmp_path).list() == []
+
+
+def test_explain(housing):
+    column, income, allowance, scale = housing.explain(FAMILY, ["income_reduction"], depth=1)
+    assert (column.depth, column.kind, column.value, column.source, column.line) == (0, "key", 240, "formula", 43)
+    assert (income.depth, income.name, income.member, income.value) == (1, "household_income", "home", 2900)
+    assert (income.unit, income.label) == ("currency", "Salaries of all members of the household")
+    assert (allowance.kind, allowance.period, allowance.since) == ("parameter", "2025-03-01", "2025-01-01")
+    assert (scale.kind, scale.base, scale.value, scale.file) == ("scale", 900, 240, SCALE)
+    assert [it.value for it in housing.explain(FAMILY) if it.depth == 0] == [it.value for it in housing.calc(FAMILY)]
+
+
+def test_explain_up_to_a_fault(small):
+    said = {"period": "2025-01", "columns": ["share"], "input": {"persons": {"Ann": {"salary": 0}}}}
+    column, below = small.explain(said)
+    assert (column.value, column.fault, below.value, below.source) == (None, "ZeroDivisor", 0, "given")
+    with pytest.raises(fisca.Refused):
+        small.explain({}, ["none"])
+    with pytest.raises(ValueError):
+        small.explain({}, depth=-1)
 
 
 @pytest.mark.parametrize("stored", [it for it in STORED if it.stem in ("family", "calc")], ids=str)

@@ -100,7 +100,8 @@ fn run_task_of(rt: &HostRuntime, task: &Task<'_>) -> u8 {
         Task::Calc { rules, file, .. }
         | Task::Test { rules, file }
         | Task::Run { rules, file, .. }
-        | Task::Size { rules, file } => run_in(rt, task, rules, Some(*file)),
+        | Task::Size { rules, file }
+        | Task::Explain { rules, file, .. } => run_in(rt, task, rules, Some(*file)),
         Task::Axes { .. } => run_over(
             rt,
             task,

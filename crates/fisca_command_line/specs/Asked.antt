@@ -64,6 +64,14 @@ IsForm rows form =
     × ArePlaces (one_of (codes "decimals") rows) form.decimals
     × (form.format ≡ option_and_then format_of (first_of (codes "format") rows))
 
+-- the form of an explanation that a text names: that of lines, and none of a text for readers
+abbrev pub explain_format_of : Text → Option (Option Format)
+explain_format_of text = if bytes_eq text (codes "text") then Some None else (if bytes_eq text (codes "jsonl") then Some (Some Jsonl) else None)
+
+-- the form of an explanation that the options ask for
+abbrev pub explain_format_at : List Row → Option Format
+explain_format_at rows = option_and_then (λ found. found) (option_and_then explain_format_of (first_of (codes "format") rows))
+
 -- what the options of a run ask for
 abbrev pub AreOptions : List Row → RunOptions → Type 0
 AreOptions rows options =

@@ -34,6 +34,10 @@ axis_rule = record (required_rule (codes "AXIS")) { action = Some Append; range 
 abbrev pub reform_rule : Rule
 reform_rule = record (option_rule (codes "reform")) { action = Some Append }
 
+-- columns, or none
+abbrev pub column_rule : Rule
+column_rule = record (new_rule (codes "COLUMN")) { action = Some Append; range = Some (record { start_inclusive = 0; end_inclusive = usize_max }) }
+
 -- the options of a range and its lines: [--from P] [--to P] [--part I/N] [--rows N]
 abbrev pub with_range : App → App
 with_range app = with_rule (with_rule (with_rule (with_rule app (number_rule (codes "from"))) (number_rule (codes "to"))) (option_rule (codes "part"))) (number_rule (codes "rows"))
@@ -78,11 +82,16 @@ size_app = with_files (codes "FILE") (new_app (codes "size"))
 abbrev pub list_app : App
 list_app = with_table (with_rule (with_rule (new_app (codes "list")) (required_rule (codes "RULES"))) reform_rule)
 
+-- RULES FILE COLUMN.. [--reform DIR].., [--depth N] and [--format FORM]
+abbrev pub explain_app : App
+explain_app =
+    with_rule (with_rule (with_rule (with_files (codes "FILE") (new_app (codes "explain"))) column_rule) (number_rule (codes "depth"))) (option_rule (codes "format"))
+
 -- the program without its commands
 abbrev pub top_app : App
 top_app = on_top (λ s. record s { has_version = true; subcommand_required = true; arg_required_else_help = true }) (new_app (codes "fisca"))
 
--- the program: `check`, `calc`, `test`, `run`, `size`, `list` or `axes`
+-- the program: `check`, `calc`, `test`, `run`, `size`, `list`, `explain` or `axes`
 abbrev pub fisca_app : App
 fisca_app =
-    with_subcommand (with_subcommand (with_subcommand (with_subcommand (with_subcommand (with_subcommand (with_subcommand top_app check_app.top) calc_app.top) test_app.top) run_app.top) size_app.top) list_app.top) axes_app.top
+    with_subcommand (with_subcommand (with_subcommand (with_subcommand (with_subcommand (with_subcommand (with_subcommand (with_subcommand top_app check_app.top) calc_app.top) test_app.top) run_app.top) size_app.top) list_app.top) explain_app.top) axes_app.top

@@ -1,9 +1,9 @@
 -- The work that the words of a command line ask for.
 use Rattle.std.specs.Prelude.{◌≡◌, ◌⊎◌, true, false, List, map, codes, Option, Some, None, option_map, string_bytes}
-use Rattle.clap.specs.Walk.{Row, Text, first_of}
+use Rattle.clap.specs.Walk.{Row, Text, first_of, one_of}
 use Rattle.fisca_command_line.specs.declared.task.Task.{Task}
 use Rattle.fisca_command_line.specs.declared.task.Task.TheVariants as task
-use Rattle.fisca_command_line.specs.Asked.{text_of, texts_of, is_set, AreOptions, IsForm}
+use Rattle.fisca_command_line.specs.Asked.{explain_format_at, text_of, texts_of, is_set, AreOptions, IsForm, IsOptionalNumber}
 use Rattle.fisca_command_line.specs.declared.task.LinesTask.{LinesTask}
 use Rattle.fisca_command_line.specs.declared.task.RuleFolders.{RuleFolders}
 use Rattle.fisca_command_line.specs.declared.task.Work.{Work}
@@ -52,6 +52,16 @@ abbrev pub IsListTask : List Row → Task → Type 0
 IsListTask rows (task.List rules form) = AreFolders rows rules × IsForm rows form
 IsListTask rows _ = ⊥
 
+-- the task that the matches of `explain` say
+abbrev pub IsExplainTask : List Row → Task → Type 0
+IsExplainTask rows (task.Explain rules file columns depth format) =
+    AreFolders rows rules
+    × (file.now ≡ text_of (codes "FILE") rows)
+    × (map (λ column. string_bytes column) columns.items ≡ texts_of (codes "COLUMN") rows)
+    × IsOptionalNumber (one_of (codes "depth") rows) depth
+    × (format ≡ explain_format_at rows)
+IsExplainTask rows _ = ⊥
+
 -- the task over lines that the matches of `calc` say
 abbrev pub IsLinesTask : List Row → LinesTask → Type 0
 IsLinesTask rows task = AreFolders rows task.rules × (task.file.now ≡ text_of (codes "FILE") rows) × IsForm rows task.form
@@ -75,4 +85,5 @@ IsWorkOf (Some command) w =
     ⊎ (((command.0 ≡ codes "test") × IsTask (IsTestTask command.1) w)
     ⊎ (((command.0 ≡ codes "run") × IsTask (IsRunTask command.1) w)
     ⊎ (((command.0 ≡ codes "size") × IsTask (IsSizeTask command.1) w)
-    ⊎ (((command.0 ≡ codes "list") × IsTask (IsListTask command.1) w) ⊎ ((command.0 ≡ codes "axes") × IsTask (IsAxesTask command.1) w))))))
+    ⊎ (((command.0 ≡ codes "list") × IsTask (IsListTask command.1) w)
+    ⊎ (((command.0 ≡ codes "explain") × IsTask (IsExplainTask command.1) w) ⊎ ((command.0 ≡ codes "axes") × IsTask (IsAxesTask command.1) w)))))))

@@ -230,6 +230,56 @@ Exit status:
   5  a file could not be read, or the output could not be written
   6  out of memory";
 
+pub const EXPLAIN_ABOUT: &str = "Tell how values come about";
+
+pub const EXPLAIN_LONG: &str =
+    "Tell how the values of columns come about, one line for each variable, member and period.
+
+It reads the rule files and the file as 'fisca calc' does, and explains each column of the file, or
+those that are named, one after another. A line tells the value and what it comes from: an input, a
+default, or the formula in force with its file and line. Below it, two spaces further in, stands
+what that formula needed, in order: the values that it asked for, and the parameters and scales
+that it read, with the day, the value, and where that stands. What was explained further up says
+'above'. A value that cannot be worked out is explained up to its fault, which is told as by
+'fisca calc'.";
+
+pub const EXPLAIN_EXAMPLE: &str = "Example:
+  fisca explain examples/housing examples/housing/family.yaml housing_benefit";
+
+pub const EXPLAIN_MORE: &str = "Example:
+  fisca explain examples/housing examples/housing/family.yaml housing_benefit
+
+FAULT is a word: see 'fisca calc --help'; BadWord, with no path, where COLUMN names no value
+
+Exit status:
+  0  done
+  2  the command line is wrong
+  3  a rule file, the file or a column is refused
+  4  a value cannot be worked out
+  5  a file could not be read, or the output could not be written
+  6  out of memory";
+
+pub const COLUMN_HELP: &str = "What is explained, in place of the columns of the file";
+
+pub const COLUMN_LONG: &str = "What is explained, in place of the columns of the file
+
+NAME, NAME#INDEX, NAME@PERIOD or NAME#INDEX@PERIOD, as in the file: the variable, the place of the
+member from 0 on, and the period, which is that of the file without one.";
+
+pub const DEPTH_HELP: &str = "Explain no further than N values below one another";
+
+pub const DEPTH_LONG: &str = "Explain no further than N values below one another
+
+With 0 the columns alone are told, with 1 what their formulas needed, and so on.";
+
+pub const EXPLAIN_FORMAT_HELP: &str = "Write text or jsonl [default: text]";
+
+pub const EXPLAIN_FORMAT_LONG: &str = "Write text or jsonl [default: text]
+
+text   for readers
+jsonl  an object of JSON in each line, with the keys depth, kind (key, parameter or scale), name,
+       member, period, base, value, fault, source, since, file, line, unit, label and reference";
+
 pub const TESTS_HELP: &str = "The file of the tests, or - for standard input";
 
 pub const RUN_FILE_HELP: &str =

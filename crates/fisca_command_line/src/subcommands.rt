@@ -3,18 +3,20 @@
 ghost use Rattle.std.specs.Prelude.{◌≡◌, false, IfOk, codes};
 ghost use Rattle.clap.specs.declared.builder.command.Command.TheViews.{out-Command};
 ghost use Rattle.clap.specs.Simple.{app_of, new_app};
-ghost use Rattle.fisca_command_line.specs.CommandLine.{axes_app, calc_app, check_app, fisca_app, list_app, run_app, size_app, test_app, top_app};
+ghost use Rattle.fisca_command_line.specs.CommandLine.{axes_app, calc_app, check_app, explain_app, fisca_app, list_app, run_app, size_app, test_app, top_app};
 
 use crate::arguments::{
-    axis_argument, keep_going_option, keep_option, lines_option, reform_option, required,
-    with_files, with_form, with_range, with_table,
+    axis_argument, column_argument, depth_option, explain_format_option, keep_going_option,
+    keep_option, lines_option, reform_option, required, with_files, with_form, with_range,
+    with_table,
 };
 use crate::help::{
     ABOUT, AXES_ABOUT, AXES_EXAMPLE, AXES_EXAMPLES, AXES_LONG, CALC_ABOUT, CALC_EXAMPLE, CALC_LONG,
-    CALC_MORE, CHECK_ABOUT, CHECK_EXAMPLE, CHECK_LONG, CHECK_MORE, FILE_HELP, LIST_ABOUT,
-    LIST_EXAMPLE, LIST_LONG, LIST_MORE, RULES_HELP, RUN_ABOUT, RUN_EXAMPLE, RUN_FILE_HELP,
-    RUN_LONG, RUN_MORE, SIZE_ABOUT, SIZE_EXAMPLE, SIZE_LONG, SIZE_MORE, STATUSES, TEST_ABOUT,
-    TEST_EXAMPLE, TEST_LONG, TEST_MORE, TESTS_HELP,
+    CALC_MORE, CHECK_ABOUT, CHECK_EXAMPLE, CHECK_LONG, CHECK_MORE, EXPLAIN_ABOUT, EXPLAIN_EXAMPLE,
+    EXPLAIN_LONG, EXPLAIN_MORE, FILE_HELP, LIST_ABOUT, LIST_EXAMPLE, LIST_LONG, LIST_MORE,
+    RULES_HELP, RUN_ABOUT, RUN_EXAMPLE, RUN_FILE_HELP, RUN_LONG, RUN_MORE, SIZE_ABOUT,
+    SIZE_EXAMPLE, SIZE_LONG, SIZE_MORE, STATUSES, TEST_ABOUT, TEST_EXAMPLE, TEST_LONG, TEST_MORE,
+    TESTS_HELP,
 };
 use clap::Command;
 use std::alloc::{AllocError, Global};
@@ -171,6 +173,30 @@ pub fn list_command<'a>(alloc: Global) -> Result<Command<'a>, AllocError>
     with_table(alloc, list_page(alloc).arg(rules)?.arg(reform)?)
 }
 
+/// The command `explain` with its help, and no arguments yet.
+fn explain_page<'a>(alloc: Global) -> Command<'a>
+    ensures app { app_of result ≡ new_app (codes "explain") }
+    ensures local { (out-Command result).has_globals ≡ false }
+{
+    Command::new(alloc, "explain")
+        .about(EXPLAIN_ABOUT)
+        .long_about(EXPLAIN_LONG)
+        .after_help(EXPLAIN_EXAMPLE)
+        .after_long_help(EXPLAIN_MORE)
+}
+
+/// The command `explain`.
+pub fn explain_command<'a>(alloc: Global) -> Result<Command<'a>, AllocError>
+    ensures app { IfOk result (λ command. app_of command ≡ explain_app) }
+    ensures local { IfOk result (λ command. (out-Command command).has_globals ≡ false) }
+{
+    let columns = column_argument(alloc);
+    let depth = depth_option(alloc);
+    let format = explain_format_option(alloc);
+    let command = with_files(alloc, explain_page(alloc), "FILE", FILE_HELP)?;
+    command.arg(columns)?.arg(depth)?.arg(format)
+}
+
 /// The program with its help, and no commands yet.
 fn program_page<'a>(alloc: Global) -> Command<'a>
     ensures app { app_of result ≡ top_app }
@@ -195,6 +221,7 @@ pub fn command<'a>(alloc: Global) -> Result<Command<'a>, AllocError>
     let run = run_command(alloc)?;
     let size = size_command(alloc)?;
     let list = list_command(alloc)?;
+    let explain = explain_command(alloc)?;
     let axes = axes_command(alloc)?;
     program_page(alloc)
         .subcommand(check)?
@@ -203,5 +230,6 @@ pub fn command<'a>(alloc: Global) -> Result<Command<'a>, AllocError>
         .subcommand(run)?
         .subcommand(size)?
         .subcommand(list)?
+        .subcommand(explain)?
         .subcommand(axes)
 }

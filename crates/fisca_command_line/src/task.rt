@@ -6,13 +6,19 @@ ghost use Rattle.clap.specs.Walk.{rows_of};
 ghost use Rattle.clap.specs.Simple.{subcommand_of};
 ghost use Rattle.clap.specs.Kinds.{FailsBy};
 ghost use Rattle.fisca_command_line.specs.CommandLine.{fisca_app};
-ghost use Rattle.fisca_command_line.specs.Misuse.{misuse_kinds, options_misuse, usage_fault};
-ghost use Rattle.fisca_command_line.specs.Work.{AreFolders, IsAxesTask, IsCalcTask, IsCalcWork, IsCheckTask, IsLinesTask, IsListTask, IsRunTask, IsSizeTask, IsTask, IsTestTask, IsWorkOf};
+ghost use Rattle.fisca_command_line.specs.Misuse.{explain_misuse, misuse_kinds, options_misuse, usage_fault};
+ghost use Rattle.fisca_command_line.specs.Work.{AreFolders, IsAxesTask, IsCalcTask, IsCalcWork, IsCheckTask, IsExplainTask, IsLinesTask, IsListTask, IsRunTask, IsSizeTask, IsTask, IsTestTask, IsWorkOf};
 
-use crate::asked::{flag, form_in, misuse_in, options, text_at, text_in};
+use crate::asked::{
+    depth_in, explain_format_in, explain_misuse_in, flag, form_in, misuse_in, options, text_at,
+    text_in,
+};
 use crate::options::{RunOptions, TableForm};
-use crate::subcommands::{axes_command, calc_command, command, list_command, run_command};
+use crate::subcommands::{
+    axes_command, calc_command, command, explain_command, list_command, run_command,
+};
 use clap::{ArgMatches, Error};
+use fisca_forms::Format;
 use std::alloc::{AllocError, Global};
 
 /// What a command line asks for.
@@ -48,6 +54,14 @@ pub enum Task<'a> {
     List {
         rules: RuleFolders<'a>,
         form: TableForm,
+    },
+    /// `explain`: tell how the values of columns of a file come about under the rule files of folders.
+    Explain {
+        rules: RuleFolders<'a>,
+        file: &'a str,
+        columns: Vec<String>,
+        depth: Option<u64>,
+        format: Option<Format>,
     },
     /// `axes`: list the values of axes.
     Axes {
@@ -178,6 +192,20 @@ fn list_task<'a>(alloc: Global, matches: &ArgMatches<'a>) -> Result<Task<'a>, Al
     })
 }
 
+/// The task of `explain`.
+fn explain_task<'a>(alloc: Global, matches: &ArgMatches<'a>) -> Result<Task<'a>, AllocError>
+    ensures { IfOk result (λ task. IsExplainTask (rows_of (found_of matches.now)) task) }
+{
+    let (rules, file) = (folders(alloc, matches)?, text_at(matches, "FILE"));
+    Ok(Task::Explain {
+        rules,
+        file,
+        columns: copies(alloc, matches.get_strs("COLUMN").unwrap_or(&[]))?,
+        depth: depth_in(matches),
+        format: explain_format_in(matches),
+    })
+}
+
 /// The task over lines of `calc`.
 fn lines_task<'a>(alloc: Global, matches: &ArgMatches<'a>) -> Result<LinesTask<'a>, AllocError>
     ensures { IfOk result (λ task. IsLinesTask (rows_of (found_of matches.now)) task) }
@@ -234,6 +262,17 @@ fn used_list<'a>(alloc: Global, matches: &ArgMatches<'a>) -> Result<Work<'a>, Er
     }
 }
 
+/// The task of `explain`, or why its options mean nothing.
+fn used_explain<'a>(alloc: Global, matches: &ArgMatches<'a>) -> Result<Work<'a>, Error>
+    ensures work { IfOk result (IsTask (IsExplainTask (rows_of (found_of matches.now)))) }
+    ensures fault { FailsBy (misuse_kinds (explain_misuse (rows_of (found_of matches.now)))) result }
+{
+    match explain_misuse_in(matches) {
+        Some(misuse) => Err(misuse.error(explain_command(alloc)?, "fisca explain")),
+        None => Ok(Work::Task(explain_task(alloc, matches)?)),
+    }
+}
+
 /// The task of `axes`, or why its options mean nothing.
 fn used_axes<'a>(alloc: Global, matches: &ArgMatches<'a>) -> Result<Work<'a>, Error>
     ensures work { IfOk result (IsTask (IsAxesTask (rows_of (found_of matches.now)))) }
@@ -262,6 +301,7 @@ pub fn read_task<'a>(alloc: Global, words: &'a [String]) -> Result<Work<'a>, Err
         Some(("run", inner)) => used_run(alloc, inner),
         Some(("size", inner)) => Ok(Work::Task(size_task(alloc, inner)?)),
         Some(("list", inner)) => used_list(alloc, inner),
+        Some(("explain", inner)) => used_explain(alloc, inner),
         Some(("axes", inner)) => used_axes(alloc, inner),
         Some(_) => unreachable!(),
         None => unreachable!(),

@@ -12,6 +12,7 @@ use Rattle.fisca_command_line.specs.declared.task.Task.{Task}
 use Rattle.fisca_command_line.specs.declared.task.Task.TheVariants as task
 use Rattle.fisca_commands.specs.AxesRun.{IsAxesAnswer}
 use Rattle.fisca_commands.specs.Calc.{IsCalc}
+use Rattle.fisca_commands.specs.Explain.{IsExplain}
 use Rattle.fisca_rule_files.specs.Check.{IsCheck}
 use Rattle.fisca_commands.specs.Forms.{is_table}
 use Rattle.fisca_writer.specs.LastLine.{last_line}
@@ -19,6 +20,7 @@ use Rattle.fisca_commands.specs.Listed.{IsList}
 use Rattle.fisca_commands.specs.Run.{IsCounted, IsRunAnswer}
 use Rattle.fisca_commands.specs.Size.{IsSize}
 use Rattle.fisca_command_line.specs.declared.options.RunOptions.{RunOptions}
+use Rattle.fisca_forms.specs.declared.form.Format.{Format}
 use Rattle.fisca_command_line.specs.declared.options.TableForm.{TableForm}
 use Rattle.fisca_commands.specs.Test.{IsTest}
 use Rattle.fisca_test_file.specs.declared.all.Verdict.{Verdict}
@@ -71,6 +73,11 @@ IsSizeEnding files paths text old new outcome = (answer : Result Unit Refusal) �
 abbrev pub IsListEnding : List Source → PathsTold → TableForm → Option (List ℕ) → Option (List ℕ) → TaskOutcome → Type 0
 IsListEnding files paths form old new outcome = (answer : Result Unit Refusal) × IsList files form old new answer × IsAnswered paths answer outcome
 
+-- how `explain` ends over a file
+abbrev pub IsExplainEnding : List Source → PathsTold → List ℕ → List (List ℕ) → Option ℕ → Option Format → Option (List ℕ) → Option (List ℕ) → TaskOutcome → Type 0
+IsExplainEnding files paths text columns depth format old new outcome =
+    (answer : Result Unit Refusal) × IsExplain files text columns depth format old new answer × IsAnswered paths answer outcome
+
 -- tests that were all worked out are judged, or the refusal is told
 abbrev pub IsJudged : PathsTold → Result Verdict Refusal → TaskOutcome → Type 0
 IsJudged paths (Ok verdict) outcome = outcome ≡ judged verdict
@@ -88,4 +95,6 @@ IsTaskEnding (task.Test rules file) files told text old new outcome = IsTestEndi
 IsTaskEnding (task.Run rules file options) files told text old new outcome = IsGridEnding files (paths_of file.now told) text options old new outcome
 IsTaskEnding (task.Size rules file) files told text old new outcome = IsSizeEnding files (paths_of file.now told) text old new outcome
 IsTaskEnding (task.List rules form) files told text old new outcome = IsListEnding files (paths_of [] told) form old new outcome
+IsTaskEnding (task.Explain rules file columns depth format) files told text old new outcome =
+    IsExplainEnding files (paths_of file.now told) text (map (λ column. string_bytes column) columns.items) depth format old new outcome
 IsTaskEnding (task.Axes words keep options) files told text old new outcome = IsAxesEnding (map (λ word. string_bytes word) words.items) (option_map (λ text. text.now) keep) options old new outcome

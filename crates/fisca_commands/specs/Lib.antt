@@ -4,6 +4,7 @@ pub mod Calc
 pub mod CalcLines
 pub mod Ending
 pub mod Ends
+pub mod Explain
 pub mod Forms
 pub mod Headline
 pub mod Kept

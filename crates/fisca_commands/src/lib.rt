@@ -4,6 +4,7 @@
 mod axes;
 mod beginning;
 mod calc;
+mod explain;
 mod file_laws;
 mod forms;
 mod grid_run;
@@ -24,6 +25,7 @@ mod unanswered;
 pub use axes::axes_words;
 pub use beginning::evaluator_of;
 pub use calc::calc_rules;
+pub use explain::{ExplainOptions, explain_rules};
 pub use file_laws::calc_inputs_fit;
 pub use fisca_command_line::{RunOptions, TableForm, Task};
 pub use fisca_rows::{Asked, RowStyle, all_met, meets, write_row};

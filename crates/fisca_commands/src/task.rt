@@ -2,13 +2,14 @@
 
 ghost use Rattle.std.specs.Prelude.{◌≡◌, [], ◌==◌, ◌&&◌, is_ok, map, option_map, string_bytes};
 ghost use Rattle.fisca_writer.specs.Sink.{CountsFailure};
-ghost use Rattle.fisca_commands.specs.Ending.{IsAnswered, IsAxesEnding, IsCalcEnding, IsCheckEnding, IsGridEnding, IsJudged, IsListEnding, IsRunEnding, IsSizeEnding, IsTaskEnding, IsTestEnding};
+ghost use Rattle.fisca_commands.specs.Ending.{IsAnswered, IsAxesEnding, IsCalcEnding, IsCheckEnding, IsExplainEnding, IsGridEnding, IsJudged, IsListEnding, IsRunEnding, IsSizeEnding, IsTaskEnding, IsTestEnding};
 ghost use Rattle.fisca_commands.specs.Ends.{end_of};
 ghost use Rattle.fisca_commands.specs.Forms.{is_table};
 ghost use Rattle.fisca_rule_files.specs.Refusal.{paths_of};
 
 use super::axes::axes_words;
 use super::calc::calc_rules;
+use super::explain::{ExplainOptions, explain_rules};
 use super::forms::is_table;
 use super::list::list_rules;
 use super::run::run_rules;
@@ -37,6 +38,7 @@ use std::alloc::Global;
 ///   the path of its file.
 /// - `size`: what [`size_rules`] writes of the files and the text. A refusal of the text is told with the path of its file.
 /// - `list`: what [`list_rules`] writes of the files.
+/// - `explain`: what [`explain_rules`] writes of the files and the text. A refusal of the text is told with the path of its file.
 /// - `axes`: the lines of [`axes_words`], and after a run that nothing stopped its last line, as by [`write_end`].
 ///
 /// A refusal ends with its own status and line, and one whose line finds no memory with those for want of memory, but a
@@ -67,6 +69,20 @@ pub fn run_task<S: RowSink>(
         } => run_file(alloc, files, told_paths, file, text, options, sink),
         Task::Size { rules: _, file } => run_size(alloc, files, told_paths, file, text, sink),
         Task::List { rules: _, form } => run_list(alloc, files, told_paths, *form, sink),
+        Task::Explain {
+            rules: _,
+            file,
+            columns,
+            depth,
+            format,
+        } => {
+            let options = ExplainOptions {
+                columns: columns.as_slice(),
+                depth: *depth,
+                format: *format,
+            };
+            run_explain(alloc, files, told_paths, file, text, &options, sink)
+        }
         Task::Axes {
             words,
             keep,
@@ -200,6 +216,23 @@ fn run_list<S: RowSink>(
 {
     let answer = list_rules(alloc, files, form, sink);
     ending_of(alloc, answer, "", told_paths)
+}
+
+/// Explains columns of a file of this path and this text, and answers how that ended.
+fn run_explain<S: RowSink>(
+    alloc: Global,
+    files: &[SourceFile],
+    told_paths: &[ToldPath],
+    path: &str,
+    text: &str,
+    options: &ExplainOptions<'_>,
+    sink: &mut S,
+) -> Ending
+    ensures ending { IsExplainEnding files.now (paths_of path.now told_paths.now) text.now (map (λ word. string_bytes word) options.now.columns.now) options.now.depth options.now.format (S.taken sink.old) (S.taken sink.new) result }
+    ensures failures { CountsFailure (result.status == 5) (S.failures sink.old) (S.failures sink.new) }
+{
+    let answer = explain_rules(alloc, files, text, options, sink);
+    ending_of(alloc, answer, path, told_paths)
 }
 
 /// How a run ends, without its counts.

@@ -1,0 +1,66 @@
+-- What `fisca explain` answers and writes.
+use Rattle.std.specs.Prelude.{◌≡◌, ◌⊎◌, ℕ, List, [], ◌∷◌, map, Option, Some, None, Result, Ok, Err}
+use Rattle.std.specs.Io.KnownBytes.{Keeps}
+use Rattle.fisca_columns.specs.Columns.{column_of}
+use Rattle.fisca_columns.specs.Steps.Calc.{default_in}
+use Rattle.fisca_explain.specs.Columns.{Explaining, IsExplained}
+use Rattle.fisca_explain.specs.LineTexts.{explain_names}
+use Rattle.fisca_explain.specs.declared.explain.ExplainFault.{ExplainFault}
+use Rattle.fisca_explain.specs.declared.explain.ExplainFault.TheVariants as end
+use Rattle.fisca_forms.specs.LineForms.{Form}
+use Rattle.fisca_forms.specs.declared.form.Format.{Format}
+use Rattle.fisca_model.specs.Seen.{key_seen}
+use Rattle.fisca_model.specs.declared.key.Key.{Key}
+use Rattle.fisca_params.specs.Source.{Source}
+use Rattle.fisca_rule_files.specs.declared.refusal.Refusal.{Refusal}
+use Rattle.fisca_rule_files.specs.declared.refusal.Refusal.TheVariants.{BadWord, Memory, Write}
+use Rattle.fisca_symbols.specs.Known.{tables as known}
+use Rattle.fisca_time.specs.Period.{Span}
+use Rattle.fisca_yaml.specs.Grouping.{document}
+use Rattle.fisca_yaml.specs.Node.{Node}
+use Rattle.fisca_commands.specs.Calc.{Calculation, IsCalculation, IsKeyTold, RefusesCalculation, simulation_of}
+
+-- the keys that words name, if each names one
+abbrev pub keys_named : (List ℕ → Option Key) → List (List ℕ) → Option (List Key)
+keys_named key_of [] = Some []
+keys_named key_of (word ∷ words) = joined (key_of word) (keys_named key_of words)
+  where
+    joined : Option Key → Option (List Key) → Option (List Key)
+    joined None keys = None
+    joined (Some key) None = None
+    joined (Some key) (Some keys) = Some (key ∷ keys)
+
+-- the columns of the file, or those that words name
+abbrev pub chosen : Calculation → Option Span → List (List ℕ) → Option (List Key)
+chosen c default [] = Some c.asked.columns
+chosen c default (word ∷ words) = keys_named (column_of (known c.rules.tables) c.asked.situation.members default) (word ∷ words)
+
+-- the form of lines that is asked for; without one they are texts for readers
+abbrev pub form_in : Option Format → Option Form
+form_in None = None
+form_in (Some format) = Some (record { format = format; decimals = None; names = explain_names })
+
+-- what is explained
+abbrev pub explaining : Calculation → Option ℕ → Option Format → Explaining
+explaining c depth format = record { tables = known c.rules.tables; simulation = simulation_of c; depth = depth; form = form_in format }
+
+-- how the lines end
+abbrev pub IsEndOf : Calculation → Result Unit ExplainFault → Result Unit Refusal → Type 0
+IsEndOf c (Ok done) answer = answer ≡ Ok done
+IsEndOf c (Err (end.Eval fault)) answer = (refusal : Refusal) × (answer ≡ Err refusal) × IsKeyTold c.rules c.asked.situation.members fault refusal
+IsEndOf c (Err end.Write) answer = answer ≡ Err Write
+IsEndOf c (Err end.Memory) answer = answer ≡ Err Memory
+
+-- a word names no column, or the columns are explained; or memory was refused before
+abbrev pub IsExplainedBy : Calculation → Option (List Key) → Option ℕ → Option Format → Option (List ℕ) → Option (List ℕ) → Result Unit Refusal → Type 0
+IsExplainedBy c None depth format old new answer = (answer ≡ Err BadWord) × Keeps old new
+IsExplainedBy c (Some keys) depth format old new answer =
+    (told : Result Unit ExplainFault) × IsExplained (explaining c depth format) (map key_seen keys) old new told × IsEndOf c told answer
+
+-- what `explain` answers for these files and this text, and what a sink that held `old` then holds: they are refused and nothing is written, or the columns are
+-- explained in order, up to the first that has no value
+abbrev pub IsExplain : List Source → List ℕ → List (List ℕ) → Option ℕ → Option Format → Option (List ℕ) → Option (List ℕ) → Result Unit Refusal → Type 0
+IsExplain files text words depth format old new answer =
+    ((refusal : Refusal) × (answer ≡ Err refusal) × RefusesCalculation files text refusal × Keeps old new)
+    ⊎ ((c : Calculation) × (n : Node) × IsCalculation files text c × (document text ≡ Some n)
+    × (((answer ≡ Err Memory) × Keeps old new) ⊎ IsExplainedBy c (chosen c (default_in n) words) depth format old new answer))

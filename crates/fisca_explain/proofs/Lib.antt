@@ -1,0 +1,7 @@
+mod Dates
+pub mod ToldKeys
+pub mod FromMemory
+pub mod Having
+pub mod Moving
+pub mod Telling
+pub mod Written

@@ -1,0 +1,17 @@
+-- Why lines end: whether the sink failed.
+use Rattle.std.specs.Prelude.{Bool, true, false, Result, Ok, Err}
+use Rattle.fisca_explain.specs.declared.explain.ExplainFault.{ExplainFault}
+use Rattle.fisca_explain.specs.declared.explain.ExplainFault.TheVariants as end
+use Rattle.fisca_explain.specs.declared.walk.LinesFault.{LinesFault}
+use Rattle.fisca_explain.specs.declared.walk.LinesFault.TheVariants as lines
+
+abbrev pub is_write : {X : Type 0} → Result X LinesFault → Bool
+is_write (Ok x) = false
+is_write (Err lines.Write) = true
+is_write (Err lines.Memory) = false
+
+abbrev pub is_failed_write : {X : Type 0} → Result X ExplainFault → Bool
+is_failed_write (Ok x) = false
+is_failed_write (Err (end.Eval fault)) = false
+is_failed_write (Err end.Write) = true
+is_failed_write (Err end.Memory) = false

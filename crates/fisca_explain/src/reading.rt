@@ -1,0 +1,161 @@
+//! The line of a parameter or a scale that a formula read.
+
+ghost use Rattle.std.specs.Prelude.{◌≡◌, [], IfOk, OnOk, string_bytes};
+ghost use Rattle.fisca_explain.specs.Explained.{of_reading};
+ghost use Rattle.fisca_explain.specs.Lines.{KeepsReading};
+ghost use Rattle.fisca_explain.specs.Says.{Names, Says};
+
+use crate::line::{Kind, Line, Source};
+use crate::parameter_files::{ParameterPlace, in_force};
+use crate::texts::write_date;
+use crate::view::View;
+use fisca_folder::write_shown;
+use fisca_following::Reading;
+use fisca_model::Value;
+use fisca_ops::{OperationFault, parameter_at, scale_sum_at};
+use fisca_time::Instant;
+use fisca_yaml::Tree;
+use std::alloc::AllocError;
+
+/// The text of a scalar, of the first item of a list, or of what is in force on a day in a map of days.
+fn text_on<'t>(tree: &'t Tree<'_>, day: Instant) -> Option<&'t str> {
+    match tree {
+        Tree::Null => None,
+        Tree::Scalar { text, .. } => Some(text.as_str()),
+        Tree::List(items) => items.first()?.value.as_text(),
+        Tree::Map(_) => match &in_force(tree, day)?.entry.value {
+            Tree::List(items) => items.first()?.value.as_text(),
+            found => found.as_text(),
+        },
+    }
+}
+
+/// What a node says under a key, or in its metadata.
+fn said_of<'t>(tree: &'t Tree<'_>, name: &str, day: Instant) -> Option<&'t str> {
+    let found = match tree.get(name) {
+        Some(found) => found,
+        None => tree.get("metadata")?.get(name)?,
+    };
+    text_on(found, day)
+}
+
+/// Appends a text, if there is one.
+fn write_said(said: Option<&str>, text: &mut String) -> Result<(), AllocError> {
+    match said {
+        Some(said) => write_shown(said, text),
+        None => Ok(()),
+    }
+}
+
+/// Puts the value in force, and where it stands.
+fn put_value(
+    view: &View<'_, '_, '_, '_>,
+    place: &ParameterPlace<'_, '_>,
+    day: Instant,
+    line: &mut Line,
+) -> Result<(), AllocError>
+    ensures { OnOk result (KeepsReading line.old line.new) }
+{
+    let Some(found) = in_force(place.tree, day) else {
+        return Ok(());
+    };
+    line.line = Some(found.entry.line);
+    write_date(view.alloc, found.since, &mut line.since)?;
+    write_said(
+        said_of(&found.entry.value, "reference", day),
+        &mut line.reference,
+    )
+}
+
+/// Puts where a parameter or a scale stands, and what is told of it.
+fn put_place(
+    view: &View<'_, '_, '_, '_>,
+    place: &ParameterPlace<'_, '_>,
+    day: Instant,
+    line: &mut Line,
+) -> Result<(), AllocError>
+    ensures { OnOk result (KeepsReading line.old line.new) }
+{
+    write_shown(place.path.as_str(), &mut line.name)?;
+    write_shown(place.file, &mut line.file)?;
+    line.line = Some(place.line);
+    if line.kind == Kind::Parameter {
+        put_value(view, place, day, line)?;
+    }
+    write_said(said_of(place.tree, "unit", day), &mut line.unit)?;
+    write_said(said_of(place.tree, "description", day), &mut line.label)?;
+    if line.reference.is_empty() {
+        write_said(said_of(place.tree, "reference", day), &mut line.reference)?;
+    }
+    Ok(())
+}
+
+/// The word of a fault of a parameter or a scale.
+fn fault_name(fault: OperationFault) -> &'static str {
+    match fault {
+        OperationFault::TooWide => "TooWide",
+        OperationFault::BadScale => "BadScale",
+        OperationFault::ZeroDivisor => "ZeroDivisor",
+        _ => "ParameterUndefined",
+    }
+}
+
+/// Puts the value that was read, or why there is none.
+fn put_answer(answer: Result<Value, OperationFault>, line: &mut Line) -> Result<(), AllocError>
+    ensures { OnOk result (KeepsReading line.old line.new) }
+{
+    match answer {
+        Ok(Value::Number(number)) => {
+            number.write_text(&mut line.value)?;
+            line.is_bare = !line.value.as_bytes().contains(&b'/');
+        }
+        Ok(Value::Bool(truth)) => {
+            line.value.push_str(if truth { "true" } else { "false" })?;
+            line.is_bare = true;
+        }
+        Ok(Value::Member(_)) => {}
+        Err(fault) => line.fault = fault_name(fault),
+    }
+    Ok(())
+}
+
+/// The line of what a formula read, without where that stands.
+fn line_of_answer(
+    view: &View<'_, '_, '_, '_>,
+    depth: usize,
+    reading: &Reading,
+) -> Result<Line, AllocError>
+    ensures { IfOk result (λ line. (line.depth ≡ depth) × (string_bytes line.period ≡ [])) }
+{
+    let parameters = view.rules.parameters();
+    let (place, day) = (reading.place, reading.day);
+    match reading.base {
+        None => {
+            let mut line = Line::new(view.alloc, depth, Kind::Parameter, Source::Parameter);
+            put_answer(parameter_at(parameters, place, day), &mut line)?;
+            Ok(line)
+        }
+        Some(base) => {
+            let mut line = Line::new(view.alloc, depth, Kind::Scale, Source::Scale);
+            base.write_text(&mut line.base)?;
+            put_answer(scale_sum_at(parameters, place, day, base), &mut line)?;
+            Ok(line)
+        }
+    }
+}
+
+/// The line of what a formula read.
+pub(crate) fn line_of_reading(
+    view: &View<'_, '_, '_, '_>,
+    depth: usize,
+    reading: &Reading,
+) -> Result<Line, AllocError>
+    ensures { IfOk result (λ line. (n : Names) → Says n (of_reading depth reading.now) line) }
+{
+    let mut line = line_of_answer(view, depth, reading)?;
+    write_date(view.alloc, reading.day, &mut line.period)?;
+    if let Some(place) = view.parameters.find(reading.place) {
+        put_place(view, place, reading.day, &mut line)?;
+    }
+    Ok(line)
+}

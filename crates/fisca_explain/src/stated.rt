@@ -1,0 +1,114 @@
+//! Where a file states inputs.
+
+use fisca_model::Key;
+use fisca_rules::RuleSet;
+use fisca_situations::Situation;
+use fisca_symbols::{Entity, Variable};
+use fisca_time::{Period, Unit};
+use fisca_yaml::{Entry, Tree};
+
+/// An input as a file states it.
+#[derive(Clone, Copy)]
+pub(crate) struct Stated {
+    /// The line of its key.
+    pub(crate) line: usize,
+    /// Its period.
+    pub(crate) period: Period,
+}
+
+/// The input of a file, and the period that values without one have.
+#[derive(Clone, Copy)]
+pub(crate) struct StatedInputs<'t, 'a> {
+    /// The input.
+    pub(crate) tree: &'t Tree<'a>,
+    /// The period.
+    pub(crate) default: Option<Period>,
+}
+
+/// How many parts of a unit a period has.
+fn parts_of(period: Period, unit: Unit) -> u32 {
+    period.sub_count(unit).unwrap_or(1)
+}
+
+/// Whether an input of this period gives a value for another, whose variable has values by this unit.
+fn covers(stated: Period, unit: Unit, period: Period) -> bool {
+    stated == period || unit == Unit::Eternity || stated.overlaps(&period)
+}
+
+/// Whether an input of this period comes before the one that was found, since it is shorter.
+fn is_shorter(found: Option<Stated>, unit: Unit, period: Period) -> bool {
+    match found {
+        None => true,
+        Some(found) => parts_of(period, unit) < parts_of(found.period, unit),
+    }
+}
+
+/// The shortest of dated inputs that gives a value for a period.
+fn dated_input(entries: &[Entry<'_>], unit: Unit, period: Period) -> Option<Stated> {
+    let mut found: Option<Stated> = None;
+    for entry in entries {
+        if let Ok(stated) = Period::read(entry.key.as_str()) {
+            if covers(stated, unit, period) && is_shorter(found, unit, stated) {
+                found = Some(Stated {
+                    line: entry.line,
+                    period: stated,
+                });
+            }
+        }
+    }
+    found
+}
+
+/// The bytes of a name, as a key of a map.
+fn entry_named<'t, 'a>(tree: &'t Tree<'a>, name: &[u8]) -> Option<&'t Entry<'a>> {
+    match str::from_utf8(name) {
+        Ok(name) => tree.entry(name),
+        Err(_) => None,
+    }
+}
+
+/// What is stated of the members of an entity: a map of the members under the plural, or of the only one under the key.
+fn member_in<'t, 'a>(tree: &'t Tree<'a>, entity: &Entity<'_>, name: &[u8]) -> Option<&'t Tree<'a>> {
+    if let Some(members) = entry_named(tree, entity.plural.as_bytes()) {
+        return Some(&entry_named(&members.value, name)?.value);
+    }
+    match entry_named(tree, entity.key.as_bytes()) {
+        Some(only) => Some(&only.value),
+        None => Some(tree),
+    }
+}
+
+impl<'t, 'a> StatedInputs<'t, 'a> {
+    /// What is stated at a variable that gives a value for a period.
+    fn input_at(
+        &self,
+        entry: &Entry<'_>,
+        variable: &Variable<'_>,
+        period: Period,
+    ) -> Option<Stated> {
+        let unit = variable.definition_period;
+        match &entry.value {
+            Tree::Null => None,
+            Tree::Map(entries) => dated_input(entries.as_slice(), unit, period),
+            Tree::Scalar { .. } | Tree::List(_) => Some(Stated {
+                line: entry.line,
+                period: self.default.unwrap_or(period),
+            }),
+        }
+    }
+
+    /// Where the file states what gives the value of a key: nowhere, where the value is a default beside other members' inputs.
+    pub(crate) fn find(
+        &self,
+        rules: &RuleSet<'_>,
+        situation: &Situation,
+        key: &Key,
+    ) -> Option<Stated> {
+        let variable = rules.variables().get(key.variable)?;
+        let entity = rules.entities().get(variable.entity)?;
+        let name = situation.name(variable.entity, key.member)?;
+        let member = member_in(self.tree, entity, name)?;
+        let entry = entry_named(member, variable.name.as_bytes())?;
+        self.input_at(entry, variable, key.period)
+    }
+}

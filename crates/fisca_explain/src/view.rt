@@ -1,0 +1,27 @@
+//! What explanations are made of.
+
+use crate::parameter_files::ParameterPlaces;
+use crate::stated::StatedInputs;
+use fisca_forms::LineForm;
+use fisca_params::SourceFile;
+use fisca_rules::RuleSet;
+use std::alloc::Global;
+
+/// A rule set with its modules, where parameters and inputs stand, and how lines are written.
+#[derive(Clone, Copy)]
+pub(crate) struct View<'v, 'r, 't, 'f> {
+    /// Where lines are made.
+    pub(crate) alloc: Global,
+    /// The rule set.
+    pub(crate) rules: &'r RuleSet<'t>,
+    /// Its modules in order of their paths.
+    pub(crate) modules: &'v [&'v SourceFile],
+    /// Where parameters and scales stand.
+    pub(crate) parameters: &'v ParameterPlaces<'v, 'f>,
+    /// Where inputs are stated.
+    pub(crate) stated: StatedInputs<'v, 'f>,
+    /// How many keys stand above one another at most, where a number is given.
+    pub(crate) depth: Option<u64>,
+    /// The form of lines; without one they are texts for readers.
+    pub(crate) form: Option<&'v LineForm>,
+}

@@ -1,0 +1,10 @@
+pub mod Erased
+pub mod Playing
+pub mod NotedKeys
+pub mod Below
+pub mod Steps
+pub mod Turns
+pub mod Sums
+pub mod Operands
+pub mod Choices
+pub mod NodeKinds

@@ -1,0 +1,5 @@
+pub mod Noted
+pub mod Meaning
+pub mod Played
+pub mod Followers
+pub mod Followed

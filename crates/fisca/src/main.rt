@@ -147,7 +147,7 @@ fn run_under<'x>(
 fn own_file<'a>(task: &'a Task<'_>, text: &'a str) -> OwnFile<'a> {
     let (path, place) = match task {
         Task::Check { .. } | Task::List { .. } => ("", Place::Rules),
-        Task::Calc { file, .. } => (*file, Place::Calc),
+        Task::Calc { file, .. } | Task::Explain { file, .. } => (*file, Place::Calc),
         Task::Test { file, .. } => (*file, Place::Test),
         Task::Run { file, .. } | Task::Size { file, .. } => (*file, Place::Run),
         Task::Axes { .. } => ("", Place::Axes),

@@ -26,3 +26,4 @@ mod Stepping
 mod Still
 mod Telling
 mod Tested
+pub mod NamedKeys

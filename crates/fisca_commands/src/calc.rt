@@ -55,7 +55,12 @@ pub(crate) fn read_file(alloc: Global, rules: &RuleSet<'_>, text: &str) -> Resul
 }
 
 /// The refusal of a column that has no value, with the text of the key that its fault is told of.
-fn tell(alloc: Global, rules: &RuleSet<'_>, situation: &Situation, fault: EvalFault) -> Refusal
+pub(crate) fn tell(
+    alloc: Global,
+    rules: &RuleSet<'_>,
+    situation: &Situation,
+    fault: EvalFault,
+) -> Refusal
     ensures { IsKeyTold rules.now (situation_view situation.now).members fault result }
 {
     match unanswered(alloc, rules, situation, &fault) {

@@ -1,17 +1,18 @@
 //! `fisca explain`: how the values of columns came about.
 
-ghost use Rattle.std.specs.Prelude.{map, string_bytes};
-ghost use Rattle.fisca_commands.specs.Explain.{IsExplain};
+ghost use Rattle.std.specs.Prelude.{◌≡◌, ◌⊎◌, IfErr, IfOk, None, Some, map, string_bytes};
+ghost use Rattle.fisca_commands.specs.Explain.{IsEndIn, IsExplain, form_in, named, picked};
+ghost use Rattle.fisca_explain.specs.Ends.{is_failed_write};
 ghost use Rattle.fisca_rule_files.specs.Refusal.{is_write};
+ghost use Rattle.fisca_situations.specs.Steps.Views.{situation as situation_view};
 ghost use Rattle.fisca_writer.specs.Sink.{CountsFailure};
 
-use super::calc::{read_file, read_tree};
-use super::unanswered::unanswered;
+use super::calc::{read_file, read_tree, tell};
 use crate::calc_inputs_fit;
 use fisca_columns::{CalcFile, default_in, read_column};
 use fisca_explain::{ExplainFault, Explained, RuleFiles, explain_columns, explain_names};
 use fisca_forms::{Format, LineForm};
-use fisca_model::{EvalFault, Key};
+use fisca_model::Key;
 use fisca_params::SourceFile;
 use fisca_rule_files::{Refusal, modules_of, rules_of};
 use fisca_rules::RuleSet;
@@ -39,9 +40,12 @@ fn keys_of(
     situation: &Situation,
     default: Option<Period>,
     words: &[String],
-) -> Result<Vec<Key>, Refusal> {
+) -> Result<Vec<Key>, Refusal>
+    ensures ok { IfOk result (λ keys. named rules.now situation.now default words.now ≡ Some keys.items) }
+    ensures err { IfErr result (λ refusal. (refusal ≡ Refusal.Memory) ⊎ ((refusal ≡ Refusal.BadWord) × (named rules.now situation.now default words.now ≡ None))) }
+{
     let mut keys = Vec::new(alloc);
-    for word in words {
+    'words: for word in words {
         match read_column(&rules.tables, situation, word.as_str(), default) {
             Some(key) => keys.push(key)?,
             None => return Err(Refusal::BadWord),
@@ -50,19 +54,21 @@ fn keys_of(
     Ok(keys)
 }
 
+/// The columns of a file, or those that are named, if there are any.
+fn chosen<'k>(columns: &'k [Key], named: &'k [Key]) -> &'k [Key]
+    ensures { result.now ≡ picked columns.now named.now }
+{
+    if named.is_empty() { columns } else { named }
+}
+
 /// The form that is asked for.
-fn form_of(alloc: Global, format: Option<Format>) -> Result<Option<LineForm>, Refusal> {
+fn form_of(alloc: Global, format: Option<Format>) -> Result<Option<LineForm>, Refusal>
+    ensures ok { IfOk result (λ form. form ≡ form_in format) }
+    ensures err { IfErr result (λ refusal. refusal ≡ Refusal.Memory) }
+{
     match format {
         None => Ok(None),
         Some(format) => Ok(Some(LineForm::new(format, None, explain_names(alloc)?))),
-    }
-}
-
-/// The refusal of a column that has no value.
-fn tell(alloc: Global, rules: &RuleSet<'_>, situation: &Situation, fault: EvalFault) -> Refusal {
-    match unanswered(alloc, rules, situation, &fault) {
-        Ok(unanswered) => Refusal::Eval(unanswered),
-        Err(_) => Refusal::Memory,
     }
 }
 
@@ -72,7 +78,10 @@ fn ended(
     rules: &RuleSet<'_>,
     situation: &Situation,
     end: Result<(), ExplainFault>,
-) -> Result<(), Refusal> {
+) -> Result<(), Refusal>
+    ensures end { IsEndIn rules.now (situation_view situation.now).members end result }
+    ensures write { is_write result ≡ is_failed_write end }
+{
     match end {
         Ok(()) => Ok(()),
         Err(ExplainFault::Eval(fault)) => Err(tell(alloc, rules, situation, fault)),
@@ -106,23 +115,14 @@ pub fn explain_rules<S: RowSink>(
 {
     let rules = rules_of(alloc, files)?;
     let modules = modules_of(alloc, files)?;
-    let CalcFile { situation, columns } = read_file(alloc, &rules, text)?;
+    let file = read_file(alloc, &rules, text)?;
     let tree = read_tree(alloc, text)?;
     rule_sets_are_safe();
     calc_inputs_fit();
-    let named = keys_of(
-        alloc,
-        &rules,
-        &situation,
-        default_in(&tree),
-        options.columns,
-    )?;
-    let keys = if named.is_empty() {
-        columns.as_slice()
-    } else {
-        named.as_slice()
-    };
+    let named = keys_of(alloc, &rules, &file.situation, default_in(&tree), options.columns)?;
     let form = form_of(alloc, options.format)?;
+    let CalcFile { situation, columns } = file;
+    let keys = chosen(columns.as_slice(), named.as_slice());
     let from = RuleFiles {
         files,
         modules: modules.as_slice(),

@@ -1,7 +1,13 @@
 mod Dates
+pub mod Keeping
 pub mod ToldKeys
 pub mod FromMemory
 pub mod Having
 pub mod Moving
 pub mod Telling
 pub mod Written
+pub mod Views
+pub mod Agreeing
+pub mod Defined
+pub mod Columns
+pub mod Followed

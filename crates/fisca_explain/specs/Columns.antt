@@ -8,7 +8,7 @@ use Rattle.fisca_model.specs.Values.{Key, Value}
 use Rattle.fisca_model.specs.Seen.{key_of}
 use Rattle.fisca_model.specs.declared.eval_fault.EvalFault.{EvalFault}
 use Rattle.fisca_model.specs.declared.value.Value.{Value as Given}
-use Rattle.fisca_simulation.specs.Simulations.{Simulation, sources}
+use Rattle.fisca_simulation.specs.Simulations.{Simulation, normal_key, sources}
 use Rattle.fisca_simulation.specs.Told.{told_in}
 use Rattle.fisca_following.specs.Followed.{value_or_none}
 use Rattle.fisca_explain.specs.Explained.{Told, explained}
@@ -32,9 +32,10 @@ levels_of (Some most) = min most most_keys
 abbrev pub value_below : Simulation → ℕ → Key → Option Value
 value_below m depth k = value_or_none (value_within (sources m) (most_keys - depth) k)
 
--- a column, where these formulas were followed before it
+-- a column, where these formulas were followed before it; that of an eternal variable has the eternal period
 abbrev pub column_told : Explaining → List Key → Key → Told
-column_told x before k = explained (sources x.simulation) (value_below x.simulation) (needs x.simulation (value_below x.simulation)) (levels_of x.depth) 0 before k
+column_told x before k =
+    explained (sources x.simulation) (value_below x.simulation) (needs x.simulation (value_below x.simulation)) (levels_of x.depth) 0 before (normal_key x.simulation.rules k)
 
 -- the text explains a column; what has no value has none for this reason
 abbrev pub ExplainsOne : Explaining → EvalFault → List Key → Key → List ℕ → Type 0

@@ -1,11 +1,17 @@
 //! The columns of a file, explained.
 
-ghost use Rattle.std.specs.Prelude.{◌≡◌, []};
-ghost use Rattle.fisca_evaluator.specs.Evaluators.{CanAnswer, marks_in, simulation_of};
+ghost use Rattle.std.specs.Prelude.{◌≡◌, [], List, Err, OnOk, map};
+ghost use Rattle.fisca_evaluator.specs.Evaluators.{CanAnswer, marks_in, simulation_of, work_in};
+ghost use Rattle.fisca_explain.specs.Columns.{HasValue, IsExplained, column_told};
 ghost use Rattle.fisca_explain.specs.Ends.{is_failed_write, is_write};
-ghost use Rattle.fisca_explain.specs.Walks.{CanWalk};
+ghost use Rattle.fisca_explain.specs.Followed.{HasJust};
+ghost use Rattle.fisca_explain.specs.Walks.{CanWalk, IsColumnTold, explaining, explaining_by};
+ghost use Rattle.fisca_memo_theory.specs.Entries.{Remembered};
+ghost use Rattle.fisca_model.specs.Seen.{key_seen};
+ghost use Rattle.fisca_model.specs.Values as meaning;
+ghost use Rattle.fisca_model.specs.declared.eval_fault.EvalFault.{EvalFault as Fault};
 ghost use Rattle.fisca_rules.specs.Views.{rule_set};
-ghost use Rattle.fisca_simulation.specs.Told.{IsReady};
+ghost use Rattle.fisca_simulation.specs.Told.{IsReady, told_in};
 ghost use Rattle.fisca_situations.specs.Steps.Views.{situation as situation_view};
 ghost use Rattle.fisca_writer.specs.Sink.{CountsFailure};
 
@@ -78,33 +84,37 @@ fn input_of<'t, 'a>(tree: &'t Tree<'a>) -> &'t Tree<'a> {
 
 /// Writes the lines that explain a column that was worked out, and that has no value for this reason, if it has none.
 fn write_column<R: Recall, S: RowSink>(
-    view: &View<'_, '_, '_, '_>,
+    view: &View,
     evaluator: &Evaluator<'_, '_, R>,
     followed: &mut Followed,
-    key: Key,
-    fault: EvalFault,
+    key: &Key,
+    fault: &EvalFault,
     sink: &mut S,
 ) -> Result<(), LinesFault>
     requires walk { CanWalk (R.find evaluator.now.store.recall) (simulation_of evaluator.now) }
     requires view { simulation_of evaluator.now ≡ record { rules = rule_set view.now.rules.now; situation = (simulation_of evaluator.now).situation; neutral = [] } }
+    requires work { (k : meaning.Key) → work_in evaluator.now key.now k → Remembered (R.find evaluator.now.store.recall) k }
+    ensures lines { OnOk result ((before : List meaning.Key) → HasJust before followed.old
+        → IsColumnTold (explaining view.now (simulation_of evaluator.now)) fault.now before (key_seen key.now) (S.taken sink.old) (S.taken sink.new)
+        × HasJust (column_told (explaining view.now (simulation_of evaluator.now)) before (key_seen key.now)).followed followed.new) }
     ensures failures { CountsFailure (is_write result) (S.failures sink.old) (S.failures sink.new) }
 {
-    let own = own_key(view.rules, key);
+    let own = own_key(view.rules, *key);
     let walk = Walk {
-        view: *view,
+        view,
         situation: evaluator.situation(),
         recall: evaluator.recall(),
-        fault,
+        fault: *fault,
     };
     walk.explain(0, &own, followed, sink)
 }
 
 /// Works a column out, and writes the lines that explain it. `Eval` behind these where it has no value.
 fn explain_column<R: Recall, S: RowSink>(
-    view: &View<'_, '_, '_, '_>,
+    view: &View,
     evaluator: &mut Evaluator<'_, '_, R>,
     followed: &mut Followed,
-    key: Key,
+    key: &Key,
     sink: &mut S,
 ) -> Result<(), ExplainFault>
     requires ready { CanAnswer (marks_in evaluator.old) (simulation_of evaluator.old) (R.find evaluator.old.store.recall) evaluator.old.store.counts.free }
@@ -112,15 +122,22 @@ fn explain_column<R: Recall, S: RowSink>(
     ensures failures { CountsFailure (is_failed_write result) (S.failures sink.old) (S.failures sink.new) }
     ensures ready { CanAnswer (marks_in evaluator.new) (simulation_of evaluator.new) (R.find evaluator.new.store.recall) evaluator.new.store.counts.free }
     ensures same { simulation_of evaluator.new ≡ simulation_of evaluator.old }
+    ensures value { OnOk result (HasValue (explaining view.now (simulation_of evaluator.old)) (key_seen key.now)) }
+    ensures lines { OnOk result ((before : List meaning.Key) → HasJust before followed.old
+        → IsColumnTold (explaining view.now (simulation_of evaluator.old)) EvalFault.Memory before (key_seen key.now) (S.taken sink.old) (S.taken sink.new)
+        × HasJust (column_told (explaining view.now (simulation_of evaluator.old)) before (key_seen key.now)).followed followed.new) }
+    ensures fault { (f : Fault) → result ≡ Err (ExplainFault.Eval f) → (told_in (simulation_of evaluator.old) key.now ≡ Err f)
+        × ((before : List meaning.Key) → HasJust before followed.old
+        → IsColumnTold (explaining view.now (simulation_of evaluator.old)) f before (key_seen key.now) (S.taken sink.old) (S.taken sink.new)) }
 {
-    match evaluator.value(key) {
+    match evaluator.value(*key) {
         Ok(_) => {
-            write_column(view, evaluator, followed, key, EvalFault::Memory, sink)?;
+            write_column(view, evaluator, followed, key, &EvalFault::Memory, sink)?;
             Ok(())
         }
         Err(EvalFault::Memory) => Err(ExplainFault::Memory),
         Err(fault) => {
-            write_column(view, evaluator, followed, key, fault, sink)?;
+            write_column(view, evaluator, followed, key, &fault, sink)?;
             Err(ExplainFault::Eval(fault))
         }
     }
@@ -128,7 +145,7 @@ fn explain_column<R: Recall, S: RowSink>(
 
 /// Explains columns, one after another.
 fn explain_all<R: Recall, S: RowSink>(
-    view: &View<'_, '_, '_, '_>,
+    view: &View,
     evaluator: &mut Evaluator<'_, '_, R>,
     columns: &[Key],
     sink: &mut S,
@@ -138,56 +155,24 @@ fn explain_all<R: Recall, S: RowSink>(
     ensures failures { CountsFailure (is_failed_write result) (S.failures sink.old) (S.failures sink.new) }
     ensures ready { CanAnswer (marks_in evaluator.new) (simulation_of evaluator.new) (R.find evaluator.new.store.recall) evaluator.new.store.counts.free }
     ensures same { simulation_of evaluator.new ≡ simulation_of evaluator.old }
+    ensures lines { IsExplained (explaining view.now (simulation_of evaluator.old)) (map key_seen columns.now) (S.taken sink.old) (S.taken sink.new) result }
 {
     let mut followed = Followed::new(view.alloc);
-    for key in columns {
-        explain_column(view, evaluator, &mut followed, *key, sink)?;
+    'columns: for key in columns {
+        explain_column(view, evaluator, &mut followed, key, sink)?;
     }
     Ok(())
 }
 
 /// A rule set with the files that it was made of.
 #[derive(Clone, Copy)]
-pub struct RuleFiles<'r, 't> {
+pub struct RuleFiles<'g, 'm, 'f, 'r, 't> {
     /// The files.
-    pub files: &'r [SourceFile],
+    pub files: &'g [SourceFile],
     /// Its modules among them, in order of their paths.
-    pub modules: &'r [&'r SourceFile],
+    pub modules: &'m [&'f SourceFile],
     /// The rule set.
     pub rules: &'r RuleSet<'t>,
-}
-
-/// Explains columns of a file, whose tree this is.
-fn explain_of<'r, R: Recall, S: RowSink>(
-    alloc: Global,
-    from: RuleFiles<'r, '_>,
-    tree: &Tree<'_>,
-    evaluator: &mut Evaluator<'_, '_, R>,
-    columns: &[Key],
-    explained: Explained<'_>,
-    sink: &mut S,
-) -> Result<(), ExplainFault>
-    requires ready { CanAnswer (marks_in evaluator.old) (simulation_of evaluator.old) (R.find evaluator.old.store.recall) evaluator.old.store.counts.free }
-    requires rules { simulation_of evaluator.old ≡ record { rules = rule_set from.rules.now; situation = (simulation_of evaluator.old).situation; neutral = [] } }
-    ensures failures { CountsFailure (is_failed_write result) (S.failures sink.old) (S.failures sink.new) }
-    ensures ready { CanAnswer (marks_in evaluator.new) (simulation_of evaluator.new) (R.find evaluator.new.store.recall) evaluator.new.store.counts.free }
-    ensures same { simulation_of evaluator.new ≡ simulation_of evaluator.old }
-{
-    let trees = file_trees(alloc, from.files)?;
-    let parameters = ParameterPlaces::of(alloc, from.rules.parameters(), trees.as_slice())?;
-    let view = View {
-        alloc,
-        rules: from.rules,
-        modules: from.modules,
-        parameters: &parameters,
-        stated: StatedInputs {
-            tree: input_of(tree),
-            default: default_in(tree),
-        },
-        depth: explained.depth,
-        form: explained.form,
-    };
-    explain_all(&view, evaluator, columns, sink)
 }
 
 /// Writes the lines that explain columns of a file, whose tree and situation these are, under a rule set, one after another: each key with its value and what that comes from, and
@@ -201,7 +186,7 @@ fn explain_of<'r, R: Recall, S: RowSink>(
 /// This project's own rule.
 pub fn explain_columns<'r, 't, S: RowSink>(
     alloc: Global,
-    from: RuleFiles<'r, 't>,
+    from: RuleFiles<'_, '_, '_, 'r, 't>,
     tree: &Tree<'_>,
     situation: Situation,
     columns: &[Key],
@@ -210,10 +195,30 @@ pub fn explain_columns<'r, 't, S: RowSink>(
 ) -> (Evaluator<'r, 't, IndexRecall>, Result<(), ExplainFault>)
     requires ready { IsReady (record { rules = rule_set from.rules.now; situation = situation_view situation; neutral = [] }) }
     ensures failures { CountsFailure (is_failed_write result.1) (S.failures sink.old) (S.failures sink.new) }
-    ensures same { simulation_of result.0 ≡ record { rules = rule_set from.rules.now; situation = situation_view situation; neutral = [] } }
+    ensures same { simulation_of result.0 ≡ record { rules = rule_set from.entry.rules.now; situation = situation_view situation; neutral = [] } }
+    ensures lines { IsExplained (explaining_by from.entry.rules.now explained.entry (record { rules = rule_set from.entry.rules.now; situation = situation_view situation; neutral = [] })) (map key_seen columns.now) (S.taken sink.old) (S.taken sink.new) result.1 }
 {
     let recall = IndexRecall::new(alloc);
     let mut evaluator = Evaluator::new(alloc, from.rules, &[], &[], situation, recall);
-    let end = explain_of(alloc, from, tree, &mut evaluator, columns, explained, sink);
+    let Ok(trees) = file_trees(alloc, from.files) else {
+        return (evaluator, Err(ExplainFault::Memory));
+    };
+    let made = ParameterPlaces::of(alloc, from.rules.parameters(), trees.as_slice());
+    let Ok(parameters) = made else {
+        return (evaluator, Err(ExplainFault::Memory));
+    };
+    let view = View {
+        alloc,
+        rules: from.rules,
+        modules: from.modules,
+        parameters: &parameters,
+        stated: StatedInputs {
+            tree: input_of(tree),
+            default: default_in(tree),
+        },
+        depth: explained.depth,
+        form: explained.form,
+    };
+    let end = explain_all(&view, &mut evaluator, columns, sink);
     (evaluator, end)
 }

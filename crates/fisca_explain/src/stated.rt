@@ -36,25 +36,37 @@ fn covers(stated: Period, unit: Unit, period: Period) -> bool {
 }
 
 /// Whether an input of this period comes before the one that was found, since it is shorter.
-fn is_shorter(found: Option<Stated>, unit: Unit, period: Period) -> bool {
+fn is_shorter(found: &Option<Stated>, unit: Unit, period: Period) -> bool {
     match found {
         None => true,
         Some(found) => parts_of(period, unit) < parts_of(found.period, unit),
     }
 }
 
+/// Of an input that was found and the next one that which gives a value for a period: the shorter of two that do.
+fn shorter(
+    found: Option<Stated>,
+    entry: &Entry<'_>,
+    unit: Unit,
+    period: Period,
+) -> Option<Stated> {
+    let Ok(stated) = Period::read(entry.key.as_str()) else {
+        return found;
+    };
+    if !covers(stated, unit, period) || !is_shorter(&found, unit, stated) {
+        return found;
+    }
+    Some(Stated {
+        line: entry.line,
+        period: stated,
+    })
+}
+
 /// The shortest of dated inputs that gives a value for a period.
 fn dated_input(entries: &[Entry<'_>], unit: Unit, period: Period) -> Option<Stated> {
-    let mut found: Option<Stated> = None;
+    let mut found = None;
     for entry in entries {
-        if let Ok(stated) = Period::read(entry.key.as_str()) {
-            if covers(stated, unit, period) && is_shorter(found, unit, stated) {
-                found = Some(Stated {
-                    line: entry.line,
-                    period: stated,
-                });
-            }
-        }
+        found = shorter(found, entry, unit, period);
     }
     found
 }
@@ -67,10 +79,27 @@ fn entry_named<'t, 'a>(tree: &'t Tree<'a>, name: &[u8]) -> Option<&'t Entry<'a>>
     }
 }
 
-/// What is stated of the members of an entity: a map of the members under the plural, or of the only one under the key.
-fn member_in<'t, 'a>(tree: &'t Tree<'a>, entity: &Entity<'_>, name: &[u8]) -> Option<&'t Tree<'a>> {
+/// The member of this name in a map of members: they stand in their order there, so it is looked for at its own place first.
+fn member_named<'t, 'a>(members: &'t Tree<'a>, member: u32, name: &[u8]) -> Option<&'t Entry<'a>> {
+    if let Tree::Map(entries) = members {
+        if let Some(entry) = entries.as_slice().get(member as usize) {
+            if entry.key.as_str().as_bytes() == name {
+                return Some(entry);
+            }
+        }
+    }
+    entry_named(members, name)
+}
+
+/// What is stated of a member of an entity: in a map of the members under the plural, or of the only one under the key.
+fn member_in<'t, 'a>(
+    tree: &'t Tree<'a>,
+    entity: &Entity<'_>,
+    member: u32,
+    name: &[u8],
+) -> Option<&'t Tree<'a>> {
     if let Some(members) = entry_named(tree, entity.plural.as_bytes()) {
-        return Some(&entry_named(&members.value, name)?.value);
+        return Some(&member_named(&members.value, member, name)?.value);
     }
     match entry_named(tree, entity.key.as_bytes()) {
         Some(only) => Some(&only.value),
@@ -107,7 +136,7 @@ impl<'t, 'a> StatedInputs<'t, 'a> {
         let variable = rules.variables().get(key.variable)?;
         let entity = rules.entities().get(variable.entity)?;
         let name = situation.name(variable.entity, key.member)?;
-        let member = member_in(self.tree, entity, name)?;
+        let member = member_in(self.tree, entity, key.member, name)?;
         let entry = entry_named(member, variable.name.as_bytes())?;
         self.input_at(entry, variable, key.period)
     }

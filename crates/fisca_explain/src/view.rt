@@ -9,19 +9,19 @@ use std::alloc::Global;
 
 /// A rule set with its modules, where parameters and inputs stand, and how lines are written.
 #[derive(Clone, Copy)]
-pub(crate) struct View<'v, 'r, 't, 'f> {
+pub(crate) struct View<'m, 'f, 'r, 't, 'p, 'q, 'g, 's, 'a, 'o> {
     /// Where lines are made.
     pub(crate) alloc: Global,
     /// The rule set.
     pub(crate) rules: &'r RuleSet<'t>,
     /// Its modules in order of their paths.
-    pub(crate) modules: &'v [&'v SourceFile],
+    pub(crate) modules: &'m [&'f SourceFile],
     /// Where parameters and scales stand.
-    pub(crate) parameters: &'v ParameterPlaces<'v, 'f>,
+    pub(crate) parameters: &'p ParameterPlaces<'q, 'g>,
     /// Where inputs are stated.
-    pub(crate) stated: StatedInputs<'v, 'f>,
+    pub(crate) stated: StatedInputs<'s, 'a>,
     /// How many keys stand above one another at most, where a number is given.
     pub(crate) depth: Option<u64>,
     /// The form of lines; without one they are texts for readers.
-    pub(crate) form: Option<&'v LineForm>,
+    pub(crate) form: Option<&'o LineForm>,
 }

@@ -62,9 +62,9 @@ impl From<AllocError> for LinesFault {
 /// A column that is explained: what explanations are made of, the situation, what is remembered of it, and why the column has no value; for want of
 /// memory where it has one.
 #[derive(Drop)]
-pub(crate) struct Walk<'v, 'r, 't, 'f, 's, R> {
+pub(crate) struct Walk<'v, 'm, 'f, 'r, 't, 'p, 'q, 'g, 'i, 'a, 'o, 's, R> {
     /// What explanations are made of.
-    pub(crate) view: View<'v, 'r, 't, 'f>,
+    pub(crate) view: &'v View<'m, 'f, 'r, 't, 'p, 'q, 'g, 'i, 'a, 'o>,
     /// The situation.
     pub(crate) situation: &'s Situation,
     /// What is remembered.
@@ -73,7 +73,9 @@ pub(crate) struct Walk<'v, 'r, 't, 'f, 's, R> {
     pub(crate) fault: EvalFault,
 }
 
-impl<'v, 'r, 't, 'f, 's, R: Recall> Walk<'v, 'r, 't, 'f, 's, R> {
+impl<'v, 'm, 'f, 'r, 't, 'p, 'q, 'g, 'i, 'a, 'o, 's, R: Recall>
+    Walk<'v, 'm, 'f, 'r, 't, 'p, 'q, 'g, 'i, 'a, 'o, 's, R>
+{
     /// The text of a line.
     fn text_of(&self, line: &Line) -> Result<String, AllocError>
         ensures { IfOk result (λ text. string_bytes text ≡ written (form_in self.now) line.now) }
@@ -120,7 +122,7 @@ impl<'v, 'r, 't, 'f, 's, R: Recall> Walk<'v, 'r, 't, 'f, 's, R> {
 
     /// Whether the formulas of keys below so many others are not followed.
     fn is_cut(&self, depth: usize) -> bool
-        ensures { result ≡ (levels_of self.now.view.depth - depth == 0) }
+        ensures { result ≡ (levels_of self.now.view.now.depth - depth == 0) }
     {
         match self.view.depth {
             Some(most) => depth as u64 >= most || depth >= MOST_KEYS,
@@ -137,14 +139,14 @@ impl<'v, 'r, 't, 'f, 's, R: Recall> Walk<'v, 'r, 't, 'f, 's, R> {
         origin: Option<Origin<'_, '_>>,
         sink: &mut S,
     ) -> Result<(), LinesFault>
-        ensures line { OnOk result ((reason : Reason) → (reason ≡ above → origin ≡ None) → IsWritten self.now (of_key depth (key_seen key.now) (option_map value_seen value) reason ∷ []) (S.taken sink.old) (S.taken sink.new)) }
+        ensures line { OnOk result ((reason : Reason) → (reason ≡ above → origin.entry ≡ None) → IsWritten self.now (of_key depth (key_seen key.now) (option_map value_seen value) reason ∷ []) (S.taken sink.old) (S.taken sink.new)) }
         ensures failures { CountsFailure (is_write result) (S.failures sink.old) (S.failures sink.new) }
     {
         let answer = match value {
             Some(value) => Ok(value),
             None => Err(self.fault),
         };
-        let line = line_of_key(&self.view, self.situation, depth, key, answer, origin)?;
+        let line = line_of_key(self.view, self.situation, depth, key, answer, origin)?;
         self.write(&line, sink)
     }
 
@@ -158,7 +160,7 @@ impl<'v, 'r, 't, 'f, 's, R: Recall> Walk<'v, 'r, 't, 'f, 's, R> {
         ensures line { OnOk result (IsWritten self.now (of_reading depth reading.now ∷ []) (S.taken sink.old) (S.taken sink.new)) }
         ensures failures { CountsFailure (is_write result) (S.failures sink.old) (S.failures sink.new) }
     {
-        let line = line_of_reading(&self.view, depth, reading)?;
+        let line = line_of_reading(self.view, depth, reading)?;
         self.write(&line, sink)
     }
 

@@ -8,3 +8,4 @@ pub mod Sums
 pub mod Operands
 pub mod Choices
 pub mod NodeKinds
+pub mod Days

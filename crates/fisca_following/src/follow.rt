@@ -22,6 +22,14 @@ use fisca_ops::{cast, has, role_of, truth_of, unary};
 use fisca_symbols::DeclaredType;
 use fisca_typing::Unary;
 
+/// The two nodes that a choice chooses from.
+fn sides<'r>(pair: &'r Pair) -> (&'r Node, &'r Node)
+    ensures left { result.0.now ≡ pair.now.left }
+    ensures right { result.1.now ≡ pair.now.right }
+{
+    (&pair.left, &pair.right)
+}
+
 impl<'t, 'r, 's, 'a, A: Answering> Follower<'t, 'r, 's, 'a, A> {
     /// A formula that returns this, of a variable of this type: its value, and what it asks for and reads on the way, in order, up to its end.
     /// `Fault` where it has no value, `Unanswered` where the key that it asks for last has none, and `Memory` only where memory was refused.
@@ -54,10 +62,11 @@ impl<'t, 'r, 's, 'a, A: Answering> Follower<'t, 'r, 's, 'a, A> {
                 return self.plain(here, at, notes);
             };
             let value = self.node(condition, at, notes)?;
+            let (left, right) = sides(pair);
             if truth_of(value) {
-                return self.node(&pair.left, at, notes);
+                return self.node(left, at, notes);
             }
-            here = &pair.right;
+            here = right;
         }
     }
 

@@ -16,4 +16,4 @@ pub use law::{
     formulas_end_as_they_are_followed, keys_that_are_noted_are_asked_for, noting_changes_nothing,
 };
 pub use note::{Halted, Note, Reading};
-pub use notes::Notes;
+pub use notes::{Notes, Sequence};

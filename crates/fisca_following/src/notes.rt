@@ -4,46 +4,48 @@ use crate::note::{Halted, Note};
 use std::alloc::Global;
 use std::marker::Model;
 
-/// Notes in the order in which they came, seen as a list.
+/// Items in the order in which they came, seen as a list.
 #[derive(Drop)]
-pub struct Notes {
-    items: Vec<Note>,
+pub struct Sequence<T> {
+    items: Vec<T>,
 }
 
-impl Model for Notes {
+/// Notes in the order in which they came.
+pub type Notes = Sequence<Note>;
+
+impl<T> Model for Sequence<T> {
     ghost use Rattle.std.specs.Prelude.{List};
-    ghost use Rattle.fisca_following.specs.declared.note.Note.{Note};
 
-    ghost Value = { List Note };
+    ghost Value = { List T };
 
-    ghost view = { λ n. n.items.items };
+    ghost view = { λ s. s.items.items };
 }
 
-impl Notes {
+impl<T: Drop> Sequence<T> {
     ghost use Rattle.std.specs.Prelude.{◌≡◌, ◌++◌, ◌∷◌, [], OnOk, IfErr};
 
     /// None.
-    pub fn new(alloc: Global) -> Notes
+    pub fn new(alloc: Global) -> Self
         ensures { result ≡ [] }
     {
-        Notes {
+        Sequence {
             items: Vec::new(alloc),
         }
     }
 
     /// One more. `Memory` where a growth was refused.
-    pub(crate) fn push(&mut self, note: Note) -> Result<(), Halted>
-        ensures ok { OnOk result (self.new ≡ self.old ++ note ∷ []) }
+    pub(crate) fn push(&mut self, item: T) -> Result<(), Halted>
+        ensures ok { OnOk result (self.new ≡ self.old ++ item ∷ []) }
         ensures err { IfErr result (λ e. e ≡ Halted.Memory) }
     {
-        match self.items.push(note) {
+        match self.items.push(item) {
             Ok(()) => Ok(()),
             Err(_) => Err(Halted::Memory),
         }
     }
 
     /// All of them.
-    pub fn as_slice(&self) -> &[Note]
+    pub fn as_slice(&self) -> &[T]
         ensures { result.now ≡ self.now }
     {
         self.items.as_slice()

@@ -5,7 +5,7 @@ pub returns-then-has_no_parts : goal.returns-then-has_no_parts
 returns-then-has_no_parts g c = rw (sym c.has_no_parts.ensures ∙ c.if-has_no_parts.true) (refl, sym (append-nil _))
 
 pub sum-requires : goal.sum-requires
-sum-requires g c = rw (sym c.has_no_parts.ensures ∙ c.if-has_no_parts.false) at c.requires.moving
+sum-requires g c = record { moving = rw (sym c.has_no_parts.ensures ∙ c.if-has_no_parts.false) at c.requires.moving }
 
 pub returns : goal.returns
 returns g c = rw (sym c.has_no_parts.ensures ∙ c.if-has_no_parts.false) c.sum.ensures

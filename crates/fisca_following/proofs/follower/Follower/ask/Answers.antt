@@ -12,7 +12,7 @@ ask_known-requires g c =
     let s = c.args.self.now in
     let W = g.A.Answering.answers s.answers.now in
     let is = c.in-Ok.ensures ∙ ap (λ ms. moved_all ms s.frame.period) c.as_slice.ensures.value in
-    subst (λ r. Moves W (unread (in_range r (asks_at s c.args.ask.now c.args.at)))) (sym is) c.requires.moving
+    record { moving = subst (λ r. Moves W (unread (in_range r (asks_at s c.args.ask.now c.args.at)))) (sym is) c.requires.moving }
 
 pub returns-in-Ok : goal.returns-in-Ok
 returns-in-Ok g c =

@@ -7,7 +7,7 @@ use Rattle.fisca_following.proofs.follower.Follower.ask_holder.Goals as goal
 pub ask_by-requires : goal.ask_by-requires
 ask_by-requires g c =
     let W = g.A.Answering.answers c.args.self.now.answers.now in
-    subst (λ ps. Moves W (unread (ask_first c.args.asking c.args.variable c.args.unit c.args.value_type c.args.period ps))) c.in-Some.ensures c.requires.moving
+    record { moving = subst (λ ps. Moves W (unread (ask_first c.args.asking c.args.variable c.args.unit c.args.value_type c.args.period ps))) c.in-Some.ensures c.requires.moving }
 
 pub returns-in-Some : goal.returns-in-Some
 returns-in-Some g c =

@@ -28,7 +28,7 @@ ask_of-requires g c =
     let v = c.in-Some.variable.now in
     let W = g.A.Answering.answers s.answers.now in
     let known = subst (λ o. Moves W (unread (questions.ask_known (groups s.context) (point_of s c.args.at) a.whom a.asking a.variable c.args.period o))) c.in-Some.ensures c.requires.moving in
-    subst (λ t. Moves W (unread (questions.ask_typed (groups s.context) (point_of s c.args.at) a.whom a.asking a.variable v.definition_period c.args.period t))) (sym c.in-Some-type_of.ensures) known
+    record { moving = subst (λ t. Moves W (unread (questions.ask_typed (groups s.context) (point_of s c.args.at) a.whom a.asking a.variable v.definition_period c.args.period t))) (sym c.in-Some-type_of.ensures) known }
 
 pub returns : goal.returns
 returns g c =

@@ -11,7 +11,7 @@ pub returns : goal.returns
 returns g c =
     let W = g.A.Answering.answers c.args.self.now.answers.now in
     let place = c.in-Some.place in
-    rw c.in-Some.ensures (noted_first W (note.Read (parameter_read place c.args.day)) _ c.ended.result c.args.notes.now c.push.new.notes c.push.new.notes c.in_ok-push.ensures.ok (at_once W c.ended.result c.parameter_at.result _ c.push.new.notes c.parameter_at.ensures c.ended.ensures))
+    rw c.in-Some.ensures (noted_first W (note.Read (parameter_read place c.args.day)) _ c.ended.result c.args.notes.now c.push.new.self c.push.new.self c.in_ok-push.ensures.ok (at_once W c.ended.result c.parameter_at.result _ c.push.new.self c.parameter_at.ensures c.ended.ensures))
 
 pub returns-in_err-push : goal.returns-in_err-push
 returns-in_err-push g c =

@@ -8,15 +8,15 @@ use Rattle.fisca_following.proofs.Operands.{number_is, number_moving}
 use Rattle.fisca_following.proofs.Steps.{at_once, noted_first}
 use Rattle.fisca_following.proofs.follower.Follower.sum_for.Goals as goal
 
-pub number_of-requires : goal.number_of-requires
-number_of-requires g c = number_moving (g.A.Answering.answers c.args.self.now.answers.now) (value_seen c.args.value) _ c.requires.moving
+pub number_of-base-requires : goal.number_of-base-requires
+number_of-base-requires g c = number_moving (g.A.Answering.answers c.args.self.now.answers.now) (value_seen c.args.value) _ c.requires.moving
 
 pub returns : goal.returns
 returns g c =
     let W = g.A.Answering.answers c.args.self.now.answers.now in
     let base = c.number_of-base.result in
-    let read = noted_first W (note.Read (scale_read c.args.x.now.place c.args.day base)) _ c.ended.result c.args.notes.now c.push.new.notes c.push.new.notes c.in_ok-push.ensures.ok (at_once W c.ended.result c.scale_sum_at.result _ c.push.new.notes c.scale_sum_at.ensures c.ended.ensures) in
-    subst (λ d. Plays c.ended.result c.args.notes.now c.push.new.notes (played W d)) (sym (number_is (value_seen c.args.value) base c.number_of-base.ensures _)) read
+    let read = noted_first W (note.Read (scale_read c.args.x.now.place c.args.day base)) _ c.ended.result c.args.notes.now c.push.new.self c.push.new.self c.in_ok-push.ensures.ok (at_once W c.ended.result c.scale_sum_at.result _ c.push.new.self c.scale_sum_at.ensures c.ended.ensures) in
+    subst (λ d. Plays c.ended.result c.args.notes.now c.push.new.self (played W d)) (sym (number_is (value_seen c.args.value) base c.number_of-base.ensures _)) read
 
 pub returns-in_err-push : goal.returns-in_err-push
 returns-in_err-push g c =

@@ -13,8 +13,14 @@ use Rattle.fisca_explain.specs.Below.{answer_by, answers_by, if_left, if_low}
 
 -- no value
 none_of : (r : Result Value Halt) → ((v : Value) → r ≡ Ok v → ⊥) → value_or_none r ≡ None
-none_of (Ok v) no = absurd (no v refl)
-none_of (Err h) no = refl
+none_of (Ok v) never = absurd (never v refl)
+none_of (Err h) never = refl
+
+tall_of : (a b : ℕ) → nat_lt a b ≡ true → a < b
+tall_of a b test = grind (arith, nat_tests, test)
+
+short_of : (a b : ℕ) → nat_lt a b ≡ false → b ≤ a
+short_of a b test = grind (arith, nat_tests, test)
 
 definite_of : (r : Result Value Halt) (v : Value) → r ≡ Ok v → IsDefinite r
 definite_of r v e = rw e tt
@@ -24,11 +30,11 @@ module _ (src : Sources) (entries : Entries) (truth : IsTrueMemory src entries) 
   low : (e : Entry) → IsKnown src e.height k e.value e.height → (b : Bool) → nat_lt left e.height ≡ b → (if b then None else Some e.value) ≡ value_or_none (value_within src left k)
   low e is true lt =
       sym (none_of (value_within src left k) (λ v h.
-      let tall : left < e.height = grind (arith, nat_tests, lt) in
+      let tall = tall_of left e.height lt in
       let least : e.height ≤ left = is.height_is.least left (definite_of (value_within src left k) v h) in
       absurd (omega (arith, tall, least))))
   low e is false lt =
-      let short : e.height ≤ left = grind (arith, nat_tests, lt) in
+      let short = short_of left e.height lt in
       sym (ap value_or_none (stays src e.height left short k (definite_of (value_within src e.height k) e.value is.answers) ∙ is.answers))
 
   by_entry : HasFormula src k → (o : Option Entry) → entries k ≡ o → IsTrueEntry src k o → if_low left o ≡ value_or_none (value_within src left k)
@@ -40,10 +46,11 @@ module _ (src : Sources) (entries : Entries) (truth : IsTrueMemory src entries) 
 
   by_source : (s : Source) → src k ≡ s → (n : ℕ) → left ≡ n → answer_by left (entries k) s ≡ value_or_none (value_within src left k)
   unfolding value_within
-  by_source refused e zero n = rw (n, e) refl
-  by_source refused e (suc m) n = rw (n, e) refl
-  by_source (known v) e zero n = rw (n, e) refl
-  by_source (known v) e (suc m) n = rw (n, e) refl
+  by_source refused e zero n = sym (ap (λ j. value_or_none (value_within src j k)) n ∙ ap (λ s. value_or_none (at_once s k)) e)
+  by_source refused e (suc m) n = sym (ap (λ j. value_or_none (value_within src j k)) n ∙ ap (λ s. value_or_none (from_source s k (value_within src m))) e)
+  by_source (known v) e zero n = ap (λ j. if_left j (Some v)) n ∙ sym (ap (λ j. value_or_none (value_within src j k)) n ∙ ap (λ s. value_or_none (at_once s k)) e)
+  by_source (known v) e (suc m) n =
+      ap (λ j. if_left j (Some v)) n ∙ sym (ap (λ j. value_or_none (value_within src j k)) n ∙ ap (λ s. value_or_none (from_source s k (value_within src m))) e)
   by_source (formula d) e m n = by_entry (d, e) (entries k) refl (truth.each k)
 
   pub from_memory : answers_by src entries left k ≡ value_or_none (value_within src left k)

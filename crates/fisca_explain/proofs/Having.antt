@@ -1,5 +1,5 @@
 -- A list of keys with one more.
-use Rattle.std.proofs.Common.{◌≡◌, ◌∙◌, ◌∷◌, ◌++◌, ◌||◌, [], Bool, true, false, List, Option, Some, None, if◌then◌else◌, ap, is_some, refl}
+use Rattle.std.proofs.Common.{◌≡◌, ◌∙◌, ◌∷◌, ◌++◌, ◌||◌, [], Bool, true, false, List, Option, Some, None, if◌then◌else◌, ap, is_some, option_map, refl}
 use Rattle.fisca_key_semantics.specs.Keys.{has, same_key}
 use Rattle.fisca_memo_theory.specs.Entries.{Entry}
 use Rattle.fisca_model.specs.Values.{Key}
@@ -28,3 +28,8 @@ has_more (x ∷ xs) key k =
 pub some_more : (b : Bool) (e : Entry) (o : Option Entry) → is_some (if b then Some e else o) ≡ b || is_some o
 some_more true e o = refl
 some_more false e o = refl
+
+-- what is seen of something is there where it is
+pub some_mapped : {A B : Type 0} (f : A → B) (o : Option A) → is_some (option_map f o) ≡ is_some o
+some_mapped f None = refl
+some_mapped f (Some x) = refl

@@ -1,4 +1,5 @@
 mod Dates
+pub mod Keeping
 pub mod ToldKeys
 pub mod FromMemory
 pub mod Having

@@ -15,14 +15,17 @@ use Rattle.fisca_following.specs.declared.note.Note.TheVariants as note
 use Rattle.fisca_explain.specs.Explained.{Entry, Told, alone, behind, entry, explained, notes_in_turn, of_key, of_reading, over, reason_at, told_at_end, told_from}
 use Rattle.fisca_explain.specs.KeyLines.{AreNeeds, KeyLine, of_entries, of_lines}
 
+abbrev key_line : ℕ → Key → Reason → KeyLine
+key_line depth key reason = record { depth = depth; key = key; reason = reason }
+
 entries_append : (xs ys : List Entry) → of_entries (xs ++ ys) ≡ of_entries xs ++ of_entries ys
 entries_append [] ys = refl
-entries_append (of_key depth key v reason ∷ xs) ys = ap (λ ls. _ ∷ ls) (entries_append xs ys)
+entries_append (of_key depth key v reason ∷ xs) ys = ap (λ (ls : List KeyLine). key_line depth key reason ∷ ls) (entries_append xs ys)
 entries_append (of_reading depth r ∷ xs) ys = entries_append xs ys
 
 lines_append : (xs ys : List Line) → of_lines (xs ++ ys) ≡ of_lines xs ++ of_lines ys
 lines_append [] ys = refl
-lines_append (x ∷ xs) ys = ap (λ ls. _ ∷ ls) (lines_append xs ys)
+lines_append (x ∷ xs) ys = ap (λ (ls : List KeyLine). key_line (length x.path) x.key x.reason ∷ ls) (lines_append xs ys)
 
 -- the same keys in the same order, and the same formulas were followed
 pub record AreSame (t : Told) (u : theory.Told) : Type 0 where
@@ -37,7 +40,7 @@ module _ (tell : List Key → Key → Told) (say : List Key → Key → theory.T
       let first = h before (key_seen k) in
       let rest = subst (λ b. AreSame (notes_in_turn tell depth (tell before (key_seen k)).followed ns) (in_turn say b (keys_noted ns))) first.followed (turn_same depth (tell before (key_seen k)).followed ns) in
       record {
-        lines = entries_append (tell before (key_seen k)).entries _ ∙ ap₂ (λ xs ys. xs ++ ys) first.lines rest.lines ∙ sym (lines_append (say before (key_seen k)).lines _);
+        lines = entries_append (tell before (key_seen k)).entries _ ∙ ap₂ (λ (xs ys : List KeyLine). xs ++ ys) first.lines rest.lines ∙ sym (lines_append (say before (key_seen k)).lines _);
         followed = rest.followed;
       }
 
@@ -54,7 +57,7 @@ module _ (src : Sources) (N : ℕ → Key → List Note) (needs : AreNeeds src N
 
       by : (s : Source) → src key ≡ s → AreSame (told_at_end src W N (length path) before key s) (told_at_once src path before key s)
       by refused e = record { lines = refl; followed = refl }
-      by (known v) e = record { lines = ap (λ r. record { depth = length path; key = key; reason = r } ∷ []) (ap reason_at (ap (λ m. value_or_none (value_within src m key)) none_left ∙ ap (λ s. value_or_none (at_once s key)) e)); followed = refl }
+      by (known v) e = record { lines = ap (λ (r : Reason). key_line (length path) key r ∷ []) (ap reason_at (ap (λ m. value_or_none (value_within src m key)) none_left ∙ ap (λ s. value_or_none (at_once s key)) e)); followed = refl }
       by (formula d) e = by_before (has before key)
         where
           by_before : (b : Bool) → AreSame (alone (entry src W N (length path) key (if b then above else beyond)) before) (one_line (line_at src path key (if b then above else beyond)) before)
@@ -88,4 +91,4 @@ module _ (src : Sources) (N : ℕ → Key → List Note) (needs : AreNeeds src N
               else over (entry src W N (length path) key worked) (notes_in_turn (explained src W N n (suc (length path))) (suc (length path)) (before ++ key ∷ []) (N (length path) key)))
               (if b then one_line (line_at src path key above) before else line_over (line_at src path key worked) (in_turn (explanation_within src n (path ++ key ∷ [])) (before ++ key ∷ []) (asked (value_within src n) d)))
           by_before true = record { lines = refl; followed = refl }
-          by_before false = record { lines = ap (λ ls. _ ∷ ls) rest.lines; followed = rest.followed }
+          by_before false = record { lines = ap (λ (ls : List KeyLine). key_line (length path) key worked ∷ ls) rest.lines; followed = rest.followed }

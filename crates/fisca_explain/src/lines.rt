@@ -7,7 +7,7 @@ ghost use Rattle.fisca_explain.specs.Explained.{of_key};
 ghost use Rattle.fisca_explain.specs.LineTexts.{source_text};
 ghost use Rattle.fisca_explain.specs.Lines.{KeepsKey, fault_in, names_at, value_in};
 ghost use Rattle.fisca_explain.specs.Says.{HasAnswer, NamesKey, Says};
-ghost use Rattle.fisca_explanation.specs.Explanations.{Reason, above};
+ghost use Rattle.fisca_explanation.specs.Explanations.{Reason, above, unfit};
 ghost use Rattle.fisca_model.specs.Seen.{key_seen, value_seen};
 ghost use Rattle.fisca_situations.specs.Steps.Views.{situation as situation_view};
 ghost use Rattle.fisca_symbols.specs.Known.{tables as known};
@@ -23,17 +23,40 @@ use fisca_declarations::Declaration;
 use fisca_folder::write_shown;
 use fisca_model::{EvalFault, Key, Value};
 use fisca_situations::Situation;
+use fisca_symbols::Tables;
 use fisca_time::{Instant, Period};
 use std::alloc::AllocError;
+
+/// The name of the variable at a place, and nothing where there is none.
+fn name_at<'t>(tables: &'t Tables<'_>, variable: usize) -> &'t [u8]
+    ensures { result.now ≡ name_of (slice_get (known tables.now).variables variable) }
+{
+    match tables.variables.as_slice().get(variable) {
+        Some(variable) => variable.name.as_bytes(),
+        None => b"",
+    }
+}
+
+/// The name of a key's member, and nothing where there is none.
+fn member_at<'s>(tables: &Tables<'_>, situation: &'s Situation, key: &Key) -> &'s [u8]
+    ensures { result.now ≡ member_of (situation_view situation.now).members key.now.member (slice_get (known tables.now).variables key.now.variable) }
+{
+    match tables.variables.as_slice().get(key.variable) {
+        Some(variable) => situation.name(variable.entity, key.member).unwrap_or(b""),
+        None => b"",
+    }
+}
 
 /// The name of a key's variable, and nothing where there is none.
 fn variable_text(view: &View<'_, '_, '_, '_>, key: &Key) -> Result<String, AllocError>
     ensures { IfOk result (λ text. string_bytes text ≡ source_text (name_of (slice_get (known view.now.rules.now.tables).variables key.now.variable))) }
 {
     let mut text = String::new(view.alloc);
-    if let Some(variable) = view.rules.variables().get(key.variable) {
-        write_source(view.alloc, variable.name.as_bytes(), &mut text)?;
-    }
+    write_source(
+        view.alloc,
+        name_at(&view.rules.tables, key.variable),
+        &mut text,
+    )?;
     Ok(text)
 }
 
@@ -46,10 +69,11 @@ fn member_text(
     ensures { IfOk result (λ text. string_bytes text ≡ source_text (member_of (situation_view situation.now).members key.now.member (slice_get (known view.now.rules.now.tables).variables key.now.variable))) }
 {
     let mut text = String::new(view.alloc);
-    if let Some(variable) = view.rules.variables().get(key.variable) {
-        let member = situation.name(variable.entity, key.member).unwrap_or(b"");
-        write_source(view.alloc, member, &mut text)?;
-    }
+    write_source(
+        view.alloc,
+        member_at(&view.rules.tables, situation, key),
+        &mut text,
+    )?;
     Ok(text)
 }
 
@@ -85,8 +109,7 @@ fn put_told(
     declaration: &Declaration<'_>,
     line: &mut Line,
 ) -> Result<(), AllocError>
-    ensures key { OnOk result (KeepsKey line.old line.new) }
-    ensures source { OnOk result (line.new.source ≡ line.old.source) }
+    ensures { OnOk result (KeepsKey line.old line.new) }
 {
     write_told(view.alloc, &declaration.label, &mut line.label)?;
     match declaration.reference.as_slice().first() {
@@ -107,6 +130,18 @@ fn formula_line(declaration: &Declaration<'_>, start: Instant) -> Option<usize> 
     None
 }
 
+/// Appends the path of the module at a place.
+fn write_module(
+    view: &View<'_, '_, '_, '_>,
+    module: usize,
+    text: &mut String,
+) -> Result<(), AllocError> {
+    match view.modules.get(module) {
+        Some(file) => write_shown(file.path(), text),
+        None => Ok(()),
+    }
+}
+
 /// Puts where the formula in force stands, and from when on it is.
 fn put_formula(
     view: &View<'_, '_, '_, '_>,
@@ -124,9 +159,7 @@ fn put_formula(
         return Ok(());
     };
     write_date(view.alloc, dated.start, &mut line.since)?;
-    if let Some(file) = view.modules.get(declaration.module) {
-        write_shown(file.path(), &mut line.file)?;
-    }
+    write_module(view, declaration.module, &mut line.file)?;
     line.line = formula_line(declaration, dated.start);
     Ok(())
 }
@@ -144,7 +177,6 @@ fn put_input(
         line.source = Source::Beside;
         return Ok(());
     };
-    line.source = Source::Given;
     line.line = Some(stated.line);
     if stated.period == key.period {
         return Ok(());
@@ -152,6 +184,17 @@ fn put_input(
     line.source = Source::Shared;
     line.since = period_text(view, stated.period)?;
     Ok(())
+}
+
+/// What the value of a key comes from, as lines tell it; of an input it may be another.
+fn source_of(origin: &Origin<'_, '_>) -> Source {
+    match origin {
+        Origin::Unfit => Source::Unfit,
+        Origin::Input => Source::Given,
+        Origin::Default => Source::Default,
+        Origin::Neutral => Source::Neutral,
+        Origin::Formula(_, _) => Source::Formula,
+    }
 }
 
 /// Puts what the value of a key comes from.
@@ -165,17 +208,12 @@ fn put_origin(
 ) -> Result<(), AllocError>
     ensures { OnOk result (KeepsKey line.old line.new) }
 {
+    line.source = source_of(&origin);
     match origin {
-        Origin::Unfit => line.source = Source::Unfit,
-        Origin::Input => return put_input(view, situation, key, line),
-        Origin::Default => line.source = Source::Default,
-        Origin::Neutral => line.source = Source::Neutral,
-        Origin::Formula(_, _) => {
-            line.source = Source::Formula;
-            return put_formula(view, declaration, key, line);
-        }
+        Origin::Input => put_input(view, situation, key, line),
+        Origin::Formula(_, _) => put_formula(view, declaration, key, line),
+        Origin::Unfit | Origin::Default | Origin::Neutral => Ok(()),
     }
-    Ok(())
 }
 
 /// The value of a key.
@@ -193,6 +231,15 @@ fn value_text(view: &View<'_, '_, '_, '_>, key: &Key, value: Value) -> Result<St
     Ok(text)
 }
 
+/// Whether the text of a value stands without quotes in JSON.
+fn is_bare(value: Value, text: &str) -> bool {
+    match value {
+        Value::Number(_) => !text.as_bytes().contains(&b'/'),
+        Value::Bool(_) => true,
+        Value::Member(_) => false,
+    }
+}
+
 /// Puts the value of a key, or why there is none.
 fn put_answer(
     view: &View<'_, '_, '_, '_>,
@@ -208,15 +255,52 @@ fn put_answer(
     match answer {
         Ok(value) => {
             line.value = value_text(view, key, value)?;
-            line.is_bare = match value {
-                Value::Number(_) => !line.value.as_bytes().contains(&b'/'),
-                Value::Bool(_) => true,
-                Value::Member(_) => false,
-            };
+            line.is_bare = is_bare(value, line.value.as_str());
+            Ok(())
         }
-        Err(fault) => line.fault = fault.name(),
+        Err(fault) => {
+            line.fault = fault.name();
+            Ok(())
+        }
     }
-    Ok(())
+}
+
+/// The line of a key with its names and its value alone, as one that was explained above has it.
+fn line_above(
+    view: &View<'_, '_, '_, '_>,
+    situation: &Situation,
+    depth: usize,
+    key: &Key,
+    answer: Result<Value, EvalFault>,
+) -> Result<Line, AllocError>
+    ensures says { IfOk result (λ line. Says (names_at view.now situation.now (fault_in answer)) (of_key depth (key_seen key.now) (option_map value_seen (value_in answer)) unfit) line) }
+    ensures source { IfOk result (λ line. line.source ≡ Source.Above) }
+{
+    let mut line = Line::new(view.alloc, depth, Kind::Key, Source::Above);
+    put_key(view, situation, key, &mut line)?;
+    put_answer(view, key, answer, &mut line)?;
+    Ok(line)
+}
+
+/// Puts what the value of a key comes from, and what is told of its variable, where it is said what it comes from.
+fn put_source(
+    view: &View<'_, '_, '_, '_>,
+    situation: &Situation,
+    key: &Key,
+    declaration: &Declaration<'_>,
+    origin: Option<Origin<'_, '_>>,
+    line: &mut Line,
+) -> Result<(), AllocError>
+    ensures key { OnOk result (KeepsKey line.old line.new) }
+    ensures above { OnOk result (origin ≡ None → line.new.source ≡ line.old.source) }
+{
+    match origin {
+        None => Ok(()),
+        Some(origin) => {
+            put_origin(view, situation, key, declaration, origin, line)?;
+            put_told(view, declaration, line)
+        }
+    }
 }
 
 /// The line of a key: its names, its value, what that comes from, and what is told of its variable. One that was explained above says so alone.
@@ -231,17 +315,13 @@ pub(crate) fn line_of_key(
     ensures { IfOk result (λ line. (reason : Reason) → (reason ≡ above → origin ≡ None)
         → Says (names_at view.now situation.now (fault_in answer)) (of_key depth (key_seen key.now) (option_map value_seen (value_in answer)) reason) line) }
 {
-    let mut line = Line::new(view.alloc, depth, Kind::Key, Source::Above);
-    put_key(view, situation, key, &mut line)?;
-    put_answer(view, key, answer, &mut line)?;
-    let Some(declaration) = view.rules.declarations.get(key.variable) else {
-        return Ok(line);
-    };
-    write_told(view.alloc, &declaration.unit, &mut line.unit)?;
-    let Some(origin) = origin else {
-        return Ok(line);
-    };
-    put_origin(view, situation, key, declaration, origin, &mut line)?;
-    put_told(view, declaration, &mut line)?;
-    Ok(line)
+    let mut line = line_above(view, situation, depth, key, answer)?;
+    match view.rules.declarations.get(key.variable) {
+        None => Ok(line),
+        Some(declaration) => {
+            write_told(view.alloc, &declaration.unit, &mut line.unit)?;
+            put_source(view, situation, key, declaration, origin, &mut line)?;
+            Ok(line)
+        }
+    }
 }

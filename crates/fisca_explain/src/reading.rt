@@ -47,7 +47,15 @@ fn write_said(said: Option<&str>, text: &mut String) -> Result<(), AllocError> {
     }
 }
 
-/// Puts the value in force, and where it stands.
+/// Appends a text where none stands yet, if there is one.
+fn write_if_none(said: Option<&str>, text: &mut String) -> Result<(), AllocError> {
+    if text.is_empty() {
+        return write_said(said, text);
+    }
+    Ok(())
+}
+
+/// Puts the value of a parameter in force, and where it stands.
 fn put_value(
     view: &View<'_, '_, '_, '_>,
     place: &ParameterPlace<'_, '_>,
@@ -56,6 +64,9 @@ fn put_value(
 ) -> Result<(), AllocError>
     ensures { OnOk result (KeepsReading line.old line.new) }
 {
+    if line.kind != Kind::Parameter {
+        return Ok(());
+    }
     let Some(found) = in_force(place.tree, day) else {
         return Ok(());
     };
@@ -79,15 +90,10 @@ fn put_place(
     write_shown(place.path.as_str(), &mut line.name)?;
     write_shown(place.file, &mut line.file)?;
     line.line = Some(place.line);
-    if line.kind == Kind::Parameter {
-        put_value(view, place, day, line)?;
-    }
+    put_value(view, place, day, line)?;
     write_said(said_of(place.tree, "unit", day), &mut line.unit)?;
     write_said(said_of(place.tree, "description", day), &mut line.label)?;
-    if line.reference.is_empty() {
-        write_said(said_of(place.tree, "reference", day), &mut line.reference)?;
-    }
-    Ok(())
+    write_if_none(said_of(place.tree, "reference", day), &mut line.reference)
 }
 
 /// The word of a fault of a parameter or a scale.
@@ -100,6 +106,11 @@ fn fault_name(fault: OperationFault) -> &'static str {
     }
 }
 
+/// The word of a truth.
+fn word_of(truth: bool) -> &'static str {
+    if truth { "true" } else { "false" }
+}
+
 /// Puts the value that was read, or why there is none.
 fn put_answer(answer: Result<Value, OperationFault>, line: &mut Line) -> Result<(), AllocError>
     ensures { OnOk result (KeepsReading line.old line.new) }
@@ -108,15 +119,18 @@ fn put_answer(answer: Result<Value, OperationFault>, line: &mut Line) -> Result<
         Ok(Value::Number(number)) => {
             number.write_text(&mut line.value)?;
             line.is_bare = !line.value.as_bytes().contains(&b'/');
+            Ok(())
         }
         Ok(Value::Bool(truth)) => {
-            line.value.push_str(if truth { "true" } else { "false" })?;
             line.is_bare = true;
+            line.value.push_str(word_of(truth))
         }
-        Ok(Value::Member(_)) => {}
-        Err(fault) => line.fault = fault_name(fault),
+        Ok(Value::Member(_)) => Ok(()),
+        Err(fault) => {
+            line.fault = fault_name(fault);
+            Ok(())
+        }
     }
-    Ok(())
 }
 
 /// The line of what a formula read, without where that stands.
@@ -154,8 +168,11 @@ pub(crate) fn line_of_reading(
 {
     let mut line = line_of_answer(view, depth, reading)?;
     write_date(view.alloc, reading.day, &mut line.period)?;
-    if let Some(place) = view.parameters.find(reading.place) {
-        put_place(view, place, reading.day, &mut line)?;
+    match view.parameters.find(reading.place) {
+        Some(place) => {
+            put_place(view, place, reading.day, &mut line)?;
+            Ok(line)
+        }
+        None => Ok(line),
     }
-    Ok(line)
 }

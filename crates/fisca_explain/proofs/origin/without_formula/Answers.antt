@@ -15,8 +15,8 @@ returns-then-is_marked c =
       (c.args.variable.now, _, c.requires.variable, default, of_default (simulation c.args.simulation.now) (key_seen c.args.key.now) c.args.variable.now c.requires.variable c.requires.input c.requires.formula _ default),
     )
 
-pub returns-then-not-is_marked : goal.returns-then-not-is_marked
-returns-then-not-is_marked c =
+pub returns-else-is_marked : goal.returns-then-not-is_marked
+returns-else-is_marked c =
     let default = sym c.in-Some.ensures in (
       sym c.is_marked.ensures ∙ c.if-is_marked.false,
       (c.args.variable.now, _, c.requires.variable, default, of_default (simulation c.args.simulation.now) (key_seen c.args.key.now) c.args.variable.now c.requires.variable c.requires.input c.requires.formula _ default),

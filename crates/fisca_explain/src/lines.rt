@@ -15,7 +15,7 @@ ghost use Rattle.fisca_time.specs.PeriodText.{text_of as period_text};
 
 use crate::line::{Kind, Line, Source};
 use crate::origin::Origin;
-use crate::texts::{write_date, write_source, write_told};
+use crate::texts::{is_bare, may_be_bare, write_date, write_source, write_told};
 use crate::view::View;
 use fisca_ast::ClassLine;
 use fisca_columns::write_value;
@@ -231,15 +231,6 @@ fn value_text(view: &View<'_, '_, '_, '_>, key: &Key, value: Value) -> Result<St
     Ok(text)
 }
 
-/// Whether the text of a value stands without quotes in JSON.
-fn is_bare(value: Value, text: &str) -> bool {
-    match value {
-        Value::Number(_) => !text.as_bytes().contains(&b'/'),
-        Value::Bool(_) => true,
-        Value::Member(_) => false,
-    }
-}
-
 /// Puts the value of a key, or why there is none.
 fn put_answer(
     view: &View<'_, '_, '_, '_>,
@@ -254,8 +245,9 @@ fn put_answer(
 {
     match answer {
         Ok(value) => {
+            let may_be = may_be_bare(&value);
             line.value = value_text(view, key, value)?;
-            line.is_bare = is_bare(value, line.value.as_str());
+            line.is_bare = is_bare(may_be, line.value.as_str());
             Ok(())
         }
         Err(fault) => {
@@ -292,7 +284,7 @@ fn put_source(
     line: &mut Line,
 ) -> Result<(), AllocError>
     ensures key { OnOk result (KeepsKey line.old line.new) }
-    ensures above { OnOk result (origin ≡ None → line.new.source ≡ line.old.source) }
+    ensures above { OnOk result (origin.entry ≡ None → line.new.source ≡ line.old.source) }
 {
     match origin {
         None => Ok(()),
@@ -312,7 +304,7 @@ pub(crate) fn line_of_key(
     answer: Result<Value, EvalFault>,
     origin: Option<Origin<'_, '_>>,
 ) -> Result<Line, AllocError>
-    ensures { IfOk result (λ line. (reason : Reason) → (reason ≡ above → origin ≡ None)
+    ensures { IfOk result (λ line. (reason : Reason) → (reason ≡ above → origin.entry ≡ None)
         → Says (names_at view.now situation.now (fault_in answer)) (of_key depth (key_seen key.now) (option_map value_seen (value_in answer)) reason) line) }
 {
     let mut line = line_above(view, situation, depth, key, answer)?;

@@ -36,7 +36,7 @@ fn covers(stated: Period, unit: Unit, period: Period) -> bool {
 }
 
 /// Whether an input of this period comes before the one that was found, since it is shorter.
-fn is_shorter(found: Option<Stated>, unit: Unit, period: Period) -> bool {
+fn is_shorter(found: &Option<Stated>, unit: Unit, period: Period) -> bool {
     match found {
         None => true,
         Some(found) => parts_of(period, unit) < parts_of(found.period, unit),
@@ -48,7 +48,7 @@ fn dated_input(entries: &[Entry<'_>], unit: Unit, period: Period) -> Option<Stat
     let mut found: Option<Stated> = None;
     for entry in entries {
         if let Ok(stated) = Period::read(entry.key.as_str()) {
-            if covers(stated, unit, period) && is_shorter(found, unit, stated) {
+            if covers(stated, unit, period) && is_shorter(&found, unit, stated) {
                 found = Some(Stated {
                     line: entry.line,
                     period: stated,

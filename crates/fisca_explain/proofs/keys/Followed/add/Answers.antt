@@ -1,6 +1,5 @@
 use Rattle.std.proofs.Common.{◌∙◌, ◌||◌, ap, is_some, sym}
 use Rattle.std.proofs.lemmas.Result.{on_ok_weaker}
-use Rattle.fisca_evaluator.specs.Stamps.{found_fresh}
 use Rattle.fisca_key_semantics.specs.Keys.{same_key}
 use Rattle.fisca_model.specs.Seen.{key_seen}
 use Rattle.fisca_explain.proofs.Having.{has_more, some_more}

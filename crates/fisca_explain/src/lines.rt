@@ -15,7 +15,7 @@ ghost use Rattle.fisca_time.specs.PeriodText.{text_of as period_text};
 
 use crate::line::{Kind, Line, Source};
 use crate::origin::Origin;
-use crate::texts::{write_date, write_source, write_told};
+use crate::texts::{is_bare, may_be_bare, write_date, write_source, write_told};
 use crate::view::View;
 use fisca_ast::ClassLine;
 use fisca_columns::write_value;
@@ -231,15 +231,6 @@ fn value_text(view: &View, key: &Key, value: Value) -> Result<String, AllocError
     Ok(text)
 }
 
-/// Whether the text of a value stands without quotes in JSON.
-fn is_bare(value: Value, text: &str) -> bool {
-    match value {
-        Value::Number(_) => !text.as_bytes().contains(&b'/'),
-        Value::Bool(_) => true,
-        Value::Member(_) => false,
-    }
-}
-
 /// Puts the value of a key, or why there is none.
 fn put_answer(
     view: &View,
@@ -252,10 +243,11 @@ fn put_answer(
     ensures answer { OnOk result (HasAnswer (record { tables = known view.now.rules.now.tables; members = []; fault = fault_in answer }) key.now.variable (option_map value_seen (value_in answer)) line.new) }
     ensures others { OnOk result (line.new ≡ record line.old { value = line.new.value; is_bare = line.new.is_bare; fault = line.new.fault }) }
 {
-    match &answer {
+    match answer {
         Ok(value) => {
-            line.value = value_text(view, key, *value)?;
-            line.is_bare = is_bare(*value, line.value.as_str());
+            let may_be = may_be_bare(&value);
+            line.value = value_text(view, key, value)?;
+            line.is_bare = is_bare(may_be, line.value.as_str());
             Ok(())
         }
         Err(fault) => {

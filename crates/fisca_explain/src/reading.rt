@@ -7,7 +7,7 @@ ghost use Rattle.fisca_explain.specs.Says.{Names, Says};
 
 use crate::line::{Kind, Line, Source};
 use crate::parameter_files::{ParameterPlace, in_force};
-use crate::texts::write_date;
+use crate::texts::{is_bare, may_be_bare, write_date};
 use crate::view::View;
 use fisca_folder::write_shown;
 use fisca_following::Reading;
@@ -18,26 +18,21 @@ use fisca_yaml::Tree;
 use std::alloc::AllocError;
 
 /// The text of a scalar, or of the first item of a list.
-fn first_text<'t>(tree: &'t Tree<'_>) -> Option<&'t str> {
+fn plain_text<'t>(tree: &'t Tree<'_>) -> Option<&'t str> {
     match tree {
         Tree::List(items) => items.first()?.value.as_text(),
-        Tree::Null | Tree::Scalar { .. } | Tree::Map(_) => tree.as_text(),
+        other => other.as_text(),
     }
 }
 
-/// The text that is in force on a day in a map of days.
-fn text_in_force<'t>(tree: &'t Tree<'_>, day: Instant) -> Option<&'t str> {
-    match in_force(tree, day) {
-        Some(found) => first_text(&found.entry.value),
-        None => None,
-    }
-}
-
-/// The text of a scalar, of the first item of a list, or of what is in force on a day in a map of days.
+/// The same, or that of what is in force on a day in a map of days.
 fn text_on<'t>(tree: &'t Tree<'_>, day: Instant) -> Option<&'t str> {
     match tree {
-        Tree::Map(_) => text_in_force(tree, day),
-        Tree::Null | Tree::Scalar { .. } | Tree::List(_) => first_text(tree),
+        Tree::Map(_) => match in_force(tree, day) {
+            Some(found) => plain_text(&found.entry.value),
+            None => None,
+        },
+        other => plain_text(other),
     }
 }
 
@@ -117,9 +112,14 @@ fn fault_name(fault: OperationFault) -> &'static str {
     }
 }
 
-/// The word of a truth.
-fn word_of(truth: bool) -> &'static str {
-    if truth { "true" } else { "false" }
+/// Appends the text of a number or of a truth.
+fn write_value(value: Value, text: &mut String) -> Result<(), AllocError> {
+    match value {
+        Value::Number(number) => number.write_text(text),
+        Value::Bool(true) => text.push_str("true"),
+        Value::Bool(false) => text.push_str("false"),
+        Value::Member(_) => Ok(()),
+    }
 }
 
 /// Puts the value that was read, or why there is none.
@@ -127,16 +127,12 @@ fn put_answer(answer: Result<Value, OperationFault>, line: &mut Line) -> Result<
     ensures { OnOk result (KeepsReading line.old line.new) }
 {
     match answer {
-        Ok(Value::Number(number)) => {
-            number.write_text(&mut line.value)?;
-            line.is_bare = !line.value.as_bytes().contains(&b'/');
+        Ok(value) => {
+            let may_be = may_be_bare(&value);
+            write_value(value, &mut line.value)?;
+            line.is_bare = is_bare(may_be, line.value.as_str());
             Ok(())
         }
-        Ok(Value::Bool(truth)) => {
-            line.is_bare = true;
-            line.value.push_str(word_of(truth))
-        }
-        Ok(Value::Member(_)) => Ok(()),
         Err(fault) => {
             line.fault = fault_name(fault);
             Ok(())

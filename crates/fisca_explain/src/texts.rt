@@ -5,6 +5,7 @@ ghost use Rattle.fisca_explain.specs.LineTexts.{source_text, told_text};
 ghost use Rattle.fisca_time.specs.PeriodText.{date_text};
 
 use fisca_folder::write_shown;
+use fisca_model::Value;
 use fisca_symbols::SourceText;
 use fisca_time::Instant;
 use std::alloc::{AllocError, Global};
@@ -45,4 +46,17 @@ pub(crate) fn write_date(alloc: Global, date: Instant, text: &mut String) -> Res
 {
     let written = date_text(alloc, date)?;
     text.push_str(written.as_str())
+}
+
+/// Whether the text of a value may stand without quotes in JSON: not that of a member of an Enum.
+pub(crate) fn may_be_bare(value: &Value) -> bool {
+    match value {
+        Value::Number(_) | Value::Bool(_) => true,
+        Value::Member(_) => false,
+    }
+}
+
+/// Whether a text that may stand without quotes does: not a fraction.
+pub(crate) fn is_bare(may_be: bool, text: &str) -> bool {
+    may_be && !text.as_bytes().contains(&b'/')
 }

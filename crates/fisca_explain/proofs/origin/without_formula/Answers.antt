@@ -15,7 +15,7 @@ returns-then-is_marked c =
       (c.args.variable.now, _, c.requires.variable, default, of_default (simulation c.args.simulation.now) (key_seen c.args.key.now) c.args.variable.now c.requires.variable c.requires.input c.requires.formula _ default),
     )
 
-pub returns-else-is_marked : goal.returns-then-not-is_marked
+pub returns-else-is_marked : goal.returns-else-is_marked
 returns-else-is_marked c =
     let default = sym c.in-Some.ensures in (
       sym c.is_marked.ensures ∙ c.if-is_marked.false,

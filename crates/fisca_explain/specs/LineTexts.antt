@@ -134,17 +134,10 @@ told_cells form l =
     cell_at form 12 (quoted (string_bytes l.unit)) ++ (cell_at form 13 (quoted (string_bytes l.label)) ++ cell_at form 14 (quoted (string_bytes l.reference)))
 
 -- the names of the cells
-abbrev pub subject_names : List (List ℕ)
-subject_names = codes "depth" ∷ codes "kind" ∷ codes "name" ∷ codes "member" ∷ codes "period" ∷ codes "base" ∷ []
-
-abbrev pub answer_names : List (List ℕ)
-answer_names = codes "value" ∷ codes "fault" ∷ codes "source" ∷ codes "since" ∷ codes "file" ∷ codes "line" ∷ []
-
-abbrev pub told_names : List (List ℕ)
-told_names = codes "unit" ∷ codes "label" ∷ codes "reference" ∷ []
-
 abbrev pub explain_names : List (List ℕ)
-explain_names = subject_names ++ (answer_names ++ told_names)
+explain_names =
+    codes "depth" ∷ codes "kind" ∷ codes "name" ∷ codes "member" ∷ codes "period" ∷ codes "base" ∷ codes "value" ∷ codes "fault" ∷ codes "source" ∷ codes "since" ∷ codes "file"
+    ∷ codes "line" ∷ codes "unit" ∷ codes "label" ∷ codes "reference" ∷ []
 
 abbrev pub cells_text : Form → Line → List ℕ
 cells_text form l = subject_cells form l ++ (answer_cells form l ++ (told_cells form l ++ closing form.format))

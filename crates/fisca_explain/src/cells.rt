@@ -1,62 +1,32 @@
 //! A line of an explanation as cells of a form of lines.
 
-ghost use Rattle.std.specs.Prelude.{◌≡◌, ◌++◌, ◌∷◌, [], IfOk, OnOk, map, string_bytes};
+ghost use Rattle.std.specs.Prelude.{◌≡◌, ◌++◌, IfOk, OnOk, map, string_bytes};
 ghost use Rattle.fisca_explain.specs.LineTexts as spec;
 
 use crate::line::{Kind, Line};
 use fisca_forms::LineForm;
 use std::alloc::{AllocError, Global};
 
-/// Appends a name.
-fn push_name(alloc: Global, name: &str, names: &mut Vec<String>) -> Result<(), AllocError>
-    ensures { OnOk result (map (λ name. string_bytes name) names.new.items ≡ map (λ name. string_bytes name) names.old.items ++ name.now ∷ []) }
-{
-    let name = String::from_str(alloc, name)?;
-    names.push(name)?;
-    Ok(())
-}
-
-/// Appends the names of the cells of what a line is of.
-fn push_subject(alloc: Global, names: &mut Vec<String>) -> Result<(), AllocError>
-    ensures { OnOk result (map (λ name. string_bytes name) names.new.items ≡ map (λ name. string_bytes name) names.old.items ++ spec.subject_names) }
-{
-    push_name(alloc, "depth", names)?;
-    push_name(alloc, "kind", names)?;
-    push_name(alloc, "name", names)?;
-    push_name(alloc, "member", names)?;
-    push_name(alloc, "period", names)?;
-    push_name(alloc, "base", names)
-}
-
-/// Appends the names of the cells of the value, and of where it comes from.
-fn push_answer(alloc: Global, names: &mut Vec<String>) -> Result<(), AllocError>
-    ensures { OnOk result (map (λ name. string_bytes name) names.new.items ≡ map (λ name. string_bytes name) names.old.items ++ spec.answer_names) }
-{
-    push_name(alloc, "value", names)?;
-    push_name(alloc, "fault", names)?;
-    push_name(alloc, "source", names)?;
-    push_name(alloc, "since", names)?;
-    push_name(alloc, "file", names)?;
-    push_name(alloc, "line", names)
-}
-
-/// Appends the names of the cells of what is told.
-fn push_told(alloc: Global, names: &mut Vec<String>) -> Result<(), AllocError>
-    ensures { OnOk result (map (λ name. string_bytes name) names.new.items ≡ map (λ name. string_bytes name) names.old.items ++ spec.told_names) }
-{
-    push_name(alloc, "unit", names)?;
-    push_name(alloc, "label", names)?;
-    push_name(alloc, "reference", names)
-}
-
 /// The names of the cells.
 pub fn explain_names(alloc: Global) -> Result<Vec<String>, AllocError>
     ensures { IfOk result (λ names. map (λ name. string_bytes name) names.items ≡ spec.explain_names) }
 {
     let mut names = Vec::new(alloc);
-    push_subject(alloc, &mut names)?;
-    push_answer(alloc, &mut names)?;
-    push_told(alloc, &mut names)?;
+    names.push(String::from_str(alloc, "depth")?)?;
+    names.push(String::from_str(alloc, "kind")?)?;
+    names.push(String::from_str(alloc, "name")?)?;
+    names.push(String::from_str(alloc, "member")?)?;
+    names.push(String::from_str(alloc, "period")?)?;
+    names.push(String::from_str(alloc, "base")?)?;
+    names.push(String::from_str(alloc, "value")?)?;
+    names.push(String::from_str(alloc, "fault")?)?;
+    names.push(String::from_str(alloc, "source")?)?;
+    names.push(String::from_str(alloc, "since")?)?;
+    names.push(String::from_str(alloc, "file")?)?;
+    names.push(String::from_str(alloc, "line")?)?;
+    names.push(String::from_str(alloc, "unit")?)?;
+    names.push(String::from_str(alloc, "label")?)?;
+    names.push(String::from_str(alloc, "reference")?)?;
     Ok(names)
 }
 

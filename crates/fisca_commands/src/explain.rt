@@ -38,15 +38,15 @@ fn keys_of(
     alloc: Global,
     rules: &RuleSet<'_>,
     situation: &Situation,
-    default: Option<Period>,
+    default: &Option<Period>,
     words: &[String],
 ) -> Result<Vec<Key>, Refusal>
-    ensures ok { IfOk result (λ keys. named rules.now situation.now default words.now ≡ Some keys.items) }
-    ensures err { IfErr result (λ refusal. (refusal ≡ Refusal.Memory) ⊎ ((refusal ≡ Refusal.BadWord) × (named rules.now situation.now default words.now ≡ None))) }
+    ensures ok { IfOk result (λ keys. named rules.now situation.now default.now words.now ≡ Some keys.items) }
+    ensures err { IfErr result (λ refusal. (refusal ≡ Refusal.Memory) ⊎ ((refusal ≡ Refusal.BadWord) × (named rules.now situation.now default.now words.now ≡ None))) }
 {
     let mut keys = Vec::new(alloc);
     'words: for word in words {
-        match read_column(&rules.tables, situation, word.as_str(), default) {
+        match read_column(&rules.tables, situation, word.as_str(), *default) {
             Some(key) => keys.push(key)?,
             None => return Err(Refusal::BadWord),
         }
@@ -119,7 +119,8 @@ pub fn explain_rules<S: RowSink>(
     let tree = read_tree(alloc, text)?;
     rule_sets_are_safe();
     calc_inputs_fit();
-    let named = keys_of(alloc, &rules, &file.situation, default_in(&tree), options.columns)?;
+    let default = default_in(&tree);
+    let named = keys_of(alloc, &rules, &file.situation, &default, options.columns)?;
     let form = form_of(alloc, options.format)?;
     let CalcFile { situation, columns } = file;
     let keys = chosen(columns.as_slice(), named.as_slice());
@@ -133,5 +134,6 @@ pub fn explain_rules<S: RowSink>(
         form: form.as_ref(),
     };
     let (evaluator, end) = explain_columns(alloc, from, &tree, situation, keys, explained, sink);
-    ended(alloc, &rules, evaluator.situation(), end)
+    let situation = evaluator.situation();
+    ended(alloc, &rules, situation, end)
 }

@@ -1,6 +1,7 @@
 -- What `fisca explain` answers and writes.
 use Rattle.std.specs.Prelude.{◌≡◌, ◌⊎◌, ℕ, List, [], ◌∷◌, map, Option, Some, None, Result, Ok, Err, String, string_bytes}
 use Rattle.std.specs.Io.KnownBytes.{Keeps}
+use Rattle.std.specs.declared.alloc.Global.{Global}
 use Rattle.fisca_columns.specs.Columns.{column_of}
 use Rattle.fisca_columns.specs.Steps.Calc.{default_in}
 use Rattle.fisca_explain.specs.Columns.{Explaining, IsExplained}
@@ -40,7 +41,7 @@ chosen c default [] = Some c.asked.columns
 chosen c default (word ∷ words) = keys_named (column_of (known c.rules.tables) c.asked.situation.members default) (word ∷ words)
 
 -- the keys that words name in a situation under a rule set, as these stand in memory
-abbrev pub named : RuleSet → Situation → Option Span → List String → Option (List Key)
+abbrev pub named : RuleSet → Situation → Option Span → List (String Global) → Option (List Key)
 named rules situation default words = keys_named (column_of (known rules.tables) (view situation).members default) (map (λ word. string_bytes word) words)
 
 -- the columns of a file, or keys that are named, if there are any
@@ -64,11 +65,14 @@ IsEndIn rules members (Err (end.Eval fault)) answer = (refusal : Refusal) × (an
 IsEndIn rules members (Err end.Write) answer = answer ≡ Err Write
 IsEndIn rules members (Err end.Memory) answer = answer ≡ Err Memory
 
--- a word names no column, or the columns are explained; or memory was refused before
+-- the columns are explained, and this is answered
+abbrev pub IsExplainedIn : Calculation → Explaining → List Key → Option (List ℕ) → Option (List ℕ) → Result Unit Refusal → Type 0
+IsExplainedIn c x keys old new answer = (told : Result Unit ExplainFault) × IsExplained x (map key_seen keys) old new told × IsEndIn c.rules c.asked.situation.members told answer
+
+-- a word names no column, or the columns are explained
 abbrev pub IsExplainedBy : Calculation → Option (List Key) → Option ℕ → Option Format → Option (List ℕ) → Option (List ℕ) → Result Unit Refusal → Type 0
 IsExplainedBy c None depth format old new answer = (answer ≡ Err BadWord) × Keeps old new
-IsExplainedBy c (Some keys) depth format old new answer =
-    (told : Result Unit ExplainFault) × IsExplained (explaining c depth format) (map key_seen keys) old new told × IsEndIn c.rules c.asked.situation.members told answer
+IsExplainedBy c (Some keys) depth format old new answer = IsExplainedIn c (explaining c depth format) keys old new answer
 
 -- what `explain` answers for these files and this text, and what a sink that held `old` then holds: they are refused and nothing is written, or the columns are
 -- explained in order, up to the first that has no value

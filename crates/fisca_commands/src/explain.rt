@@ -1,8 +1,12 @@
 //! `fisca explain`: how the values of columns came about.
 
 ghost use Rattle.std.specs.Prelude.{◌≡◌, ◌⊎◌, IfErr, IfOk, None, Some, map, string_bytes};
-ghost use Rattle.fisca_commands.specs.Explain.{IsEndIn, IsExplain, form_in, named, picked};
+ghost use Rattle.fisca_columns.specs.Views.{calc};
+ghost use Rattle.fisca_commands.specs.Calc.{simulation_of};
+ghost use Rattle.fisca_commands.specs.Explain.{IsEndIn, IsExplain, IsExplainedIn, form_in, named, picked};
 ghost use Rattle.fisca_explain.specs.Ends.{is_failed_write};
+ghost use Rattle.fisca_explain.specs.Walks.{explaining_by};
+ghost use Rattle.fisca_simulation.specs.Told.{IsReady};
 ghost use Rattle.fisca_rule_files.specs.Refusal.{is_write};
 ghost use Rattle.fisca_situations.specs.Steps.Views.{situation as situation_view};
 ghost use Rattle.fisca_writer.specs.Sink.{CountsFailure};
@@ -20,6 +24,7 @@ use fisca_simulation::rule_sets_are_safe;
 use fisca_situations::Situation;
 use fisca_time::Period;
 use fisca_writer::RowSink;
+use fisca_yaml::Tree;
 use std::alloc::Global;
 
 /// What is explained, and how.
@@ -90,6 +95,28 @@ fn ended(
     }
 }
 
+/// Explains the columns of a file under a rule set, or those that are named, if there are any.
+fn explain_file<S: RowSink>(
+    alloc: Global,
+    from: RuleFiles<'_, '_, '_, '_, '_>,
+    tree: &Tree<'_>,
+    file: CalcFile,
+    named: &[Key],
+    explained: Explained<'_>,
+    sink: &mut S,
+) -> Result<(), Refusal>
+    requires { IsReady (simulation_of (record { rules = from.rules.now; asked = calc file })) }
+    ensures answer { IsExplainedIn (record { rules = from.entry.rules.now; asked = calc file })
+        (explaining_by from.entry.rules.now explained.entry (simulation_of (record { rules = from.entry.rules.now; asked = calc file })))
+        (picked (calc file).columns named.now) (S.taken sink.old) (S.taken sink.new) result }
+    ensures failures { CountsFailure (is_write result) (S.failures sink.old) (S.failures sink.new) }
+{
+    let CalcFile { situation, columns } = file;
+    let keys = chosen(columns.as_slice(), named);
+    let (evaluator, end) = explain_columns(alloc, from, tree, situation, keys, explained, sink);
+    ended(alloc, from.rules, evaluator.situation(), end)
+}
+
 /// Explains the columns of a file under a rule set, or those that words name, one after another: a line for each key, with its value and where that
 /// came from, and below it, in the order in which its formula needs them, each key that it asks for and each parameter that it reads. A key whose
 /// formula was followed above is named alone.
@@ -122,8 +149,6 @@ pub fn explain_rules<S: RowSink>(
     let default = default_in(&tree);
     let named = keys_of(alloc, &rules, &file.situation, &default, options.columns)?;
     let form = form_of(alloc, options.format)?;
-    let CalcFile { situation, columns } = file;
-    let keys = chosen(columns.as_slice(), named.as_slice());
     let from = RuleFiles {
         files,
         modules: modules.as_slice(),
@@ -133,7 +158,5 @@ pub fn explain_rules<S: RowSink>(
         depth: options.depth,
         form: form.as_ref(),
     };
-    let (evaluator, end) = explain_columns(alloc, from, &tree, situation, keys, explained, sink);
-    let situation = evaluator.situation();
-    ended(alloc, &rules, situation, end)
+    explain_file(alloc, from, &tree, file, named.as_slice(), explained, sink)
 }

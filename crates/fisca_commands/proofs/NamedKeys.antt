@@ -50,3 +50,9 @@ chosen_picked c default [] ks e = ap (λ ls. Some (picked c.asked.columns ls)) (
 chosen_picked c default (word ∷ words) ks e =
     e ∙ sym (joined_some (column_of (known c.rules.tables) c.asked.situation.members default) (column_of (known c.rules.tables) c.asked.situation.members default word)
     (keys_named (column_of (known c.rules.tables) c.asked.situation.members default) words) c.asked.columns ks e)
+
+-- where words name none, none is chosen
+pub chosen_none : (c : Calculation) (default : Option Span) (words : List (List ℕ))
+    → keys_named (column_of (known c.rules.tables) c.asked.situation.members default) words ≡ None → chosen c default words ≡ None
+chosen_none c default [] e = cc
+chosen_none c default (word ∷ words) e = e

@@ -127,7 +127,11 @@ def calls():
         "calc of a right input": Call("calc", files, OWNER),
         "calc of a wrong input": Call("calc", files, CASTLE),
         "calc of a chain": Call("calc", files, CHAIN),
+        "explain": Call("explain", files, COLUMNS),
+        "explain of scales": Call("explain", graded(files), PAY),
         "test": Call("test", files, TESTS),
+        "size": Call("size", files, RUN),
+        "list": Call("list", files),
         "check": Call("check", files),
         "check of a scale": Call("check", changed(files, "parameters/wrong.yaml", scale)),
     }
@@ -156,7 +160,7 @@ def words_of(fuzz, call):
     folder, path = fuzz.room / "rules", fuzz.room / "file.yaml"
     common.put(folder, call.rules)
     path.write_text(call.text)
-    return ["check", folder] if call.command == "check" else [call.command, folder, path]
+    return [call.command, folder] if call.command in ("check", "list") else [call.command, folder, path]
 
 
 def rest_of(fuzz, words, out):

@@ -123,6 +123,7 @@ END
       ;;
     'explain -')
       _fisca_words <<'END'
+--reform  Lay the files of a reform's folder over those of the rule set
 --depth   Explain no further than N values below one another
 --format  Write text or jsonl [default: text]
 -h        Print help

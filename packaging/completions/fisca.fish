@@ -82,6 +82,7 @@ complete -c fisca -n '__fisca_at list' -l reform -x -a '(__fish_complete_directo
 complete -c fisca -n '__fisca_at list' -l header -d 'Write a first line with the names of the cells'
 complete -c fisca -n '__fisca_at list' -l format -x -d 'Write lines as tsv, csv or jsonl'
 complete -c fisca -n '__fisca_at list' -s h -l help -d 'Print help'
+complete -c fisca -n '__fisca_at explain' -l reform -x -a '(__fish_complete_directories)' -d 'Lay the files of a reform\'s folder over those of the rule set'
 complete -c fisca -n '__fisca_at explain' -l depth -x -d 'Explain no further than N values below one another'
 complete -c fisca -n '__fisca_at explain' -l format -x -d 'Write text or jsonl [default: text]'
 complete -c fisca -n '__fisca_at explain' -s h -l help -d 'Print help'

@@ -147,9 +147,10 @@ fn run_under<'x>(
 fn own_file<'a>(task: &'a Task<'_>, text: &'a str) -> OwnFile<'a> {
     let (path, place) = match task {
         Task::Check { .. } | Task::List { .. } => ("", Place::Rules),
-        Task::Calc { file, .. } | Task::Explain { file, .. } => (*file, Place::Calc),
+        Task::Calc { file, .. } => (*file, Place::Calc),
         Task::Test { file, .. } => (*file, Place::Test),
         Task::Run { file, .. } | Task::Size { file, .. } => (*file, Place::Run),
+        Task::Explain { file, .. } => (*file, Place::Explain),
         Task::Axes { .. } => ("", Place::Axes),
     };
     OwnFile { path, text, place }

@@ -144,6 +144,7 @@ fn places_of(place: Place, path: &str) -> [Place; 4] {
     match place {
         Place::Rules if path.ends_with(".py") => [Place::Rules, place, place, place],
         Place::Rules => [Place::Yaml, Place::Rules, place, place],
+        Place::Explain => [Place::Calc, Place::Situation, Place::Yaml, Place::Rules],
         Place::Yaml
         | Place::Situation
         | Place::Calc

@@ -6,12 +6,13 @@ pub const STATUSES: &str = "Exit status:
   0  done
   1  a test failed
   2  the command line is wrong
-  3  a rule file, the file of the command, an axis, the condition or the position is refused
+  3  a rule file, the file of the command, an axis, the condition, the position or a column is refused
   4  a value cannot be worked out
   5  a file could not be read, or the output could not be written
   6  out of memory
 
-'fisca help COMMAND' says more of a command.";
+'fisca help COMMAND' says more of a command.
+'fisca help WORD' tells what the word of a refusal means, such as BadIndent, and what to do.";
 
 pub const CHECK_ABOUT: &str = "Check the rule files of a folder";
 

@@ -2,7 +2,7 @@
 
 use fisca_params::{NodeId, NodeKind, ParamTree, SourceFile, is_parameter_path};
 use fisca_time::Instant;
-use fisca_yaml::{Entry, Tree, read};
+use fisca_yaml::{Entry, Tree, YamlKind, read};
 use indexmap::IndexMap;
 use std::alloc::{AllocError, Global};
 
@@ -23,11 +23,13 @@ pub(crate) fn file_trees<'f>(
     let mut trees = Vec::new(alloc);
     for file in files {
         if is_parameter_path(file.path()) {
-            if let Ok(tree) = read(alloc, file.text()) {
-                trees.push(FileTree {
+            match read(alloc, file.text()) {
+                Ok(tree) => trees.push(FileTree {
                     path: file.path(),
                     tree,
-                })?;
+                })?,
+                Err(fault) if fault.kind == YamlKind::Memory => return Err(AllocError),
+                Err(_) => {}
             }
         }
     }

@@ -3,6 +3,7 @@
 
 mod axes;
 mod calc;
+mod explain;
 mod place;
 mod rules;
 mod runs;

@@ -1,6 +1,6 @@
 //! Where a word is told.
 
-use super::{axes, calc, rules, runs, situations, tests, values, yaml};
+use super::{axes, calc, explain, rules, runs, situations, tests, values, yaml};
 
 /// Where a word is told: one word may mean another thing in another place.
 #[derive(Clone, Copy)]
@@ -17,6 +17,8 @@ pub enum Place {
     Test,
     /// Of a file of `fisca run` or `fisca size`.
     Run,
+    /// Of the command line of `fisca explain`.
+    Explain,
     /// Of the command line of `fisca axes`.
     Axes,
     /// Of a value.
@@ -25,7 +27,7 @@ pub enum Place {
 
 impl Place {
     /// All places, in the order in which they are told.
-    pub fn all() -> [Place; 8] {
+    pub fn all() -> [Place; 9] {
         [
             Place::Yaml,
             Place::Rules,
@@ -33,6 +35,7 @@ impl Place {
             Place::Calc,
             Place::Test,
             Place::Run,
+            Place::Explain,
             Place::Axes,
             Place::Value,
         ]
@@ -47,6 +50,7 @@ impl Place {
             Place::Calc => "in a file of fisca calc",
             Place::Test => "in a file of fisca test",
             Place::Run => "in a file of fisca run",
+            Place::Explain => "of fisca explain",
             Place::Axes => "of fisca axes",
             Place::Value => "of a value",
         }
@@ -61,6 +65,7 @@ impl Place {
             Place::Calc => calc::meaning(word),
             Place::Test => tests::meaning(word),
             Place::Run => runs::meaning(word),
+            Place::Explain => explain::meaning(word),
             Place::Axes => axes::meaning(word),
             Place::Value => values::meaning(word),
         }

@@ -96,13 +96,13 @@ fn ended(
 }
 
 /// Explains the columns of a file under a rule set, or those that are named, if there are any.
-fn explain_file<S: RowSink>(
+fn explain_file<'m, 'f, S: RowSink>(
     alloc: Global,
-    from: RuleFiles<'_, '_, '_, '_, '_>,
-    tree: &Tree<'_>,
+    from: RuleFiles<'m, 'f, '_>,
+    tree: &'m Tree<'f>,
     file: CalcFile,
     named: &[Key],
-    explained: Explained<'_>,
+    explained: Explained<'m>,
     sink: &mut S,
 ) -> Result<(), Refusal>
     requires { IsReady (simulation_of (record { rules = from.rules.now; asked = calc file })) }
@@ -130,10 +130,10 @@ fn explain_file<S: RowSink>(
 /// - `Memory` only where memory was refused.
 ///
 /// This project's own rule.
-pub fn explain_rules<S: RowSink>(
+pub fn explain_rules<'x, S: RowSink>(
     alloc: Global,
-    files: &[SourceFile],
-    text: &str,
+    files: &'x [SourceFile],
+    text: &'x str,
     options: &ExplainOptions<'_>,
     sink: &mut S,
 ) -> Result<(), Refusal>

@@ -83,9 +83,9 @@ fn input_of<'t, 'a>(tree: &'t Tree<'a>) -> &'t Tree<'a> {
 }
 
 /// Writes the lines that explain a column that was worked out, and that has no value for this reason, if it has none.
-fn write_column<R: Recall, S: RowSink>(
-    view: &View,
-    evaluator: &Evaluator<'_, '_, R>,
+fn write_column<'x, R: Recall, S: RowSink>(
+    view: &'x View<'_, '_, '_, '_>,
+    evaluator: &'x Evaluator<'_, '_, R>,
     followed: &mut Followed,
     key: &Key,
     fault: &EvalFault,
@@ -111,7 +111,7 @@ fn write_column<R: Recall, S: RowSink>(
 
 /// Works a column out, and writes the lines that explain it. `Eval` behind these where it has no value.
 fn explain_column<R: Recall, S: RowSink>(
-    view: &View,
+    view: &View<'_, '_, '_, '_>,
     evaluator: &mut Evaluator<'_, '_, R>,
     followed: &mut Followed,
     key: &Key,
@@ -145,7 +145,7 @@ fn explain_column<R: Recall, S: RowSink>(
 
 /// Explains columns, one after another.
 fn explain_all<R: Recall, S: RowSink>(
-    view: &View,
+    view: &View<'_, '_, '_, '_>,
     evaluator: &mut Evaluator<'_, '_, R>,
     columns: &[Key],
     sink: &mut S,
@@ -166,13 +166,13 @@ fn explain_all<R: Recall, S: RowSink>(
 
 /// A rule set with the files that it was made of.
 #[derive(Clone, Copy)]
-pub struct RuleFiles<'g, 'm, 'f, 'r, 't> {
+pub struct RuleFiles<'m, 'f, 'r> {
     /// The files.
-    pub files: &'g [SourceFile],
+    pub files: &'f [SourceFile],
     /// Its modules among them, in order of their paths.
     pub modules: &'m [&'f SourceFile],
     /// The rule set.
-    pub rules: &'r RuleSet<'t>,
+    pub rules: &'r RuleSet<'f>,
 }
 
 /// Writes the lines that explain columns of a file, whose tree and situation these are, under a rule set, one after another: each key with its value and what that comes from, and
@@ -184,15 +184,15 @@ pub struct RuleFiles<'g, 'm, 'f, 'r, 't> {
 /// - `Memory` only where memory was refused.
 ///
 /// This project's own rule.
-pub fn explain_columns<'r, 't, S: RowSink>(
+pub fn explain_columns<'m, 'f, 'r, S: RowSink>(
     alloc: Global,
-    from: RuleFiles<'_, '_, '_, 'r, 't>,
-    tree: &Tree<'_>,
+    from: RuleFiles<'m, 'f, 'r>,
+    tree: &'m Tree<'f>,
     situation: Situation,
     columns: &[Key],
-    explained: Explained<'_>,
+    explained: Explained<'m>,
     sink: &mut S,
-) -> (Evaluator<'r, 't, IndexRecall>, Result<(), ExplainFault>)
+) -> (Evaluator<'r, 'f, IndexRecall>, Result<(), ExplainFault>)
     requires ready { IsReady (record { rules = rule_set from.rules.now; situation = situation_view situation; neutral = [] }) }
     ensures failures { CountsFailure (is_failed_write result.1) (S.failures sink.old) (S.failures sink.new) }
     ensures same { simulation_of result.0 ≡ record { rules = rule_set from.entry.rules.now; situation = situation_view situation; neutral = [] } }
@@ -211,7 +211,7 @@ pub fn explain_columns<'r, 't, S: RowSink>(
         alloc,
         rules: from.rules,
         modules: from.modules,
-        parameters: &parameters,
+        parameters,
         stated: StatedInputs {
             tree: input_of(tree),
             default: default_in(tree),

@@ -48,7 +48,7 @@ fn member_at<'s>(tables: &Tables<'_>, situation: &'s Situation, key: &Key) -> &'
 }
 
 /// The name of a key's variable, and nothing where there is none.
-fn variable_text(view: &View, key: &Key) -> Result<String, AllocError>
+fn variable_text(view: &View<'_, '_, '_, '_>, key: &Key) -> Result<String, AllocError>
     ensures { IfOk result (λ text. string_bytes text ≡ source_text (name_of (slice_get (known view.now.rules.now.tables).variables key.now.variable))) }
 {
     let mut text = String::new(view.alloc);
@@ -62,7 +62,7 @@ fn variable_text(view: &View, key: &Key) -> Result<String, AllocError>
 
 /// The name of a key's member, and nothing where there is none.
 fn member_text(
-    view: &View,
+    view: &View<'_, '_, '_, '_>,
     situation: &Situation,
     key: &Key,
 ) -> Result<String, AllocError>
@@ -78,7 +78,7 @@ fn member_text(
 }
 
 /// A period.
-fn period_text(view: &View, period: Period) -> Result<String, AllocError>
+fn period_text(view: &View<'_, '_, '_, '_>, period: Period) -> Result<String, AllocError>
     ensures { IfOk result (λ text. string_bytes text ≡ period_text period) }
 {
     match period.text(view.alloc) {
@@ -89,7 +89,7 @@ fn period_text(view: &View, period: Period) -> Result<String, AllocError>
 
 /// Puts the names of a key's variable and of its member, and its period.
 fn put_key(
-    view: &View,
+    view: &View<'_, '_, '_, '_>,
     situation: &Situation,
     key: &Key,
     line: &mut Line,
@@ -105,7 +105,7 @@ fn put_key(
 
 /// Puts what is told of a variable, beside its unit.
 fn put_told(
-    view: &View,
+    view: &View<'_, '_, '_, '_>,
     declaration: &Declaration<'_>,
     line: &mut Line,
 ) -> Result<(), AllocError>
@@ -132,7 +132,7 @@ fn formula_line(declaration: &Declaration<'_>, start: Instant) -> Option<usize> 
 
 /// Appends the path of the module at a place.
 fn write_module(
-    view: &View,
+    view: &View<'_, '_, '_, '_>,
     module: usize,
     text: &mut String,
 ) -> Result<(), AllocError> {
@@ -144,7 +144,7 @@ fn write_module(
 
 /// Puts where the formula in force stands, and from when on it is.
 fn put_formula(
-    view: &View,
+    view: &View<'_, '_, '_, '_>,
     declaration: &Declaration<'_>,
     key: &Key,
     line: &mut Line,
@@ -166,7 +166,7 @@ fn put_formula(
 
 /// Puts where an input stands: given at the key's period, or shared from a longer one; a default where it is stated nowhere.
 fn put_input(
-    view: &View,
+    view: &View<'_, '_, '_, '_>,
     situation: &Situation,
     key: &Key,
     line: &mut Line,
@@ -199,7 +199,7 @@ fn source_of(origin: &Origin<'_, '_>) -> Source {
 
 /// Puts what the value of a key comes from.
 fn put_origin(
-    view: &View,
+    view: &View<'_, '_, '_, '_>,
     situation: &Situation,
     key: &Key,
     declaration: &Declaration<'_>,
@@ -217,7 +217,7 @@ fn put_origin(
 }
 
 /// The value of a key.
-fn value_text(view: &View, key: &Key, value: Value) -> Result<String, AllocError>
+fn value_text(view: &View<'_, '_, '_, '_>, key: &Key, value: Value) -> Result<String, AllocError>
     ensures { IfOk result (λ text. string_bytes text ≡ value_text (known view.now.rules.now.tables) key.now.variable value) }
 {
     let mut text = String::new(view.alloc);
@@ -233,7 +233,7 @@ fn value_text(view: &View, key: &Key, value: Value) -> Result<String, AllocError
 
 /// Puts the value of a key, or why there is none.
 fn put_answer(
-    view: &View,
+    view: &View<'_, '_, '_, '_>,
     key: &Key,
     answer: Result<Value, EvalFault>,
     line: &mut Line,
@@ -259,7 +259,7 @@ fn put_answer(
 
 /// The line of a key with its names and its value alone, as one that was explained above has it.
 fn line_above(
-    view: &View,
+    view: &View<'_, '_, '_, '_>,
     situation: &Situation,
     depth: usize,
     key: &Key,
@@ -276,7 +276,7 @@ fn line_above(
 
 /// Puts what the value of a key comes from, and what is told of its variable, where it is said what it comes from.
 fn put_source(
-    view: &View,
+    view: &View<'_, '_, '_, '_>,
     situation: &Situation,
     key: &Key,
     declaration: &Declaration<'_>,
@@ -297,7 +297,7 @@ fn put_source(
 
 /// The line of a key: its names, its value, what that comes from, and what is told of its variable. One that was explained above says so alone.
 pub(crate) fn line_of_key(
-    view: &View,
+    view: &View<'_, '_, '_, '_>,
     situation: &Situation,
     depth: usize,
     key: &Key,

@@ -63,7 +63,7 @@ fn write_if_none(said: Option<&str>, text: &mut String) -> Result<(), AllocError
 
 /// Puts the value of a parameter in force, and where it stands.
 fn put_value(
-    view: &View,
+    view: &View<'_, '_, '_, '_>,
     place: &ParameterPlace<'_, '_>,
     day: Instant,
     line: &mut Line,
@@ -86,7 +86,7 @@ fn put_value(
 
 /// Puts where a parameter or a scale stands, and what is told of it.
 fn put_place(
-    view: &View,
+    view: &View<'_, '_, '_, '_>,
     place: &ParameterPlace<'_, '_>,
     day: Instant,
     line: &mut Line,
@@ -142,7 +142,7 @@ fn put_answer(answer: Result<Value, OperationFault>, line: &mut Line) -> Result<
 
 /// The line of what a formula read, without where that stands.
 fn line_of_answer(
-    view: &View,
+    view: &View<'_, '_, '_, '_>,
     depth: usize,
     reading: &Reading,
 ) -> Result<Line, AllocError>
@@ -167,7 +167,7 @@ fn line_of_answer(
 
 /// The line of what a formula read.
 pub(crate) fn line_of_reading(
-    view: &View,
+    view: &View<'_, '_, '_, '_>,
     depth: usize,
     reading: &Reading,
 ) -> Result<Line, AllocError>

@@ -62,20 +62,18 @@ impl From<AllocError> for LinesFault {
 /// A column that is explained: what explanations are made of, the situation, what is remembered of it, and why the column has no value; for want of
 /// memory where it has one.
 #[derive(Drop)]
-pub(crate) struct Walk<'v, 'm, 'f, 'r, 't, 'p, 'q, 'g, 'i, 'a, 'o, 's, R> {
+pub(crate) struct Walk<'e, 's, 'q, 'f, 'r, R> {
     /// What explanations are made of.
-    pub(crate) view: &'v View<'m, 'f, 'r, 't, 'p, 'q, 'g, 'i, 'a, 'o>,
+    pub(crate) view: &'e View<'s, 'q, 'f, 'r>,
     /// The situation.
-    pub(crate) situation: &'s Situation,
+    pub(crate) situation: &'e Situation,
     /// What is remembered.
-    pub(crate) recall: &'s R,
+    pub(crate) recall: &'e R,
     /// Why the column has no value.
     pub(crate) fault: EvalFault,
 }
 
-impl<'v, 'm, 'f, 'r, 't, 'p, 'q, 'g, 'i, 'a, 'o, 's, R: Recall>
-    Walk<'v, 'm, 'f, 'r, 't, 'p, 'q, 'g, 'i, 'a, 'o, 's, R>
-{
+impl<'e, 's, 'q, 'f, 'r, R: Recall> Walk<'e, 's, 'q, 'f, 'r, R> {
     /// The text of a line.
     fn text_of(&self, line: &Line) -> Result<String, AllocError>
         ensures { IfOk result (λ text. string_bytes text ≡ written (form_in self.now) line.now) }
@@ -106,7 +104,7 @@ impl<'v, 'm, 'f, 'r, 't, 'p, 'q, 'g, 'i, 'a, 'o, 's, R: Recall>
     }
 
     /// The values of keys below so many others.
-    fn below(&self, depth: usize) -> Below<'r, 't, 's, R>
+    fn below(&self, depth: usize) -> Below<'r, 'f, 'e, R>
         ensures { result.left ≡ 100 - depth }
     {
         Below {

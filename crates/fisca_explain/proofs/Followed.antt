@@ -1,5 +1,5 @@
 -- What a formula that is followed over memory tells is what its key needs.
-use Rattle.std.proofs.Common.{◌≡◌, ℕ, List, Bool, Option, Some, ap, subst, sym}
+use Rattle.std.proofs.Common.{◌≡◌, ◌∙◌, ◌++◌, [], ℕ, List, Bool, false, Option, Some, Result, Ok, Err, ap, subst, sym}
 use Rattle.fisca_check.specs.Formulas.{formula_view}
 use Rattle.fisca_check.specs.declared.formula.TypedFormula.{TypedFormula}
 use Rattle.fisca_groups.specs.Grouped.{grouped}
@@ -7,6 +7,7 @@ use Rattle.fisca_inputs.specs.Typed.{IsValueOf}
 use Rattle.fisca_memo_theory.specs.Entries.{Entries}
 use Rattle.fisca_memo_theory.specs.Memory.{IsTrueMemory}
 use Rattle.fisca_model.specs.Values.{Key}
+use Rattle.fisca_model.specs.declared.value.Value.{Value as Given}
 use Rattle.fisca_ops.specs.Casts.{cast}
 use Rattle.fisca_rules.specs.Rules.{known_by}
 use Rattle.fisca_rules.specs.Views.{rule_set}
@@ -21,8 +22,12 @@ use Rattle.fisca_symbols.specs.Known.{tables}
 use Rattle.fisca_symbols.specs.declared.variable.Variable.{Variable}
 use Rattle.fisca_following.specs.Meaning.{noted_formula}
 use Rattle.fisca_following.specs.Noted.{Noted, behind, unread}
-use Rattle.fisca_following.specs.Played.{Moves}
+use Rattle.fisca_following.specs.Played.{Moves, Played, Plays}
+use Rattle.fisca_following.specs.declared.note.Halted.{Halted}
+use Rattle.fisca_following.specs.declared.note.Halted.TheVariants as halted
+use Rattle.fisca_following.specs.declared.note.Note.{Note}
 use Rattle.fisca_explain.specs.Below.{answers_by}
+use Rattle.fisca_explain.specs.Ends.{is_wanting}
 use Rattle.fisca_explain.specs.Needs.{noted_work}
 use Rattle.fisca_explain.proofs.Moving.{answers_typed, never_stuck, work_same}
 
@@ -46,3 +51,10 @@ module _ (r : RuleSet) (s : Situation) (neutral : List Bool) (v : Variable) (k :
 
     pub told_moves : Moves (answers_by (sources m) entries left) told
     told_moves = subst (Moves (answers_by (sources m) entries left)) (sym told_work) work_moves
+
+-- what is noted up to the end, where nothing was noted before
+pub notes_played : (r : Result Given Halted) (old new : List Note) (p : Played) → is_wanting r ≡ false → Plays r old new p → old ≡ [] → new ≡ p.notes
+notes_played (Ok v) old new p told plays none = plays.1 ∙ ap (λ ns. ns ++ p.notes) none
+notes_played (Err (halted.Fault e)) old new p told plays none = plays.1 ∙ ap (λ ns. ns ++ p.notes) none
+notes_played (Err halted.Unanswered) old new p told plays none = plays.1 ∙ ap (λ ns. ns ++ p.notes) none
+notes_played (Err halted.Memory) old new p told plays none = cc

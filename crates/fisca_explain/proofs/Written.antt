@@ -1,9 +1,17 @@
 -- Lines that are written one behind another.
-use Rattle.std.proofs.Common.{◌≡◌, ◌∙◌, ◌++◌, ◌∷◌, [], ℕ, List, Option, ap, append_assoc, refl, subst, sym}
+use Rattle.std.proofs.Common.{◌≡◌, ◌∙◌, ◌++◌, ◌∷◌, [], ℕ, List, Option, Some, None, Result, Ok, Err, option_map, ap, append_assoc, refl, subst, sym}
 use Rattle.std.specs.Io.KnownBytes.{Appends}
 use Rattle.fisca_forms.specs.LineForms.{Form}
 use Rattle.fisca_writer.proofs.Grown.{trans}
-use Rattle.fisca_explain.specs.Explained.{Entry}
+use Rattle.fisca_explanation.specs.Explanations.{Reason}
+use Rattle.fisca_groups.specs.declared.entity_members.EntityMembers.{EntityMembers}
+use Rattle.fisca_model.specs.Seen.{value_seen}
+use Rattle.fisca_model.specs.Tables.{Tables}
+use Rattle.fisca_model.specs.Values.{Key}
+use Rattle.fisca_model.specs.declared.eval_fault.EvalFault.{EvalFault}
+use Rattle.fisca_model.specs.declared.value.Value.{Value as Given}
+use Rattle.fisca_explain.specs.Explained.{Entry, of_key}
+use Rattle.fisca_explain.specs.Lines.{fault_in, value_in}
 use Rattle.fisca_explain.specs.Says.{AreLines, Names, Says, written}
 use Rattle.fisca_explain.specs.declared.line.Line.{Line}
 
@@ -25,3 +33,18 @@ module _ (n : Names) (form : Option Form) where
   -- entries, and more behind them
   pub written_more : (xs ys : List Entry) (old mid new : Option (List ℕ)) → IsWritten xs old mid → IsWritten ys mid new → IsWritten (xs ++ ys) old new
   written_more xs ys old mid new a b = (a.0 ++ b.0, lines_append n form xs ys a.0 b.0 a.1 b.1, trans old mid new a.0 b.0 a.2 b.2)
+
+-- the value of a key, or why it has none
+abbrev pub answer_of : EvalFault → Option Given → Result Given EvalFault
+answer_of fault None = Err fault
+answer_of fault (Some v) = Ok v
+
+-- what has a value has no fault, whatever its column has
+pub says_answer : (t : Tables) (members : List EntityMembers) (fault : EvalFault) (depth : ℕ) (k : Key) (value : Option Given) (answer : Result Given EvalFault) (reason : Reason) (l : Line)
+    → answer ≡ answer_of fault value
+    → Says (record { tables = t; members = members; fault = fault_in answer }) (of_key depth k (option_map value_seen (value_in answer)) reason) l
+    → Says (record { tables = t; members = members; fault = fault }) (of_key depth k (option_map value_seen value) reason) l
+says_answer t members fault depth k None answer reason l is says =
+    subst (λ a. Says (record { tables = t; members = members; fault = fault_in a }) (of_key depth k (option_map value_seen (value_in a)) reason) l) is says
+says_answer t members fault depth k (Some v) answer reason l is says =
+    subst (λ a. Says (record { tables = t; members = members; fault = fault_in a }) (of_key depth k (option_map value_seen (value_in a)) reason) l) is says

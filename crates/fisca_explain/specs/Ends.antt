@@ -1,5 +1,7 @@
 -- Why lines end: whether the sink failed.
 use Rattle.std.specs.Prelude.{Bool, true, false, Result, Ok, Err}
+use Rattle.fisca_following.specs.declared.note.Halted.{Halted}
+use Rattle.fisca_following.specs.declared.note.Halted.TheVariants as halted
 use Rattle.fisca_explain.specs.declared.explain.ExplainFault.{ExplainFault}
 use Rattle.fisca_explain.specs.declared.explain.ExplainFault.TheVariants as end
 use Rattle.fisca_explain.specs.declared.walk.LinesFault.{LinesFault}
@@ -15,3 +17,10 @@ is_failed_write (Ok x) = false
 is_failed_write (Err (end.Eval fault)) = false
 is_failed_write (Err end.Write) = true
 is_failed_write (Err end.Memory) = false
+
+-- a formula that was followed ended for want of memory
+abbrev pub is_wanting : {X : Type 0} → Result X Halted → Bool
+is_wanting (Ok x) = false
+is_wanting (Err (halted.Fault e)) = false
+is_wanting (Err halted.Unanswered) = false
+is_wanting (Err halted.Memory) = true

@@ -1,10 +1,10 @@
 //! Keys, each with what its formula needs below it.
 
-ghost use Rattle.std.specs.Prelude.{◌≡◌, ◌≤◌, ◌-◌, ◌==◌, ◌∷◌, [], suc, List, None, Some, IfErr, IfOk, OnOk, option_map, string_bytes};
+ghost use Rattle.std.specs.Prelude.{◌≡◌, ◌≤◌, ◌<◌, ◌-◌, ◌==◌, ◌∷◌, [], suc, List, None, Some, IfErr, IfOk, OnOk, option_map, string_bytes};
 ghost use Rattle.std.specs.Io.KnownBytes.{Appends};
 ghost use Rattle.fisca_check.specs.Formulas.{formula_view};
 ghost use Rattle.fisca_explain.specs.Columns.{levels_of};
-ghost use Rattle.fisca_explain.specs.Ends.{is_write};
+ghost use Rattle.fisca_explain.specs.Ends.{is_wanting, is_write};
 ghost use Rattle.fisca_explain.specs.Explained.{of_key, of_reading};
 ghost use Rattle.fisca_explain.specs.Followed.{HasJust};
 ghost use Rattle.fisca_explain.specs.Needs.{by_formula};
@@ -14,6 +14,7 @@ ghost use Rattle.fisca_explanation.specs.Explanations.{Reason, above};
 ghost use Rattle.fisca_model.specs.Seen.{key_seen, value_seen};
 ghost use Rattle.fisca_model.specs.Values as meaning;
 ghost use Rattle.fisca_simulation.specs.Simulations.{formula_of, variable_of};
+ghost use Rattle.fisca_simulation.specs.Views.{simulation as simulation_view};
 ghost use Rattle.fisca_writer.specs.Sink.{CountsFailure};
 
 use crate::below::Below;
@@ -56,6 +57,16 @@ impl From<AllocError> for LinesFault {
 
     fn from(_error: AllocError) -> LinesFault {
         LinesFault::Memory
+    }
+}
+
+/// Whether a formula ended for want of memory.
+fn wants_memory(end: &Result<Value, Halted>) -> bool
+    ensures { result ≡ is_wanting end.now }
+{
+    match end {
+        Ok(_) | Err(Halted::Fault(_)) | Err(Halted::Unanswered) => false,
+        Err(Halted::Memory) => true,
     }
 }
 
@@ -105,7 +116,9 @@ impl<'e, 's, 'q, 'f, 'r, R: Recall> Walk<'e, 's, 'q, 'f, 'r, R> {
 
     /// The values of keys below so many others.
     fn below(&self, depth: usize) -> Below<'r, 'f, 'e, R>
-        ensures { result.left ≡ 100 - depth }
+        ensures left { result.left ≡ 100 - depth }
+        ensures simulation { simulation_view result.simulation ≡ simulation_in self.now }
+        ensures recall { result.recall.now ≡ self.now.recall.now }
     {
         Below {
             simulation: Simulation {
@@ -171,6 +184,7 @@ impl<'e, 's, 'q, 'f, 'r, R: Recall> Walk<'e, 's, 'q, 'f, 'r, R> {
         formula: &'r TypedFormula,
     ) -> Result<Notes, LinesFault>
         requires walk { CanWalk (R.find self.now.recall.now) (simulation_in self.now) }
+        requires depth { depth < 100 }
         requires variable { variable_of (simulation_in self.now).rules (key_seen key.now) ≡ Some variable.now }
         requires formula { formula_of (simulation_in self.now).rules (simulation_in self.now).neutral variable.now (key_seen key.now) ≡ Some (formula_view formula.now) }
         ensures notes { IfOk result (λ notes. notes ≡ by_formula (simulation_in self.now) (answers_in (R.find self.now.recall.now) self.now (suc depth)) variable.now (key_seen key.now) (Some (formula_view formula.now))) }
@@ -191,10 +205,11 @@ impl<'e, 's, 'q, 'f, 'r, R: Recall> Walk<'e, 's, 'q, 'f, 'r, R> {
                 period: key.period,
             },
         };
-        match follower.follow(&formula.result, variable.value_type, &mut notes) {
-            Err(Halted::Memory) => Err(LinesFault::Memory),
-            Ok(_) | Err(_) => Ok(notes),
+        let end = follower.follow(&formula.result, variable.value_type, &mut notes);
+        if wants_memory(&end) {
+            return Err(LinesFault::Memory);
         }
+        Ok(notes)
     }
 
     /// Explains a key below so many others: its line, and where its formula was not followed before, what that needs, in order.

@@ -1,4 +1,4 @@
-use Rattle.std.proofs.Common.{option_map}
+use Rattle.std.proofs.Common.{[], option_map}
 use Rattle.fisca_model.specs.Seen.{key_seen, value_seen}
 use Rattle.fisca_symbols.specs.Known.{tables as known}
 use Rattle.fisca_explain.specs.Lines.{fault_in, names_at, value_in}
@@ -12,4 +12,4 @@ returns-clause-says c =
     let v = option_map value_seen (value_in c.args.answer) in
     says_made n c.args.depth k v c.new-line.result c.put_key.new.line c.put_answer.new.line c.in_ok-put_key.ensures.others c.in_ok-put_answer.ensures.others
     c.new-line.ensures.of.1 c.new-line.ensures.of.0 c.in_ok-put_key.ensures.key
-    (answer_among (known c.args.view.now.rules.now.tables) _ n.members (fault_in c.args.answer) k.variable v c.put_answer.new.line c.in_ok-put_answer.ensures.answer)
+    (answer_among (known c.args.view.now.rules.now.tables) [] n.members (fault_in c.args.answer) k.variable v c.put_answer.new.line c.in_ok-put_answer.ensures.answer)

@@ -11,8 +11,8 @@ returns-in-None c reason none =
     says_as_it_is n c.args.depth (key_seen c.args.key.now) (option_map value_seen (value_in c.args.answer)) line c.in_ok-line.ensures.says reason
     (any_reason c.args.origin line reason none (λ _. c.in_ok-line.ensures.source))
 
-pub returns-in-Some : goal.returns-in-Some
-returns-in-Some c reason none =
+pub returns-in_ok-put_source-in-Some : goal.returns-in_ok-put_source-in-Some
+returns-in_ok-put_source-in-Some c reason none =
     let n = names_at c.args.view.now c.args.situation.now (fault_in c.args.answer) in
-    says_still n c.args.depth (key_seen c.args.key.now) (option_map value_seen (value_in c.args.answer)) _ c.put_source.new.line c.in_ok-put_source.ensures.key c.in_ok-line.ensures.says reason
-    (any_reason c.args.origin c.put_source.new.line reason none (λ is. c.in_ok-put_source.ensures.above is ∙ c.in_ok-line.ensures.source))
+    says_still n c.args.depth (key_seen c.args.key.now) (option_map value_seen (value_in c.args.answer)) _ _ c.in_ok-put_source-in-Some.ensures.key c.in_ok-line.ensures.says reason
+    (any_reason c.args.origin _ reason none (λ is. c.in_ok-put_source-in-Some.ensures.above is ∙ c.in_ok-line.ensures.source))

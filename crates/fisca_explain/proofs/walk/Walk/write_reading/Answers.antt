@@ -1,4 +1,4 @@
-use Rattle.std.proofs.lemmas.Result.{on_ok_then}
+use Rattle.std.proofs.lemmas.Result.{on_ok_weaker}
 use Rattle.fisca_explain.specs.Explained.{of_reading}
 use Rattle.fisca_explain.specs.Says.{written}
 use Rattle.fisca_explain.specs.Walks.{form_in, names_in}
@@ -10,5 +10,5 @@ returns-clause-line g c =
     let n = names_in c.args.self.now in
     let form = form_in c.args.self.now in
     let line = c.in_ok-line.line in
-    on_ok_then c.write.result c.write.ensures.ok
-    (λ appended. (written form line, line_alone n form (of_reading c.args.depth c.args.reading.now) line (c.in_ok-line.ensures n), appended))
+    on_ok_weaker c.write.result
+    (λ appended. (written form line, line_alone n form (of_reading c.args.depth c.args.reading.now) line (c.in_ok-line.ensures n), appended)) c.write.ensures.ok

@@ -13,7 +13,7 @@ use Rattle.fisca_model.specs.declared.value.Value.TheVariants as given
 use Rattle.fisca_simulation.specs.Told.{value_of}
 use Rattle.fisca_explain.specs.Explained.{of_key}
 use Rattle.fisca_explain.specs.Lines.{KeepsKey, fault_in, value_in}
-use Rattle.fisca_explain.specs.Says.{HasAnswer, IfAbove, Names, NamesKey, Says}
+use Rattle.fisca_explain.specs.Says.{AreAnswer, HasAnswer, IfAbove, Names, NamesKey, Says}
 use Rattle.fisca_explain.specs.declared.line.Kind.TheVariants as kind
 use Rattle.fisca_explain.specs.declared.line.Line.{Line}
 use Rattle.fisca_explain.specs.declared.line.Source.TheVariants as source
@@ -68,11 +68,11 @@ seen_back (given.Number n) = refl
 seen_back (given.Bool b) = refl
 seen_back (given.Member i) = refl
 
-module _ (t : Tables) (a : List EntityMembers) (variable : ℕ) (r : Result Given EvalFault) (l : Line) where
-  pub value_put : (v : Given) → r ≡ Ok v → l.fault.now ≡ [] → string_bytes l.value ≡ value_text t variable v
-      → HasAnswer (record { tables = t; members = a; fault = fault_in r }) variable (option_map value_seen (value_in r)) l
-  value_put v is fault text = rw is (fault, text ∙ ap (value_text t variable) (sym (seen_back v)))
+module _ (t : Tables) (a : List EntityMembers) (variable : ℕ) (r : Result Given EvalFault) (fault value : List ℕ) where
+  pub value_put : (v : Given) → r ≡ Ok v → fault ≡ [] → value ≡ value_text t variable v
+      → AreAnswer (record { tables = t; members = a; fault = fault_in r }) variable (option_map value_seen (value_in r)) fault value
+  value_put v is none text = rw is (none, text ∙ ap (value_text t variable) (sym (seen_back v)))
 
-  pub fault_put : (e : EvalFault) → r ≡ Err e → l.fault.now ≡ fault_name e → string_bytes l.value ≡ []
-      → HasAnswer (record { tables = t; members = a; fault = fault_in r }) variable (option_map value_seen (value_in r)) l
-  fault_put e is fault text = rw is (fault, text)
+  pub fault_put : (e : EvalFault) → r ≡ Err e → fault ≡ fault_name e → value ≡ []
+      → AreAnswer (record { tables = t; members = a; fault = fault_in r }) variable (option_map value_seen (value_in r)) fault value
+  fault_put e is named none = rw is (named, none)

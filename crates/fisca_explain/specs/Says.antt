@@ -25,10 +25,14 @@ pub record Names : Type 0 where
   pub members : List EntityMembers
   pub fault : EvalFault
 
--- the line has the value of a variable, or why there is none
+-- texts of the value of a variable, or of why there is none
+abbrev pub AreAnswer : Names → ℕ → Option Value → List ℕ → List ℕ → Type 0
+AreAnswer n variable None fault value = (fault ≡ fault_name n.fault) × (value ≡ [])
+AreAnswer n variable (Some v) fault value = (fault ≡ []) × (value ≡ value_text n.tables variable (value_of v))
+
+-- the line has one
 abbrev pub HasAnswer : Names → ℕ → Option Value → Line → Type 0
-HasAnswer n variable None l = (l.fault.now ≡ fault_name n.fault) × (string_bytes l.value ≡ [])
-HasAnswer n variable (Some v) l = (l.fault.now ≡ []) × (string_bytes l.value ≡ value_text n.tables variable (value_of v))
+HasAnswer n variable v l = AreAnswer n variable v l.fault.now (string_bytes l.value)
 
 -- the line names the key
 abbrev pub NamesKey : Names → Key → Line → Type 0

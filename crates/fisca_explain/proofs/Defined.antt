@@ -146,10 +146,10 @@ module _ (r : RuleSet) (s : Situation) (neutral : List Bool) where
         same : W depth key ≡ value_below m depth key
         same = here depth key all
 
-        abbrev tell : List Key → Key → Told
+        tell : List Key → Key → Told
         tell = explained (sources m) W (needs m W) n (suc depth)
 
-        abbrev say : List Key → Key → Told
+        say : List Key → Key → Told
         say = explained (sources m) (value_below m) (needs m (value_below m)) n (suc depth)
 
         by : ((b : List Key) (j : Key) → HasWork (suc depth) j → tell b j ≡ say b j) → (s : Source) → sources m key ≡ s

@@ -6,6 +6,7 @@ mod Calculated
 mod Came
 mod Counting
 mod Endings
+mod ExplainedBy
 mod First
 pub mod Fitting
 mod Gone

@@ -1,5 +1,6 @@
 -- The keys that words name, one after another.
-use Rattle.std.proofs.Common.{◌≡◌, ℕ, List, [], ◌∷◌, ◌++◌, Option, Some, None, refl, ap, ap₂, sym, ◌∙◌}
+use Rattle.std.proofs.Common.{◌≡◌, ◌<◌, ◌+◌, ℕ, List, [], ◌∷◌, ◌++◌, length, map, get_or, take, drop, Option, Some, None, refl, ap, sym, ◌∙◌}
+use Rattle.std.proofs.lemmas.List.{drop_more, map-append, take-append-drop, take_more}
 use Rattle.fisca_model.specs.declared.key.Key.{Key}
 use Rattle.fisca_columns.specs.Columns.{column_of}
 use Rattle.fisca_symbols.specs.Known.{tables as known}
@@ -31,6 +32,22 @@ module _ (key_of : List ℕ → Option Key) where
   pub named_none : (xs : List (List ℕ)) (word : List ℕ) (ys : List (List ℕ)) → key_of word ≡ None → keys_named key_of (xs ++ word ∷ ys) ≡ None
   named_none [] word ys is = ap (λ o. joined o (keys_named key_of ys)) is
   named_none (x ∷ xs) word ys is = ap (joined (key_of x)) (named_none xs word ys is) ∙ none_joined (key_of x)
+
+  -- the same of the words of a list, each a text, where a word stands at a place
+  module _ {X : Type 0} (text : X → List ℕ) (words : List X) (i : ℕ) (word : X) (inside : i < length words) (here : word ≡ get_or words i word) where
+    pub named_next : (ks : List Key) (k : Key) → keys_named key_of (map text (take i words)) ≡ Some ks → key_of (text word) ≡ Some k
+        → keys_named key_of (map text (take (i + 1) words)) ≡ Some (ks ++ k ∷ [])
+    named_next ks k e is =
+        let cut : take (i + 1) words ≡ take i words ++ word ∷ [] = take_more words i word inside ∙ ap (λ x. take i words ++ x ∷ []) (sym here) in
+        let texts : map text (take (i + 1) words) ≡ map text (take i words) ++ text word ∷ [] = ap (map text) cut ∙ map-append text (take i words) (word ∷ []) in
+        ap (keys_named key_of) texts ∙ named_more (map text (take i words)) (text word) ks k e is
+
+    pub named_nowhere : key_of (text word) ≡ None → keys_named key_of (map text words) ≡ None
+    named_nowhere is =
+        let rest : drop i words ≡ word ∷ drop (i + 1) words = drop_more words i word inside ∙ ap (λ x. x ∷ drop (i + 1) words) (sym here) in
+        let cut : words ≡ take i words ++ word ∷ drop (i + 1) words = sym (take-append-drop i words) ∙ ap (λ xs. take i words ++ xs) rest in
+        let texts : map text words ≡ map text (take i words) ++ text word ∷ map text (drop (i + 1) words) = ap (map text) cut ∙ map-append text (take i words) (word ∷ drop (i + 1) words) in
+        ap (keys_named key_of) texts ∙ named_none (map text (take i words)) (text word) (map text (drop (i + 1) words)) is
 
   joined_some : (key : Option Key) (keys : Option (List Key)) (columns ks : List Key) → joined key keys ≡ Some ks → Some (picked columns ks) ≡ Some ks
   joined_some None keys columns ks e = cc

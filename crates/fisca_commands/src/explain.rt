@@ -154,9 +154,7 @@ pub fn explain_rules<'x, S: RowSink>(
         modules: modules.as_slice(),
         rules: &rules,
     };
-    let explained = Explained {
-        depth: options.depth,
-        form: form.as_ref(),
-    };
+    let (depth, form) = (options.depth, form.as_ref());
+    let explained = Explained { depth, form };
     explain_file(alloc, from, &tree, file, named.as_slice(), explained, sink)
 }

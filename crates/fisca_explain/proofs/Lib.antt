@@ -18,3 +18,4 @@ pub mod Bridging
 pub mod ColumnsTold
 pub mod Answering
 pub mod ColumnTurns
+pub mod AfterValue

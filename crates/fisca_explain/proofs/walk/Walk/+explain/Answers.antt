@@ -1,5 +1,5 @@
-use Rattle.std.proofs.Common.{◌≡◌, ◌∙◌, ◌-◌, ◌==◌, ◌+◌, ◌≤◌, ◌++◌, ◌∷◌, [], ℕ, length, suc, true, false, Option, option_map, ap, refl, sym, arith}
-use Rattle.std.proofs.lemmas.List.{drop_more}
+use Rattle.std.proofs.Common.{◌≡◌, ◌∙◌, ◌-◌, ◌==◌, ◌+◌, ◌≤◌, ◌++◌, ◌∷◌, [], drop, suc, Option, option_map, ap, refl, sym, arith}
+use Rattle.std.proofs.lemmas.List.{drop_all, drop_more}
 use Rattle.std.proofs.lemmas.Result.{on_ok_weaker}
 use Rattle.fisca_explanation.specs.Explanations.{above, beyond, worked}
 use Rattle.fisca_model.specs.Seen.{key_seen, value_seen}
@@ -12,6 +12,7 @@ use Rattle.fisca_explain.proofs.Bridging.{answers_same, formula_known, needs_sam
 use Rattle.fisca_explain.proofs.Explaining.{above_done, alone_done, beyond_not_above, cut_done, worked_done, worked_not_above}
 use Rattle.fisca_explain.proofs.Plain.{plain_origin}
 use Rattle.fisca_explain.proofs.Turning.{asked_next, read_next, up_to_end, up_to_start}
+use Rattle.fisca_explain.proofs.walk.Walk.+explain.Goals.{explain_notes-in-Asked+in_ok-explain-in-Asked, explain_notes-in-Read+in_ok-write_reading-in-Read}
 use Rattle.fisca_explain.proofs.walk.Walk.+explain.Goals as goal
 
 pub explain-returns-in_default-clause-lines : goal.explain-returns-in_default-clause-lines
@@ -67,8 +68,8 @@ explain-returns-then-is_cut-clause-lines g t c before just =
     (sym c.is_cut.ensures ∙ c.if-is_cut.true) (g.S.RowSink.taken c.args.sink.now) (g.S.RowSink.taken c.write_key-2.new.sink) c.args.followed.now
     (c.in_ok-write_key.ensures.line beyond (λ is. absurd (beyond_not_above is))) just
 
-pub explain-notes_in-notes-requires : goal.explain-notes_in-notes-requires
-explain-notes_in-notes-requires g t c =
+pub explain-notes_in-requires : goal.explain-notes_in-requires
+explain-notes_in-requires g t c =
     let w = c.args.self.now in
     let find = g.R.Recall.find in
     let k = key_seen c.args.key.now in
@@ -111,7 +112,34 @@ explain_notes-notes-init g t c =
     (refl, λ before just. up_to_start (names_in w) (form_in w) (told_in (g.R.Recall.find w.recall.now) w c.args.depth) c.args.depth before c.args.notes.now (g.S.RowSink.taken c.args.sink.now) c.args.followed.now just)
 
 pub explain_notes-notes-preserved : goal.explain_notes-notes-preserved
-explain_notes-notes-preserved g t c = let h = c.notes in ?
+explain_notes-notes-preserved g t c =
+    let w = c.args.self.now in
+    let notes = c.args.notes.now in
+    let i = c.notes.note-index in
+    let find = g.R.Recall.find in
+    let taken = g.S.RowSink.taken in
+    let left : drop i notes ≡ c.note-item.result ∷ drop (i + 1) notes = drop_more notes i c.note-item.result c.notes-test.true ∙ ap (λ n. n ∷ drop (i + 1) notes) (sym c.note-item.is) in
+    elim c.match-note.branch [
+      | explain_notes-in-Asked+in_ok-explain-in-Asked b ↦ (
+        ap g.S.RowSink.failures b.sink-is ∙ b.in_ok-explain-in-Asked.ensures.failures ∙ c.notes.invariant.0,
+        λ before just. rw (b.sink-is, b.followed-is)
+            (asked_next (names_in w) (form_in w) (told_in (find w.recall.now) w c.args.depth) c.args.depth (notes_told_in (find w.recall.now) w c.args.depth before notes) (drop i notes) (drop (i + 1) notes)
+            (taken c.args.sink.now) (taken c.notes.sink) (taken b.explain.new.sink) c.notes.followed b.explain.new.followed (c.notes.invariant.1 before just) b.in-Asked.key
+            (left ∙ ap (λ n. n ∷ drop (i + 1) notes) b.in-Asked.is) b.in_ok-explain-in-Asked.ensures.lines),
+      )
+      | explain_notes-in-Read+in_ok-write_reading-in-Read b ↦ (
+        ap g.S.RowSink.failures b.sink-is ∙ b.in_ok-write_reading-in-Read.ensures.failures ∙ c.notes.invariant.0,
+        λ before just. rw (b.sink-is, b.followed-is)
+            (read_next (names_in w) (form_in w) (told_in (find w.recall.now) w c.args.depth) c.args.depth (notes_told_in (find w.recall.now) w c.args.depth before notes) (drop i notes) (drop (i + 1) notes)
+            (taken c.args.sink.now) (taken c.notes.sink) (taken b.write_reading.new.sink) c.notes.followed c.notes.followed (c.notes.invariant.1 before just) b.in-Read.reading
+            (left ∙ ap (λ n. n ∷ drop (i + 1) notes) b.in-Read.is) b.in_ok-write_reading-in-Read.ensures.line refl),
+      )
+    ]
 
 pub explain_notes-returns-clause-lines : goal.explain_notes-returns-clause-lines
-explain_notes-returns-clause-lines g t c = λ before just. let h = c.notes.invariant.1 before just in ?
+explain_notes-returns-clause-lines g t c = λ before just.
+    let w = c.args.self.now in
+    let find = g.R.Recall.find in
+    let notes = c.args.notes.now in
+    up_to_end (names_in w) (form_in w) (told_in (find w.recall.now) w c.args.depth) c.args.depth (notes_told_in (find w.recall.now) w c.args.depth before notes) (drop c.notes.note-index notes)
+    (g.S.RowSink.taken c.args.sink.now) (g.S.RowSink.taken c.notes.sink) c.notes.followed (c.notes.invariant.1 before just) (drop_all c.notes.note-index notes c.notes-test.false)

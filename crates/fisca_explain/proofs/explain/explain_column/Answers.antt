@@ -1,9 +1,8 @@
-use Rattle.std.proofs.Common.{◌≡◌, ◌∙◌, Ok, Err, refl, sym}
-use Rattle.std.proofs.lemmas.Result.{err_from_is_err_and}
 use Rattle.fisca_evaluator.specs.Evaluators.{simulation_of}
 use Rattle.fisca_model.specs.Seen.{key_seen}
+use Rattle.fisca_model.specs.declared.eval_fault.EvalFault.TheVariants.{Memory}
 use Rattle.fisca_rules.specs.Views.{rule_set}
-use Rattle.fisca_explain.proofs.AfterValue.{can_after, never_of_lines, view_after, work_after}
+use Rattle.fisca_explain.proofs.AfterValue.{can_after, told_after, view_after, work_after}
 use Rattle.fisca_explain.proofs.explain.explain_column.Goals as goal
 
 pub write_column-requires : goal.write_column-requires
@@ -17,7 +16,19 @@ write_column-requires g c =
       work = work_after n m c.in-Ok.ensures.same entries (key_seen c.args.key.now) (c.in-Ok.ensures.work (λ is. cc));
     }
 
-pub returns-in_err-write_column-clause-fault : goal.returns-in_err-write_column-clause-fault
-returns-in_err-write_column-clause-fault g c fault is =
-    let p = err_from_is_err_and c.from_residual.result c.from_residual.ensures.1 in
-    absurd (never_of_lines c.from_residual.result p.0 p.1 p.2.1 fault is)
+pub write_column-requires-in-Err : goal.write_column-requires-in-Err
+write_column-requires-in-Err g c =
+    let m = simulation_of c.args.evaluator.now in
+    let n = simulation_of c.value.new.self in
+    let entries = g.R.Recall.find c.value.new.self.store.recall in
+    let h = c.in-Err.fault-is in
+    record {
+      walk = can_after n m c.in-Err.ensures.same entries c.requires.ready.ready c.in-Err.ensures.memory.truth;
+      view = view_after n m c.in-Err.ensures.same (rule_set c.args.view.now.rules.now) c.requires.view;
+      work = work_after n m c.in-Err.ensures.same entries (key_seen c.args.key.now) (c.in-Err.ensures.work ?);
+    }
+
+pub returns-in_ok-write_column-in-Ok-clause-lines : goal.returns-in_ok-write_column-in-Ok-clause-lines
+returns-in_ok-write_column-in-Ok-clause-lines g c before just =
+    told_after (simulation_of c.value.new.self) (simulation_of c.args.evaluator.now) c.in-Ok.ensures.same c.args.view.now Memory before (key_seen c.args.key.now)
+    (g.S.RowSink.taken c.args.sink.now) (g.S.RowSink.taken c.write_column.new.sink) c.write_column.new.followed (c.in_ok-write_column-in-Ok.ensures.lines before just)

@@ -8,6 +8,7 @@ use Rattle.fisca_memo_theory.specs.Work.{IsWork}
 use Rattle.fisca_model.specs.Values.{Key}
 use Rattle.fisca_model.specs.declared.eval_fault.EvalFault.{EvalFault}
 use Rattle.fisca_model.specs.declared.key.Key.{Key as Held}
+use Rattle.fisca_model.specs.declared.value.Value.{Value as Given}
 use Rattle.fisca_rules.specs.Rules.{Rules}
 use Rattle.fisca_simulation.specs.Simulations.{Simulation, normal_key, sources}
 use Rattle.fisca_simulation.specs.Told.{IsReady, told_in}
@@ -54,3 +55,6 @@ IsFault v x held key old new f fault = (told_in x held ≡ Err fault) × ((befor
 
 pub fault_told : (v : View) (x : Simulation) (held : Held) (key : Key) (old new : Option (List ℕ)) (f : Followed) (told fault : EvalFault) → end.Eval told ≡ end.Eval fault → IsFault v x held key old new f told → IsFault v x held key old new f fault
 fault_told v x held key old new f told fault is h = let same : told ≡ fault = cc in subst (IsFault v x held key old new f) same h
+
+pub fault_same : (a b : EvalFault) → ◌≡◌ {A = Result Given EvalFault} (Err a) (Err b) → a ≡ b
+fault_same a b is = cc

@@ -135,11 +135,13 @@ fn explain_column<R: Recall, S: RowSink>(
             write_column(view, evaluator, followed, key, &EvalFault::Memory, sink)?;
             Ok(())
         }
-        Err(EvalFault::Memory) => Err(ExplainFault::Memory),
-        Err(fault) => {
-            write_column(view, evaluator, followed, key, &fault, sink)?;
-            Err(ExplainFault::Eval(fault))
-        }
+        Err(fault) => match fault {
+            EvalFault::Memory => Err(ExplainFault::Memory),
+            _ => {
+                write_column(view, evaluator, followed, key, &fault, sink)?;
+                Err(ExplainFault::Eval(fault))
+            }
+        },
     }
 }
 

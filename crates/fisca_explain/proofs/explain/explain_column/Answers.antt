@@ -2,7 +2,7 @@ use Rattle.fisca_evaluator.specs.Evaluators.{simulation_of}
 use Rattle.fisca_model.specs.Seen.{key_seen}
 use Rattle.fisca_model.specs.declared.eval_fault.EvalFault.TheVariants.{Memory}
 use Rattle.fisca_rules.specs.Views.{rule_set}
-use Rattle.fisca_explain.proofs.AfterValue.{can_after, told_after, view_after, work_after}
+use Rattle.fisca_explain.proofs.AfterValue.{can_after, fault_same, told_after, view_after, work_after}
 use Rattle.fisca_explain.proofs.explain.explain_column.Goals as goal
 
 pub write_column-requires : goal.write_column-requires
@@ -16,16 +16,15 @@ write_column-requires g c =
       work = work_after n m c.in-Ok.ensures.same entries (key_seen c.args.key.now) (c.in-Ok.ensures.work (λ is. cc));
     }
 
-pub write_column-requires-in-Err : goal.write_column-requires-in-Err
-write_column-requires-in-Err g c =
+pub write_column-requires-in_default : goal.write_column-requires-in_default
+write_column-requires-in_default g c =
     let m = simulation_of c.args.evaluator.now in
     let n = simulation_of c.value.new.self in
     let entries = g.R.Recall.find c.value.new.self.store.recall in
-    let h = c.in-Err.fault-is in
     record {
       walk = can_after n m c.in-Err.ensures.same entries c.requires.ready.ready c.in-Err.ensures.memory.truth;
       view = view_after n m c.in-Err.ensures.same (rule_set c.args.view.now.rules.now) c.requires.view;
-      work = work_after n m c.in-Err.ensures.same entries (key_seen c.args.key.now) (c.in-Err.ensures.work ?);
+      work = work_after n m c.in-Err.ensures.same entries (key_seen c.args.key.now) (c.in-Err.ensures.work (λ is. c.in_default.not-Memory (fault_same _ _ is)));
     }
 
 pub returns-in_ok-write_column-in-Ok-clause-lines : goal.returns-in_ok-write_column-in-Ok-clause-lines

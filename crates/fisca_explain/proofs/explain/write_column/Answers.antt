@@ -20,7 +20,7 @@ explain-requires g c =
     let e = c.args.evaluator.now in
     let s = situation c.situation.result.now in
     let same : simulation v.rules.now s [] ≡ simulation_of e = ap (λ x. simulation v.rules.now x []) c.situation.ensures ∙ sym c.requires.view in
-    record { walk = walk_same g.R.Recall.find (simulation v.rules.now s []) (simulation_of e) c.recall.result.now e.store.recall same c.recall.ensures c.requires.walk; }
+    record { walk = walk_same g.R.Recall.find (simulation v.rules.now s []) (simulation_of e) c.recall.result.now e.store.recall same c.recall.ensures c.requires.walk }
 
 pub returns-clause-lines : goal.returns-clause-lines
 returns-clause-lines g c =

@@ -35,7 +35,7 @@ use Rattle.fisca_explain.proofs.Moving.{work_same}
 use Rattle.fisca_explain.proofs.Views.{IsViewIn, formulas_are_views}
 
 -- a situation under a rule set
-abbrev simulation : RuleSet → Situation → List Bool → Simulation
+abbrev pub simulation : RuleSet → Situation → List Bool → Simulation
 simulation r s neutral = record { rules = rule_set r; situation = s; neutral = neutral }
 
 module _ (r : RuleSet) (s : Situation) (neutral : List Bool) where

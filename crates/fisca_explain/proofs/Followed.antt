@@ -1,12 +1,14 @@
 -- What a formula that is followed over memory tells is what its key needs.
-use Rattle.std.proofs.Common.{◌≡◌, ◌∙◌, ◌++◌, [], ℕ, List, Bool, false, Option, Some, Result, Ok, Err, ap, subst, sym}
+use Rattle.std.proofs.Common.{◌≡◌, ◌∙◌, ◌++◌, [], ℕ, List, Bool, false, Option, Some, Result, Ok, Err, ap, map, subst, sym}
 use Rattle.fisca_check.specs.Formulas.{formula_view}
 use Rattle.fisca_check.specs.declared.formula.TypedFormula.{TypedFormula}
 use Rattle.fisca_groups.specs.Grouped.{grouped}
 use Rattle.fisca_inputs.specs.Typed.{IsValueOf}
+use Rattle.fisca_ir.specs.Views.{node}
+use Rattle.fisca_ir.specs.declared.node.Node.{Node}
 use Rattle.fisca_memo_theory.specs.Entries.{Entries}
 use Rattle.fisca_memo_theory.specs.Memory.{IsTrueMemory}
-use Rattle.fisca_model.specs.Values.{Key}
+use Rattle.fisca_model.specs.Values.{Key, Value}
 use Rattle.fisca_model.specs.declared.value.Value.{Value as Given}
 use Rattle.fisca_ops.specs.Casts.{cast}
 use Rattle.fisca_rules.specs.Rules.{known_by}
@@ -51,6 +53,17 @@ module _ (r : RuleSet) (s : Situation) (neutral : List Bool) (v : Variable) (k :
 
     pub told_moves : Moves (answers_by (sources m) entries left) told
     told_moves = subst (Moves (answers_by (sources m) entries left)) (sym told_work) work_moves
+
+-- the same of locals that are lent
+module _ (r : RuleSet) (s : Situation) (neutral : List Bool) (v : Variable) (k : Key) (held : TypedFormula) (locals : List Node) (lent : locals ≡ held.values.items) where
+  abbrev told_with : List Node → Noted
+  told_with ns = behind (noted_formula (tables r.tables) (grouped s.members) (record { values = map node ns; result = node held.result }) (start_point v k)) (λ x. unread (cast v.value_type x))
+
+  pub lent_work : told_with locals ≡ noted_work (record { rules = rule_set r; situation = s; neutral = neutral }) v k (formula_view held)
+  lent_work = ap told_with lent ∙ told_work r s neutral v k held
+
+  pub lent_moves : (W : Key → Option Value) → Moves W (told r s neutral v k held) → Moves W (told_with locals)
+  lent_moves W moves = subst (λ ns. Moves W (told_with ns)) (sym lent) moves
 
 -- what is noted up to the end, where nothing was noted before
 pub notes_played : (r : Result Given Halted) (old new : List Note) (p : Played) → is_wanting r ≡ false → Plays r old new p → old ≡ [] → new ≡ p.notes

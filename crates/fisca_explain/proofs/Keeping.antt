@@ -63,7 +63,7 @@ any_reason origin l above none from = from (none refl)
 
 -- the answer of a line
 
-seen_back : (v : Given) → value_of (value_seen v) ≡ v
+pub seen_back : (v : Given) → value_of (value_seen v) ≡ v
 seen_back (given.Number n) = refl
 seen_back (given.Bool b) = refl
 seen_back (given.Member i) = refl

@@ -11,3 +11,11 @@ pub mod Agreeing
 pub mod Defined
 pub mod Columns
 pub mod Followed
+pub mod Explaining
+pub mod Plain
+pub mod Turning
+pub mod Bridging
+pub mod ColumnsTold
+pub mod Answering
+pub mod ColumnTurns
+pub mod AfterValue

@@ -18,6 +18,12 @@ is_failed_write (Err (end.Eval fault)) = false
 is_failed_write (Err end.Write) = true
 is_failed_write (Err end.Memory) = false
 
+-- the end of lines says nothing of a value
+abbrev pub IsOfLines : ExplainFault → Type 0
+IsOfLines (end.Eval fault) = ⊥
+IsOfLines end.Write = Unit {0}
+IsOfLines end.Memory = Unit {0}
+
 -- a formula that was followed ended for want of memory
 abbrev pub is_wanting : {X : Type 0} → Result X Halted → Bool
 is_wanting (Ok x) = false

@@ -65,9 +65,9 @@ impl From<AllocError> for ExplainFault {
 
 impl From<LinesFault> for ExplainFault {
     ghost use Rattle.std.specs.Prelude.{◌≡◌, Err};
-    ghost use Rattle.fisca_explain.specs.Ends.{is_failed_write, is_write};
+    ghost use Rattle.fisca_explain.specs.Ends.{IsOfLines, is_failed_write, is_write};
 
-    ghost from_gives = { λ fault end. is_failed_write {X = Unit} (Err end) ≡ is_write {X = Unit} (Err fault) };
+    ghost from_gives = { λ fault end. (is_failed_write {X = Unit} (Err end) ≡ is_write {X = Unit} (Err fault)) × IsOfLines end };
 
     fn from(fault: LinesFault) -> ExplainFault {
         match fault {
@@ -135,11 +135,13 @@ fn explain_column<R: Recall, S: RowSink>(
             write_column(view, evaluator, followed, key, &EvalFault::Memory, sink)?;
             Ok(())
         }
-        Err(EvalFault::Memory) => Err(ExplainFault::Memory),
-        Err(fault) => {
-            write_column(view, evaluator, followed, key, &fault, sink)?;
-            Err(ExplainFault::Eval(fault))
-        }
+        Err(fault) => match fault {
+            EvalFault::Memory => Err(ExplainFault::Memory),
+            _ => {
+                write_column(view, evaluator, followed, key, &fault, sink)?;
+                Err(ExplainFault::Eval(fault))
+            }
+        },
     }
 }
 

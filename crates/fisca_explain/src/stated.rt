@@ -44,12 +44,7 @@ fn is_shorter(found: &Option<Stated>, unit: Unit, period: Period) -> bool {
 }
 
 /// Of an input that was found and the next one that which gives a value for a period: the shorter of two that do.
-fn shorter(
-    found: Option<Stated>,
-    entry: &Entry<'_>,
-    unit: Unit,
-    period: Period,
-) -> Option<Stated> {
+fn shorter(found: Option<Stated>, entry: &Entry<'_>, unit: Unit, period: Period) -> Option<Stated> {
     let Ok(stated) = Period::read(entry.key.as_str()) else {
         return found;
     };

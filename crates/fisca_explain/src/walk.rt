@@ -1,19 +1,20 @@
 //! Keys, each with what its formula needs below it.
 
-ghost use Rattle.std.specs.Prelude.{◌≡◌, ◌≤◌, ◌<◌, ◌-◌, ◌==◌, ◌∷◌, [], suc, List, None, Some, IfErr, IfOk, OnOk, option_map, string_bytes};
+ghost use Rattle.std.specs.Prelude.{◌≡◌, ◌≤◌, ◌<◌, ◌-◌, ◌==◌, ◌∷◌, [], List, None, Some, IfErr, IfOk, OnOk, option_map, string_bytes};
 ghost use Rattle.std.specs.Io.KnownBytes.{Appends};
 ghost use Rattle.fisca_check.specs.Formulas.{formula_view};
+ghost use Rattle.fisca_explain.specs.Below.{answers_by};
 ghost use Rattle.fisca_explain.specs.Columns.{levels_of};
 ghost use Rattle.fisca_explain.specs.Ends.{is_wanting, is_write};
 ghost use Rattle.fisca_explain.specs.Explained.{of_key, of_reading};
 ghost use Rattle.fisca_explain.specs.Followed.{HasJust};
 ghost use Rattle.fisca_explain.specs.Needs.{by_formula};
 ghost use Rattle.fisca_explain.specs.Says.{written};
-ghost use Rattle.fisca_explain.specs.Walks.{CanWalk, IsWritten, answers_in, form_in, notes_told_in, simulation_in, told_in};
+ghost use Rattle.fisca_explain.specs.Walks.{CanWalk, IsWritten, form_in, notes_told_in, simulation_in, told_in};
 ghost use Rattle.fisca_explanation.specs.Explanations.{Reason, above};
 ghost use Rattle.fisca_model.specs.Seen.{key_seen, value_seen};
 ghost use Rattle.fisca_model.specs.Values as meaning;
-ghost use Rattle.fisca_simulation.specs.Simulations.{formula_of, variable_of};
+ghost use Rattle.fisca_simulation.specs.Simulations.{formula_of, sources, variable_of};
 ghost use Rattle.fisca_simulation.specs.Views.{simulation as simulation_view};
 ghost use Rattle.fisca_writer.specs.Sink.{CountsFailure};
 
@@ -35,7 +36,7 @@ use fisca_simulation::Simulation;
 use fisca_situations::Situation;
 use fisca_symbols::Variable;
 use fisca_writer::{RowSink, hand_over};
-use std::alloc::AllocError;
+use std::alloc::{AllocError, Global};
 
 /// How many keys are asked for below one another at most.
 const MOST_KEYS: usize = 100;
@@ -68,6 +69,42 @@ fn wants_memory(end: &Result<Value, Halted>) -> bool
         Ok(_) | Err(Halted::Fault(_)) | Err(Halted::Unanswered) => false,
         Err(Halted::Memory) => true,
     }
+}
+
+/// What the formula of a key of this variable needs, in order, up to its end, where keys below it have these values.
+fn notes_in<'r, R: Recall>(
+    alloc: Global,
+    below: &Below<'r, '_, '_, R>,
+    variable: &Variable<'_>,
+    key: &Key,
+    formula: &'r TypedFormula,
+) -> Result<Notes, LinesFault>
+    requires walk { CanWalk (R.find below.now.recall.now) (simulation_view below.now.simulation) }
+    requires variable { variable_of (simulation_view below.now.simulation).rules (key_seen key.now) ≡ Some variable.now }
+    requires formula { formula_of (simulation_view below.now.simulation).rules (simulation_view below.now.simulation).neutral variable.now (key_seen key.now) ≡ Some (formula_view formula.now) }
+    ensures notes { IfOk result (λ notes. notes ≡ by_formula (simulation_view below.now.simulation) (answers_by (sources (simulation_view below.now.simulation)) (R.find below.now.recall.now) below.now.left) variable.now (key_seen key.now) (Some (formula_view formula.now))) }
+    ensures fault { IfErr result (λ fault. fault ≡ LinesFault.Memory) }
+{
+    let mut notes = Notes::new(alloc);
+    let locals = formula.values.as_slice();
+    let follower = Follower {
+        context: Context {
+            tables: &below.simulation.rules.tables,
+            members: &below.simulation.situation.members,
+        },
+        answers: below,
+        locals,
+        frame: Frame {
+            entity: variable.entity,
+            member: key.member,
+            period: key.period,
+        },
+    };
+    let end = follower.follow(&formula.result, variable.value_type, &mut notes);
+    if wants_memory(&end) {
+        return Err(LinesFault::Memory);
+    }
+    Ok(notes)
 }
 
 /// A column that is explained: what explanations are made of, the situation, what is remembered of it, and why the column has no value; for want of
@@ -175,43 +212,6 @@ impl<'e, 's, 'q, 'f, 'r, R: Recall> Walk<'e, 's, 'q, 'f, 'r, R> {
         self.write(&line, sink)
     }
 
-    /// What the formula of a key of this variable needs, in order, up to its end.
-    fn notes_of(
-        &self,
-        depth: usize,
-        variable: &Variable<'_>,
-        key: &Key,
-        formula: &'r TypedFormula,
-    ) -> Result<Notes, LinesFault>
-        requires walk { CanWalk (R.find self.now.recall.now) (simulation_in self.now) }
-        requires depth { depth < 100 }
-        requires variable { variable_of (simulation_in self.now).rules (key_seen key.now) ≡ Some variable.now }
-        requires formula { formula_of (simulation_in self.now).rules (simulation_in self.now).neutral variable.now (key_seen key.now) ≡ Some (formula_view formula.now) }
-        ensures notes { IfOk result (λ notes. notes ≡ by_formula (simulation_in self.now) (answers_in (R.find self.now.recall.now) self.now (suc depth)) variable.now (key_seen key.now) (Some (formula_view formula.now))) }
-        ensures fault { IfErr result (λ fault. fault ≡ LinesFault.Memory) }
-    {
-        let mut notes = Notes::new(self.view.alloc);
-        let below = self.below(depth + 1);
-        let follower = Follower {
-            context: Context {
-                tables: &self.view.rules.tables,
-                members: &self.situation.members,
-            },
-            answers: &below,
-            locals: formula.values.as_slice(),
-            frame: Frame {
-                entity: variable.entity,
-                member: key.member,
-                period: key.period,
-            },
-        };
-        let end = follower.follow(&formula.result, variable.value_type, &mut notes);
-        if wants_memory(&end) {
-            return Err(LinesFault::Memory);
-        }
-        Ok(notes)
-    }
-
     /// Explains a key below so many others: its line, and where its formula was not followed before, what that needs, in order.
     #[cycle(explain)]
     pub(crate) fn explain<S: RowSink>(
@@ -241,7 +241,8 @@ impl<'e, 's, 'q, 'f, 'r, R: Recall> Walk<'e, 's, 'q, 'f, 'r, R> {
             return Ok(());
         }
         followed.add(*key)?;
-        let notes = self.notes_of(depth, variable, key, formula)?;
+        let under = self.below(depth + 1);
+        let notes = notes_in(self.view.alloc, &under, variable, key, formula)?;
         self.explain_notes(depth + 1, notes.as_slice(), followed, sink)
     }
 

@@ -14,5 +14,7 @@ returns-in-None c reason none =
 pub returns-in_ok-put_source-in-Some : goal.returns-in_ok-put_source-in-Some
 returns-in_ok-put_source-in-Some c reason none =
     let n = names_at c.args.view.now c.args.situation.now (fault_in c.args.answer) in
-    says_still n c.args.depth (key_seen c.args.key.now) (option_map value_seen (value_in c.args.answer)) _ _ c.in_ok-put_source-in-Some.ensures.key c.in_ok-line.ensures.says reason
-    (any_reason c.args.origin _ reason none (λ is. c.in_ok-put_source-in-Some.ensures.above is ∙ c.in_ok-line.ensures.source))
+    let old = c.in_ok-line.line in
+    let new = c.put_source.new.line in
+    says_still n c.args.depth (key_seen c.args.key.now) (option_map value_seen (value_in c.args.answer)) old new c.in_ok-put_source-in-Some.ensures.key c.in_ok-line.ensures.says reason
+    (any_reason c.args.origin new reason none (λ is. c.in_ok-put_source-in-Some.ensures.above is ∙ c.in_ok-line.ensures.source))

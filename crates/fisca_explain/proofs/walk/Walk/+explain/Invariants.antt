@@ -1,8 +1,8 @@
-use Rattle.std.proofs.Common.{◌≡◌, ◌+◌, ◌*◌, ◌-◌, ◌++◌, List, drop}
+use Rattle.std.proofs.Common.{◌≡◌, ◌+◌, ◌*◌, ◌-◌, List, drop}
 use Rattle.fisca_model.specs.Values.{Key}
-use Rattle.fisca_explain.specs.Explained.{Entry}
 use Rattle.fisca_explain.specs.Followed.{HasJust}
-use Rattle.fisca_explain.specs.Walks.{IsWritten, notes_told_in}
+use Rattle.fisca_explain.specs.Walks.{form_in, names_in, notes_told_in, told_in}
+use Rattle.fisca_explain.proofs.Turning.{IsUpTo}
 use Rattle.fisca_explain.proofs.walk.Walk.+explain.Given as goal
 
 abbrev pub decreases-explain : goal.decreases-explain
@@ -15,6 +15,6 @@ decreases-explain_notes g l = 2 * (101 - l.depth) + 1
 abbrev pub invariant-explain_notes-notes : goal.invariant-explain_notes-notes
 invariant-explain_notes-notes g l =
     (g.S.RowSink.failures l.sink ≡ g.S.RowSink.failures l.fn.sink)
-    × ((before : List Key) → HasJust before l.fn.followed → (done : List Entry) × (now : List Key) × IsWritten l.self done (g.S.RowSink.taken l.fn.sink) (g.S.RowSink.taken l.sink) × HasJust now l.followed
-    × ((notes_told_in (g.R.Recall.find l.self.recall.now) l.self l.depth before l.notes).entries ≡ done ++ (notes_told_in (g.R.Recall.find l.self.recall.now) l.self l.depth now (drop l.note-index l.notes)).entries)
-    × ((notes_told_in (g.R.Recall.find l.self.recall.now) l.self l.depth before l.notes).followed ≡ (notes_told_in (g.R.Recall.find l.self.recall.now) l.self l.depth now (drop l.note-index l.notes)).followed))
+    × ((before : List Key) → HasJust before l.fn.followed
+    → IsUpTo (names_in l.self) (form_in l.self) (told_in (g.R.Recall.find l.self.recall.now) l.self l.depth) l.depth (notes_told_in (g.R.Recall.find l.self.recall.now) l.self l.depth before l.notes) (drop l.note-index l.notes)
+    (g.S.RowSink.taken l.fn.sink) (g.S.RowSink.taken l.sink) l.followed)

@@ -20,6 +20,6 @@ returns-clause-line g c =
     (λ appended reason above_only. (
       written form line,
       line_alone n form (of_key c.args.depth (key_seen c.args.key.now) (option_map value_seen c.args.value) reason) line
-      (says_answer n.tables n.members fault c.args.depth (key_seen c.args.key.now) c.args.value c.match-value.answer reason line answered (c.in_ok-line.ensures reason above_only)),
+          (says_answer n.tables n.members fault c.args.depth (key_seen c.args.key.now) c.args.value c.match-value.answer reason line answered (c.in_ok-line.ensures reason above_only)),
       appended,
     )) c.write.ensures.ok

@@ -3,11 +3,11 @@ use Rattle.std.proofs.Common.{◌≡◌, ◌∙◌, inl, inr, ℕ, List, [], ◌
 use Rattle.fisca_key_semantics.specs.Keys.{In}
 use Rattle.fisca_model.specs.Seen.{key_of, key_seen}
 use Rattle.fisca_model.specs.Values.{Key, Value}
-use Rattle.fisca_following.specs.Followed.{keys_noted}
-use Rattle.fisca_following.specs.Noted.{Noted, asks, fails, gives, reads, stuck}
-use Rattle.fisca_following.specs.Played.{after, on_answer, played}
-use Rattle.fisca_following.specs.declared.note.Note.{Note}
-use Rattle.fisca_following.specs.declared.note.Note.TheVariants as note
+use Rattle.fisca_simulation.specs.Followed.{keys_noted}
+use Rattle.fisca_simulation.specs.Noted.{Noted, asks, fails, gives, reads, stuck}
+use Rattle.fisca_simulation.specs.Played.{after, on_answer, played}
+use Rattle.fisca_simulation.specs.declared.note.Note.{Note}
+use Rattle.fisca_simulation.specs.declared.note.Note.TheVariants as note
 use Rattle.fisca_explain.specs.Explained.{Told, behind, notes_in_turn, of_reading, over}
 
 module _ (W V : Key → Option Value) where

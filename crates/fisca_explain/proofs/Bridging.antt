@@ -6,7 +6,7 @@ use Rattle.fisca_memo_theory.specs.Entries.{Entries}
 use Rattle.fisca_model.specs.Values.{Key, Value}
 use Rattle.fisca_simulation.specs.Simulations.{Simulation, formula_of, sources, variable_of}
 use Rattle.fisca_symbols.specs.declared.variable.Variable.{Variable}
-use Rattle.fisca_following.specs.declared.note.Note.{Note}
+use Rattle.fisca_simulation.specs.declared.note.Note.{Note}
 use Rattle.fisca_explain.specs.Below.{answers_by}
 use Rattle.fisca_explain.specs.Needs.{by_formula, by_variable, needs}
 use Rattle.fisca_explain.specs.Origins.{IsOrigin}

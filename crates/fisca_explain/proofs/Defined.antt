@@ -20,11 +20,11 @@ use Rattle.fisca_simulation.specs.Simulations.{Simulation, computed, formula_of,
 use Rattle.fisca_situations.specs.Situations.{Situation}
 use Rattle.fisca_symbols.specs.declared.variable.Variable.{Variable}
 use Rattle.fisca_typing.specs.Formulas.{Formula}
-use Rattle.fisca_following.specs.Followed.{keys_noted}
-use Rattle.fisca_following.specs.Noted.{Noted, erased}
-use Rattle.fisca_following.specs.Played.{played}
-use Rattle.fisca_following.specs.declared.note.Note.{Note}
-use Rattle.fisca_following.proofs.NotedKeys.{keys_same}
+use Rattle.fisca_simulation.specs.Followed.{keys_noted}
+use Rattle.fisca_simulation.specs.Noted.{Noted, erased}
+use Rattle.fisca_simulation.specs.Played.{played}
+use Rattle.fisca_simulation.specs.declared.note.Note.{Note}
+use Rattle.fisca_simulation.proofs.NotedKeys.{keys_same}
 use Rattle.fisca_explain.specs.Below.{answers_by}
 use Rattle.fisca_explain.specs.Columns.{value_below}
 use Rattle.fisca_explain.specs.Explained.{Told, alone, explained, notes_in_turn, of_key, over, reason_at, told_at_end, told_from}

@@ -8,7 +8,7 @@ use Rattle.fisca_key_semantics.specs.Answers.{Sources, formula, known, refused}
 use Rattle.fisca_key_semantics.specs.Inquiry.{Inquiry}
 use Rattle.fisca_key_semantics.specs.Keys.{has}
 use Rattle.fisca_model.specs.Values.{Key, Value}
-use Rattle.fisca_following.specs.declared.note.Note.{Note}
+use Rattle.fisca_simulation.specs.declared.note.Note.{Note}
 use Rattle.fisca_explain.specs.Explained.{Entry, Told, alone, explained, notes_in_turn, of_key, over, reason_at}
 use Rattle.fisca_explain.specs.Followed.{HasJust}
 use Rattle.fisca_explain.specs.Says.{AreLines, Names}

@@ -22,12 +22,12 @@ use Rattle.fisca_simulation.specs.Told.{IsReady}
 use Rattle.fisca_situations.specs.Situations.{Situation}
 use Rattle.fisca_symbols.specs.Known.{tables}
 use Rattle.fisca_symbols.specs.declared.variable.Variable.{Variable}
-use Rattle.fisca_following.specs.Meaning.{noted_formula}
-use Rattle.fisca_following.specs.Noted.{Noted, behind, unread}
-use Rattle.fisca_following.specs.Played.{Moves, Played, Plays}
-use Rattle.fisca_following.specs.declared.note.Halted.{Halted}
-use Rattle.fisca_following.specs.declared.note.Halted.TheVariants as halted
-use Rattle.fisca_following.specs.declared.note.Note.{Note}
+use Rattle.fisca_simulation.specs.NotedFormulas.{noted_formula}
+use Rattle.fisca_simulation.specs.Noted.{Noted, behind, unread}
+use Rattle.fisca_simulation.specs.Played.{Moves, Played, Plays}
+use Rattle.fisca_simulation.specs.declared.note.Halted.{Halted}
+use Rattle.fisca_simulation.specs.declared.note.Halted.TheVariants as halted
+use Rattle.fisca_simulation.specs.declared.note.Note.{Note}
 use Rattle.fisca_explain.specs.Below.{answers_by}
 use Rattle.fisca_explain.specs.Ends.{is_wanting}
 use Rattle.fisca_explain.specs.Needs.{noted_work}

@@ -8,7 +8,7 @@ use Rattle.fisca_key_semantics.proofs.Fuel.{stays}
 use Rattle.fisca_memo_theory.specs.Entries.{Entries, Entry, Remembered}
 use Rattle.fisca_memo_theory.specs.Memory.{HasFormula, IsKnown, IsTrueEntry, IsTrueMemory}
 use Rattle.fisca_model.specs.Values.{Key, Value}
-use Rattle.fisca_following.specs.Followed.{value_or_none}
+use Rattle.fisca_simulation.specs.Followed.{value_or_none}
 use Rattle.fisca_explain.specs.Below.{answer_by, answers_by, if_left, if_low}
 
 -- no value

@@ -1,6 +1,6 @@
 -- Formulas that are followed over what memory answers are never stuck.
 use Rattle.std.proofs.Common.{◌≡◌, ℕ, zero, suc, nat_lt, Bool, true, false, List, Option, Some, None, if◌then◌else◌, refl, subst, map}
-use Rattle.fisca_formula_semantics.specs.Meaning.{formula_means}
+use Rattle.fisca_typing.specs.Meaning.{formula_means}
 use Rattle.fisca_groups.specs.Grouped.{grouped}
 use Rattle.fisca_inputs.specs.Typed.{IsValueOf}
 use Rattle.fisca_ir.specs.Views.{node}
@@ -17,10 +17,10 @@ use Rattle.fisca_simulation.proofs.ValueTypes.{values_fit}
 use Rattle.fisca_simulation.specs.Simulations.{Simulation, start_point, worked_out}
 use Rattle.fisca_simulation.specs.Sound.{AreSound, GivesOnly, IsSound}
 use Rattle.fisca_symbols.specs.declared.variable.Variable.{Variable}
-use Rattle.fisca_following.proofs.Erased.{behind_same, erased_unread, formula_same}
-use Rattle.fisca_following.specs.Meaning.{noted_formula}
-use Rattle.fisca_following.specs.Noted.{Noted, asks, erased, fails, gives, reads, stuck, unread}
-use Rattle.fisca_following.specs.Played.{IsSomewhere, Moves, on_answer, played}
+use Rattle.fisca_simulation.proofs.Erased.{behind_same, erased_unread, formula_same}
+use Rattle.fisca_simulation.specs.NotedFormulas.{noted_formula}
+use Rattle.fisca_simulation.specs.Noted.{Noted, asks, erased, fails, gives, reads, stuck, unread}
+use Rattle.fisca_simulation.specs.Played.{IsSomewhere, Moves, on_answer, played}
 use Rattle.fisca_explain.specs.Below.{answer_by, answers_by, if_left, if_low}
 use Rattle.fisca_explain.specs.Needs.{noted_work}
 

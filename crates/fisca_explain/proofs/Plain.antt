@@ -5,7 +5,7 @@ use Rattle.fisca_model.specs.Seen.{value_seen}
 use Rattle.fisca_model.specs.Values.{Key, Value}
 use Rattle.fisca_simulation.specs.Simulations.{Simulation, sources}
 use Rattle.fisca_symbols.specs.declared.variable.Variable.{Variable}
-use Rattle.fisca_following.specs.declared.note.Note.{Note}
+use Rattle.fisca_simulation.specs.declared.note.Note.{Note}
 use Rattle.fisca_explain.specs.Origins.{IsOrigin}
 use Rattle.fisca_explain.specs.declared.origin.Origin.{Origin}
 use Rattle.fisca_explain.specs.declared.origin.Origin.TheVariants as origin

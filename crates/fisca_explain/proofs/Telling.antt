@@ -7,9 +7,9 @@ use Rattle.fisca_key_semantics.specs.Keys.{has}
 use Rattle.fisca_model.specs.Seen.{key_seen}
 use Rattle.fisca_model.specs.Values.{Key, Value}
 use Rattle.fisca_model.specs.declared.key.Key.{Key as Held}
-use Rattle.fisca_following.specs.declared.note.Note.{Note}
-use Rattle.fisca_following.specs.declared.note.Note.TheVariants as note
-use Rattle.fisca_following.specs.declared.note.Reading.{Reading}
+use Rattle.fisca_simulation.specs.declared.note.Note.{Note}
+use Rattle.fisca_simulation.specs.declared.note.Note.TheVariants as note
+use Rattle.fisca_simulation.specs.declared.note.Reading.{Reading}
 use Rattle.fisca_explain.specs.Explained.{Entry, Told, alone, explained, notes_in_turn, of_key, of_reading, over, reason_at, told_at_end, told_from}
 
 -- a key, by where its value comes from

@@ -9,9 +9,9 @@ use Rattle.fisca_key_semantics.specs.Inquiry.{Inquiry}
 use Rattle.fisca_key_semantics.specs.Keys.{has}
 use Rattle.fisca_model.specs.Seen.{key_seen}
 use Rattle.fisca_model.specs.Values.{Key, Value}
-use Rattle.fisca_following.specs.Followed.{keys_noted, value_or_none}
-use Rattle.fisca_following.specs.declared.note.Note.{Note}
-use Rattle.fisca_following.specs.declared.note.Note.TheVariants as note
+use Rattle.fisca_simulation.specs.Followed.{keys_noted, value_or_none}
+use Rattle.fisca_simulation.specs.declared.note.Note.{Note}
+use Rattle.fisca_simulation.specs.declared.note.Note.TheVariants as note
 use Rattle.fisca_explain.specs.Explained.{Entry, Told, alone, behind, entry, explained, notes_in_turn, of_key, of_reading, over, reason_at, told_at_end, told_from}
 use Rattle.fisca_explain.specs.KeyLines.{AreNeeds, KeyLine, of_entries, of_lines}
 

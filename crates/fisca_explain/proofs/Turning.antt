@@ -5,9 +5,9 @@ use Rattle.fisca_forms.specs.LineForms.{Form}
 use Rattle.fisca_model.specs.Seen.{key_seen}
 use Rattle.fisca_model.specs.Values.{Key}
 use Rattle.fisca_model.specs.declared.key.Key.{Key as Held}
-use Rattle.fisca_following.specs.declared.note.Note.{Note}
-use Rattle.fisca_following.specs.declared.note.Note.TheVariants as note
-use Rattle.fisca_following.specs.declared.note.Reading.{Reading}
+use Rattle.fisca_simulation.specs.declared.note.Note.{Note}
+use Rattle.fisca_simulation.specs.declared.note.Note.TheVariants as note
+use Rattle.fisca_simulation.specs.declared.note.Reading.{Reading}
 use Rattle.fisca_explain.specs.Explained.{Entry, Told, notes_in_turn, of_reading}
 use Rattle.fisca_explain.specs.Followed.{HasJust}
 use Rattle.fisca_explain.specs.Says.{AreLines, Names}

@@ -10,7 +10,7 @@ use Rattle.fisca_model.specs.declared.eval_fault.EvalFault.{EvalFault}
 use Rattle.fisca_model.specs.declared.value.Value.{Value as Given}
 use Rattle.fisca_simulation.specs.Simulations.{Simulation, normal_key, sources}
 use Rattle.fisca_simulation.specs.Told.{told_in}
-use Rattle.fisca_following.specs.Followed.{value_or_none}
+use Rattle.fisca_simulation.specs.Followed.{value_or_none}
 use Rattle.fisca_explain.specs.Explained.{Told, explained}
 use Rattle.fisca_explain.specs.Needs.{needs}
 use Rattle.fisca_explain.specs.Says.{AreLines}

@@ -1,7 +1,7 @@
 -- Why lines end: whether the sink failed.
 use Rattle.std.specs.Prelude.{Bool, true, false, Result, Ok, Err}
-use Rattle.fisca_following.specs.declared.note.Halted.{Halted}
-use Rattle.fisca_following.specs.declared.note.Halted.TheVariants as halted
+use Rattle.fisca_simulation.specs.declared.note.Halted.{Halted}
+use Rattle.fisca_simulation.specs.declared.note.Halted.TheVariants as halted
 use Rattle.fisca_explain.specs.declared.explain.ExplainFault.{ExplainFault}
 use Rattle.fisca_explain.specs.declared.explain.ExplainFault.TheVariants as end
 use Rattle.fisca_explain.specs.declared.walk.LinesFault.{LinesFault}

@@ -5,9 +5,9 @@ use Rattle.fisca_key_semantics.specs.Answers.{Source, Sources, refused, known, f
 use Rattle.fisca_key_semantics.specs.Keys.{has}
 use Rattle.fisca_model.specs.Seen.{key_seen}
 use Rattle.fisca_model.specs.Values.{Key, Value}
-use Rattle.fisca_following.specs.declared.note.Note.{Note}
-use Rattle.fisca_following.specs.declared.note.Note.TheVariants as note
-use Rattle.fisca_following.specs.declared.note.Reading.{Reading}
+use Rattle.fisca_simulation.specs.declared.note.Note.{Note}
+use Rattle.fisca_simulation.specs.declared.note.Note.TheVariants as note
+use Rattle.fisca_simulation.specs.declared.note.Reading.{Reading}
 
 pub data Entry : Type 0 where
   -- a key below so many others, with its value there, where it has one

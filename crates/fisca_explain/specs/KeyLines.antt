@@ -5,8 +5,8 @@ use Rattle.fisca_key_semantics.specs.Answers.{Sources, formula, most_keys, value
 use Rattle.fisca_key_semantics.specs.Chains.{asked}
 use Rattle.fisca_key_semantics.specs.Inquiry.{Inquiry}
 use Rattle.fisca_model.specs.Values.{Key}
-use Rattle.fisca_following.specs.Followed.{keys_noted}
-use Rattle.fisca_following.specs.declared.note.Note.{Note}
+use Rattle.fisca_simulation.specs.Followed.{keys_noted}
+use Rattle.fisca_simulation.specs.declared.note.Note.{Note}
 use Rattle.fisca_explain.specs.Explained.{Entry, of_key, of_reading}
 
 pub record KeyLine : Type 0 where

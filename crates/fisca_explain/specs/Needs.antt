@@ -7,10 +7,10 @@ use Rattle.fisca_rules.specs.Rules.{known_by}
 use Rattle.fisca_simulation.specs.Simulations.{Simulation, formula_of, start_point, variable_of}
 use Rattle.fisca_symbols.specs.declared.variable.Variable.{Variable}
 use Rattle.fisca_typing.specs.Formulas.{Formula}
-use Rattle.fisca_following.specs.Meaning.{noted_formula}
-use Rattle.fisca_following.specs.Noted.{Noted, behind, unread}
-use Rattle.fisca_following.specs.Played.{played}
-use Rattle.fisca_following.specs.declared.note.Note.{Note}
+use Rattle.fisca_simulation.specs.NotedFormulas.{noted_formula}
+use Rattle.fisca_simulation.specs.Noted.{Noted, behind, unread}
+use Rattle.fisca_simulation.specs.Played.{played}
+use Rattle.fisca_simulation.specs.declared.note.Note.{Note}
 
 -- what a formula gives, as a value of its variable, noted
 abbrev pub noted_work : Simulation → Variable → Key → Formula → Noted

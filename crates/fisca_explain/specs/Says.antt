@@ -12,7 +12,7 @@ use Rattle.fisca_model.specs.Values.{Key, Value}
 use Rattle.fisca_model.specs.declared.eval_fault.EvalFault.{EvalFault}
 use Rattle.fisca_simulation.specs.Told.{value_of}
 use Rattle.fisca_time.specs.PeriodText.{date_text, text_of as period_text}
-use Rattle.fisca_following.specs.declared.note.Reading.{Reading}
+use Rattle.fisca_simulation.specs.declared.note.Reading.{Reading}
 use Rattle.fisca_explain.specs.Explained.{Entry, of_key, of_reading}
 use Rattle.fisca_explain.specs.LineTexts.{cells_text, source_text, text_of}
 use Rattle.fisca_explain.specs.declared.line.Kind.TheVariants as kind

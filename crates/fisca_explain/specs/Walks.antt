@@ -13,7 +13,7 @@ use Rattle.fisca_simulation.specs.Simulations.{Simulation, sources}
 use Rattle.fisca_simulation.specs.Told.{IsReady}
 use Rattle.fisca_situations.specs.Steps.Views.{situation}
 use Rattle.fisca_symbols.specs.Known.{tables as known}
-use Rattle.fisca_following.specs.declared.note.Note.{Note}
+use Rattle.fisca_simulation.specs.declared.note.Note.{Note}
 use Rattle.fisca_explain.specs.Below.{answers_by}
 use Rattle.fisca_explain.specs.Columns.{Explaining, ExplainsOne, levels_of}
 use Rattle.fisca_explain.specs.Explained.{Entry, Told, explained, notes_in_turn}

@@ -10,9 +10,8 @@ ghost use Rattle.fisca_simulation.specs.Views.{simulation};
 
 use crate::origin::{Origin, origin_of};
 use fisca_evaluator::Recall;
-use fisca_following::Answering;
 use fisca_model::{Key, Value};
-use fisca_simulation::{Simulation, default_of};
+use fisca_simulation::{Answering, Simulation, default_of};
 
 /// A situation under a rule set, what is remembered of its keys, and how many of them may still be asked for below one another.
 #[derive(Drop)]

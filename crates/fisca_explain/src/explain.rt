@@ -16,7 +16,6 @@ ghost use Rattle.fisca_situations.specs.Steps.Views.{situation as situation_view
 ghost use Rattle.fisca_writer.specs.Sink.{CountsFailure};
 
 use crate::keys::Followed;
-use crate::parameter_files::{ParameterPlaces, file_trees};
 use crate::stated::StatedInputs;
 use crate::view::View;
 use crate::walk::{LinesFault, Walk};
@@ -25,6 +24,7 @@ use fisca_evaluator::{Evaluator, IndexRecall, Recall};
 use fisca_forms::LineForm;
 use fisca_model::{EvalFault, Key};
 use fisca_params::SourceFile;
+use fisca_rule_files::{ParameterPlaces, file_trees};
 use fisca_rules::RuleSet;
 use fisca_simulation::own_key;
 use fisca_situations::Situation;

@@ -9,7 +9,6 @@ mod law;
 mod line;
 mod lines;
 mod origin;
-mod parameter_files;
 mod reading;
 mod stated;
 mod text;

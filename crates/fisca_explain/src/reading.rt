@@ -6,13 +6,13 @@ ghost use Rattle.fisca_explain.specs.Lines.{KeepsReading};
 ghost use Rattle.fisca_explain.specs.Says.{Names, Says};
 
 use crate::line::{Kind, Line, Source};
-use crate::parameter_files::{ParameterPlace, in_force};
 use crate::texts::{is_bare, may_be_bare, write_date};
 use crate::view::View;
 use fisca_folder::write_shown;
-use fisca_following::Reading;
 use fisca_model::Value;
 use fisca_ops::{OperationFault, parameter_at, scale_sum_at};
+use fisca_rule_files::{ParameterPlace, entry_in_force};
+use fisca_simulation::Reading;
 use fisca_time::Instant;
 use fisca_yaml::Tree;
 use std::alloc::AllocError;
@@ -28,7 +28,7 @@ fn plain_text<'t>(tree: &'t Tree<'_>) -> Option<&'t str> {
 /// The same, or that of what is in force on a day in a map of days.
 fn text_on<'t>(tree: &'t Tree<'_>, day: Instant) -> Option<&'t str> {
     match tree {
-        Tree::Map(_) => match in_force(tree, day) {
+        Tree::Map(_) => match entry_in_force(tree, day) {
             Some(found) => plain_text(&found.entry.value),
             None => None,
         },
@@ -73,7 +73,7 @@ fn put_value(
     if line.kind != Kind::Parameter {
         return Ok(());
     }
-    let Some(found) = in_force(place.tree, day) else {
+    let Some(found) = entry_in_force(place.tree, day) else {
         return Ok(());
     };
     line.line = Some(found.entry.line);

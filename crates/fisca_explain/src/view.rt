@@ -1,9 +1,9 @@
 //! What explanations are made of.
 
-use crate::parameter_files::ParameterPlaces;
 use crate::stated::StatedInputs;
 use fisca_forms::LineForm;
 use fisca_params::SourceFile;
+use fisca_rule_files::ParameterPlaces;
 use fisca_rules::RuleSet;
 use std::alloc::Global;
 

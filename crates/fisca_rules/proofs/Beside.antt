@@ -5,7 +5,7 @@ use Rattle.std.proofs.lemmas.List.{length-append}
 use Rattle.fisca_ast.specs.Modules.{Item, Statement, entity, entities, choices, variable}
 use Rattle.fisca_declarations.specs.VariableForms.{Written}
 use Rattle.fisca_declarations.specs.declared.declared.Declared.{Declared}
-use Rattle.fisca_names.specs.Names.{Placed, placed_from, names_from}
+use Rattle.fisca_rules.specs.FirstPass.{Placed, placed_from, names_from}
 use Rattle.fisca_rules.specs.Build.{Found, Whole, none_yet, with_variable}
 use Rattle.fisca_rules.specs.Steps.Build.{declared_in, enums_in, found_from, second_pass, statement_found, tables_of, variable_in, with_person}
 use Rattle.fisca_symbols.specs.declared.variable.Variable.{Variable}

@@ -3,8 +3,8 @@ use Rattle.std.proofs.Common.{◌≡◌, ◌∙◌, ap, List, [], map}
 use Rattle.std.specs.Prelude.{Ok, Err}
 use Rattle.fisca_rules.specs.Build.{Whole}
 use Rattle.fisca_rules.specs.Steps.Build.{declared_by, tables_of}
-use Rattle.fisca_names.specs.Names.{placed_from}
-use Rattle.fisca_names.specs.declared.fault.BuildFault.{BuildFault}
+use Rattle.fisca_rules.specs.FirstPass.{placed_from}
+use Rattle.fisca_rules.specs.declared.build_fault.BuildFault.{BuildFault}
 use Rattle.fisca_num.specs.Results.{and_then}
 use Rattle.fisca_params.specs.Tree.{TreeNode}
 use Rattle.fisca_rules.specs.Rules.{DatedFormula, Rules}

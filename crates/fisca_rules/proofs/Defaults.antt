@@ -14,7 +14,7 @@ use Rattle.fisca_rules.specs.Build.{Found, Whole, with_variable, none_yet}
 use Rattle.fisca_rules.specs.Steps.Build.{enums_in, declared_in, found_from, statement_found, second_pass, variable_in, with_person, tables_of}
 use Rattle.fisca_ast.specs.Tree.{Tree}
 use Rattle.fisca_ast.specs.Words.{is}
-use Rattle.fisca_names.specs.Names.{Placed, placed_from, names_from, told_at}
+use Rattle.fisca_rules.specs.FirstPass.{Placed, placed_from, names_from, told_at}
 use Rattle.fisca_num.specs.Number.{Number}
 use Rattle.fisca_num.specs.Results.{and_then}
 use Rattle.fisca_params.specs.Tree.{TreeNode}

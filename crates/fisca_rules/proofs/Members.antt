@@ -16,9 +16,9 @@ use Rattle.fisca_declarations.specs.declared.types.TypeLines.{TypeLines}
 use Rattle.fisca_declarations.specs.declared.declared.Declared.{Declared}
 use Rattle.fisca_ast.specs.Tree.{Tree}
 use Rattle.fisca_model.specs.Tables.{type_in}
-use Rattle.fisca_formula_semantics.specs.Wellformed.{HasMembers}
-use Rattle.fisca_names.specs.declared.fault.BuildFault.{BuildFault}
-use Rattle.fisca_names.specs.Names.{Placed, placed_from, names_from, fault_at, told_at}
+use Rattle.fisca_typing.specs.Wellformed.{HasMembers}
+use Rattle.fisca_rules.specs.declared.build_fault.BuildFault.{BuildFault}
+use Rattle.fisca_rules.specs.FirstPass.{Placed, placed_from, names_from, fault_at, told_at}
 use Rattle.fisca_num.specs.Results.{and_then}
 use Rattle.fisca_params.specs.Tree.{TreeNode}
 use Rattle.fisca_rules.specs.Rules.{known}

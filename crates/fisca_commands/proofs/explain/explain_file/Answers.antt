@@ -14,8 +14,7 @@ returns-clause-answer g c =
     let asked : Calculation = record { rules = c.args.from.rules.now; asked = calc c.args.file } in
     let end = c.explain_columns-evaluator.result.1 in
     let x = explaining_by c.args.from.rules.now c.args.explained (simulation_of asked) in
-    let members = ap (λ (s : Situation). s.members) c.situation.ensures ∙ ap (λ (m : Simulation). m.situation.members) c.explain_columns-evaluator.ensures.same in
-    (
+    let members = ap (λ (s : Situation). s.members) c.situation.ensures ∙ ap (λ (m : Simulation). m.situation.members) c.explain_columns-evaluator.ensures.same in (
       end,
       subst (λ ks. IsExplained x (map key_seen ks) (g.S.RowSink.taken c.args.sink.now) (g.S.RowSink.taken c.explain_columns-evaluator.new.sink) end) (c.chosen-keys.ensures ∙ ?) c.explain_columns-evaluator.ensures.lines,
       subst (λ ms. IsEndIn c.args.from.rules.now ms end c.ended.result) members c.ended.ensures.end,

@@ -50,10 +50,10 @@ returns-in_err-named-clause-answer g c =
       (c.in_ok-rules.ensures.ok, c.in_ok-file.ensures.ok),
       c.in_ok-tree.ensures.ok,
       ⊎_elim
-      (λ want. inl (told.1 ∙ ap Err (told.2 ∙ want), keeps))
-      (λ bad.
-      inr (unnamed asked (default_in n) c.default_in.result words c.args.options.now.depth c.args.options.now.format (g.S.RowSink.taken c.args.sink.now) (g.S.RowSink.taken c.args.sink.now) c.from_residual-in_err-named.result c.default_in.ensures bad.1 (told.1 ∙ ap Err (told.2 ∙ bad.0)) keeps))
-      c.in_err-named.ensures.err,
+          (λ want. inl (told.1 ∙ ap Err (told.2 ∙ want), keeps))
+          (λ bad.
+          inr (unnamed asked (default_in n) c.default_in.result words c.args.options.now.depth c.args.options.now.format (g.S.RowSink.taken c.args.sink.now) (g.S.RowSink.taken c.args.sink.now) c.from_residual-in_err-named.result c.default_in.ensures bad.1 (told.1 ∙ ap Err (told.2 ∙ bad.0)) keeps))
+          c.in_err-named.ensures.err,
     )
 
 pub returns-in_err-form-clause-answer : goal.returns-in_err-form-clause-answer
@@ -109,6 +109,6 @@ returns-clause-answer g c =
       (c.in_ok-rules.ensures.ok, c.in_ok-file.ensures.ok),
       c.in_ok-tree.ensures.ok,
       inr (explained_by asked (default_in n) c.default_in.result words c.in_ok-named.named.items c.as_slice-named.result.now c.args.options.now.depth c.args.options.now.format (option_map (λ form. form.now) c.as_ref.result)
-      (g.S.RowSink.taken c.args.sink.now) (g.S.RowSink.taken c.explain_file.new.sink) c.explain_file.result c.default_in.ensures c.in_ok-named.ensures.ok
-      c.as_slice-named.ensures.value (c.as_ref.ensures.value ∙ c.in_ok-form.ensures.ok) c.explain_file.ensures.answer),
+          (g.S.RowSink.taken c.args.sink.now) (g.S.RowSink.taken c.explain_file.new.sink) c.explain_file.result c.default_in.ensures c.in_ok-named.ensures.ok
+          c.as_slice-named.ensures.value (c.as_ref.ensures.value ∙ c.in_ok-form.ensures.ok) c.explain_file.ensures.answer),
     )

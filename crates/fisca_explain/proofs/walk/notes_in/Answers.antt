@@ -1,6 +1,6 @@
 use Rattle.std.proofs.Common.{◌≡◌, ◌∙◌, false, ap, rules}
 use Rattle.fisca_model.specs.Seen.{key_seen}
-use Rattle.fisca_following.specs.Played.{played}
+use Rattle.fisca_simulation.specs.Played.{played}
 use Rattle.fisca_simulation.specs.Simulations.{sources}
 use Rattle.fisca_simulation.specs.Views.{simulation}
 use Rattle.fisca_situations.specs.Steps.Views.{situation}

@@ -1,5 +1,0 @@
-use Rattle.fisca_following.proofs.NotedKeys.{ends_same}
-use Rattle.fisca_following.proofs.law.formulas_end_as_they_are_followed.Goals as goal
-
-pub returns : goal.returns
-returns c W key d = ends_same W key d

@@ -1,5 +1,0 @@
-pub mod Noted
-pub mod Meaning
-pub mod Played
-pub mod Followers
-pub mod Followed

@@ -6,6 +6,7 @@ import os
 import re
 from typing import TYPE_CHECKING, Any, Iterable, Iterator, List, NamedTuple, Optional, Sequence, Tuple, Union
 
+from ._comparing import Comparison
 from ._errors import FiscaError
 from ._explaining import Step, step_of
 from ._lines import Amount, Population, Situation, amount_of, situations_of
@@ -173,6 +174,36 @@ class Rules:
         words = self._call("run", *options_of(decimals=decimals, keep_going=keep_going))
         parts = parts_of(words, self.folder, size, start, stop, workers)
         return run_of(lines_of_parts(parts, file, workers, good), said, is_rounded)
+
+    def compare(
+        self,
+        reforms: Union[PathLike, Iterable[PathLike]],
+        said: Said,
+        start: int = 0,
+        *,
+        to: Optional[int] = None,
+        part: Optional[Tuple[int, int]] = None,
+        decimals: Optional[int] = None,
+        keep_going: bool = False,
+        workers: int = 1,
+    ) -> Comparison:
+        """Where the rows of a file of `fisca run` are others when the files of a folder, or of several, are laid over
+        those of the rules: the positions, as they are found, with the values before and after.
+
+        The file is run under both at a time, each by its own processes. The other arguments and the errors are those
+        of `run`: Refused where the file is refused under the rules, or else under the reform.
+        """
+        several = [reforms] if isinstance(reforms, (str, os.PathLike)) else reforms
+        reformed = Rules(self.folder, self.program, reforms=[*self.reforms, *several])
+        before = self.run(said, start, None, to=to, part=part, decimals=decimals, keep_going=keep_going, workers=workers)
+        try:
+            after = reformed.run(
+                said, start, None, to=to, part=part, decimals=decimals, keep_going=keep_going, workers=workers
+            )
+        except BaseException:
+            before.close()
+            raise
+        return Comparison(before, after)
 
     def frame(
         self,

@@ -15,7 +15,7 @@ ghost use Rattle.fisca_time.specs.PeriodText.{text_of as period_text};
 
 use crate::line::{Kind, Line, Source};
 use crate::origin::Origin;
-use crate::texts::{is_bare, may_be_bare, write_date, write_source, write_told};
+use crate::texts::{date_text, is_bare, may_be_bare, write_source, write_told};
 use crate::view::View;
 use fisca_ast::ClassLine;
 use fisca_columns::write_value;
@@ -26,6 +26,9 @@ use fisca_situations::Situation;
 use fisca_symbols::Tables;
 use fisca_time::{Instant, Period};
 use std::alloc::AllocError;
+
+/// The bytes of memory that a value has at first; one that is longer takes more.
+const VALUE_ROOM: usize = 16;
 
 /// The name of the variable at a place, and nothing where there is none.
 fn name_at<'t>(tables: &'t Tables<'_>, variable: usize) -> &'t [u8]
@@ -158,7 +161,7 @@ fn put_formula(
     let Some(dated) = formulas.in_force(day) else {
         return Ok(());
     };
-    write_date(view.alloc, dated.start, &mut line.since)?;
+    line.since = date_text(view.alloc, dated.start)?;
     write_module(view, declaration.module, &mut line.file)?;
     line.line = formula_line(declaration, dated.start);
     Ok(())
@@ -220,7 +223,7 @@ fn put_origin(
 fn value_text(view: &View<'_, '_, '_, '_>, key: &Key, value: Value) -> Result<String, AllocError>
     ensures { IfOk result (λ text. string_bytes text ≡ value_text (known view.now.rules.now.tables) key.now.variable value) }
 {
-    let mut text = String::new(view.alloc);
+    let mut text = String::with_capacity(view.alloc, VALUE_ROOM)?;
     write_value(
         view.alloc,
         &view.rules.tables,

@@ -40,6 +40,9 @@ use std::alloc::{AllocError, Global};
 /// How many keys are asked for below one another at most.
 const MOST_KEYS: usize = 100;
 
+/// The bytes of memory that a line has at first; one that is longer takes more.
+const LINE_ROOM: usize = 256;
+
 /// Why lines end.
 #[derive(Clone, Copy, Debug, PartialEq, Eq)]
 pub(crate) enum LinesFault {
@@ -125,7 +128,7 @@ impl<'e, 's, 'q, 'f, 'r, R: Recall> Walk<'e, 's, 'q, 'f, 'r, R> {
     fn text_of(&self, line: &Line) -> Result<String, AllocError>
         ensures { IfOk result (λ text. string_bytes text ≡ written (form_in self.now) line.now) }
     {
-        let mut text = String::new(self.view.alloc);
+        let mut text = String::with_capacity(self.view.alloc, LINE_ROOM)?;
         match self.view.form {
             None => {
                 write_text(line, &mut text)?;

@@ -1,6 +1,7 @@
 """Finds the program, and runs it: to its end, or line by line."""
 from __future__ import annotations
 
+import io
 import os
 import shutil
 import subprocess
@@ -77,6 +78,13 @@ def output_of(
     return ran.stdout.decode()
 
 
+def whole_lines(output: IO[bytes]) -> Iterator[str]:
+    """The lines of an output, without one that is cut short."""
+    for line in io.TextIOWrapper(output, "utf-8", newline="\n"):
+        if line.endswith("\n"):
+            yield line[:-1]
+
+
 def lines_of(
     words: Sequence[str], file: Optional[File] = None, good: Collection[int] = (0,)
 ) -> Generator[str, None, str]:
@@ -89,9 +97,7 @@ def lines_of(
         with subprocess.Popen(call, stdin=source, stdout=subprocess.PIPE, stderr=told) as ran:
             assert ran.stdout is not None
             try:
-                for line in ran.stdout:
-                    if line.endswith(b"\n"):
-                        yield line[:-1].decode()
+                yield from whole_lines(ran.stdout)
             except BaseException:
                 ran.kill()
                 raise

@@ -40,7 +40,7 @@ use Rattle.fisca_rules.specs.Rules.{DatedFormula, Rules, known}
 use Rattle.fisca_rules.specs.Steps.Rules.{all_formulas, formulas_by, formulas_of, rules_of, with_formulas}
 use Rattle.fisca_rules.specs.Safety.{is_number, is_whole, is_bool, is_date, is_text, is_member, is_default, AllDefaultsFit, DefaultsFit, AreUncomputed, DaysAndTextsHaveNoFormulas}
 use Rattle.fisca_rules.proofs.Beside.{declared_beside}
-use Rattle.fisca_rules.proofs.Members.{then_ok, told_ok, position_inside, entity_keeps, same_found, person_keeps, made, variable_made}
+use Rattle.fisca_rules.proofs.FoundMembers.{then_ok, told_ok, position_inside, entity_keeps, same_found, person_keeps, made, variable_made}
 
 -- Each type
 

@@ -1,14 +1,14 @@
 pub mod Among
 mod Beside
-mod Built
+mod BuiltTables
 pub mod Clash
 pub mod Confused
 mod Defaults
 pub mod Each
 pub mod Fitting
+mod FoundMembers
 mod Lined
 pub mod Meet
-mod Members
 mod Named
 pub mod Repeated
 mod Safe

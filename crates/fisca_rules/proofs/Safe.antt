@@ -19,7 +19,7 @@ use Rattle.fisca_typing.specs.Names.{Names}
 use Rattle.fisca_model.specs.Tables.{Tables}
 use Rattle.fisca_model.specs.declared.value_type.ValueType.{ValueType}
 use Rattle.fisca_rules.proofs.Beside.{declared_beside}
-use Rattle.fisca_rules.proofs.Members.{then_ok, members_there_in}
+use Rattle.fisca_rules.proofs.FoundMembers.{then_ok, members_there_in}
 
 -- what is known of formulas that have a type
 abbrev pub TypedAreSafe : Type 0

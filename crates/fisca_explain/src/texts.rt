@@ -9,20 +9,13 @@ use fisca_model::Value;
 use fisca_symbols::SourceText;
 use fisca_time::Instant;
 use std::alloc::{AllocError, Global};
-use std::str::from_utf8;
 
 /// Appends a text of a module, in one line.
 pub(crate) fn write_source(alloc: Global, bytes: &[u8], text: &mut String) -> Result<(), AllocError>
     ensures { OnOk result (string_bytes text.new ≡ string_bytes text.old ++ source_text bytes.now) }
 {
-    text.reserve(bytes.len())?;
-    match from_utf8(bytes) {
-        Ok(whole) => write_shown(whole, text),
-        Err(_) => {
-            let whole = String::from_utf8_lossy(alloc, bytes)?;
-            write_shown(whole.as_str(), text)
-        }
-    }
+    let whole = String::from_utf8_lossy(alloc, bytes)?;
+    write_shown(whole.as_str(), text)
 }
 
 /// Appends what is told, if it is.

@@ -23,7 +23,8 @@ use Rattle.fisca_symbols.specs.Known.{tables as known}
 use Rattle.fisca_time.specs.Period.{Span}
 use Rattle.fisca_yaml.specs.Grouping.{document}
 use Rattle.fisca_yaml.specs.Node.{Node}
-use Rattle.fisca_commands.specs.Calc.{Calculation, IsCalculation, IsKeyTold, RefusesCalculation, simulation_of}
+use Rattle.fisca_columns.specs.Calc.{Calc}
+use Rattle.fisca_commands.specs.Calc.{Calculation, IsAsked, IsCalculation, IsKeyTold, RefusesCalculation, RefusesText, simulation_of}
 
 -- the keys that words name, if each names one
 abbrev pub joined : Option Key → Option (List Key) → Option (List Key)
@@ -74,10 +75,22 @@ abbrev pub IsExplainedBy : Calculation → Option (List Key) → Option ℕ → 
 IsExplainedBy c None depth format old new answer = (answer ≡ Err BadWord) × Keeps old new
 IsExplainedBy c (Some keys) depth format old new answer = IsExplainedIn c (explaining c depth format) keys old new answer
 
+-- the same of the columns that words name, or of those of the file; or memory was refused before
+abbrev pub IsExplainedOrFull : Calculation → Option Span → List (List ℕ) → Option ℕ → Option Format → Option (List ℕ) → Option (List ℕ) → Result Unit Refusal → Type 0
+IsExplainedOrFull c default words depth format old new answer =
+    ((answer ≡ Err Memory) × Keeps old new) ⊎ IsExplainedBy c (chosen c default words) depth format old new answer
+
+-- what is answered for this text under a rule set: it is refused and nothing is written, or its columns are explained
+abbrev pub IsTextExplained : RuleSet → List ℕ → List (List ℕ) → Option ℕ → Option Format → Option (List ℕ) → Option (List ℕ) → Result Unit Refusal → Type 0
+IsTextExplained rules text words depth format old new answer =
+    ((refusal : Refusal) × (answer ≡ Err refusal) × RefusesText rules text refusal × Keeps old new)
+    ⊎ ((asked : Calc) × (n : Node) × IsAsked rules text asked × (document text ≡ Some n)
+    × IsExplainedOrFull (record { rules = rules; asked = asked }) (default_in n) words depth format old new answer)
+
 -- what `explain` answers for these files and this text, and what a sink that held `old` then holds: they are refused and nothing is written, or the columns are
 -- explained in order, up to the first that has no value
 abbrev pub IsExplain : List Source → List ℕ → List (List ℕ) → Option ℕ → Option Format → Option (List ℕ) → Option (List ℕ) → Result Unit Refusal → Type 0
 IsExplain files text words depth format old new answer =
     ((refusal : Refusal) × (answer ≡ Err refusal) × RefusesCalculation files text refusal × Keeps old new)
     ⊎ ((c : Calculation) × (n : Node) × IsCalculation files text c × (document text ≡ Some n)
-    × (((answer ≡ Err Memory) × Keeps old new) ⊎ IsExplainedBy c (chosen c (default_in n) words) depth format old new answer))
+    × IsExplainedOrFull c (default_in n) words depth format old new answer)

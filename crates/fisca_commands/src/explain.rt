@@ -3,13 +3,17 @@
 ghost use Rattle.std.specs.Prelude.{◌≡◌, ◌⊎◌, IfErr, IfOk, None, Some, map, string_bytes};
 ghost use Rattle.fisca_columns.specs.Views.{calc};
 ghost use Rattle.fisca_commands.specs.Calc.{simulation_of};
-ghost use Rattle.fisca_commands.specs.Explain.{IsEndIn, IsExplain, IsExplainedIn, form_in, named, picked};
+ghost use Rattle.fisca_columns.specs.Steps.Calc.{default_in};
+ghost use Rattle.fisca_commands.specs.Explain.{IsEndIn, IsExplain, IsExplainedIn, IsExplainedOrFull, IsTextExplained, form_in, named, picked};
 ghost use Rattle.fisca_explain.specs.Ends.{is_failed_write};
 ghost use Rattle.fisca_explain.specs.Walks.{explaining_by};
 ghost use Rattle.fisca_simulation.specs.Told.{IsReady};
 ghost use Rattle.fisca_rule_files.specs.Refusal.{is_write};
+ghost use Rattle.fisca_rule_files.specs.RuleFiles.{IsAccepted};
+ghost use Rattle.fisca_rules.specs.Views.{rule_set};
 ghost use Rattle.fisca_situations.specs.Steps.Views.{situation as situation_view};
 ghost use Rattle.fisca_writer.specs.Sink.{CountsFailure};
+ghost use Rattle.fisca_yaml.specs.Views.{node};
 
 use super::calc::{read_file, read_tree, tell};
 use crate::calc_inputs_fit;
@@ -117,6 +121,47 @@ fn explain_file<'m, 'f, S: RowSink>(
     ended(alloc, from.rules, evaluator.situation(), end)
 }
 
+/// Explains the columns of a file that was read, or those that words name, if there are any.
+fn explain_named<'m, 'f, S: RowSink>(
+    alloc: Global,
+    from: RuleFiles<'m, 'f, '_>,
+    tree: &'m Tree<'f>,
+    file: CalcFile,
+    options: &ExplainOptions<'_>,
+    sink: &mut S,
+) -> Result<(), Refusal>
+    requires { IsReady (simulation_of (record { rules = from.rules.now; asked = calc file })) }
+    ensures answer { IsExplainedOrFull (record { rules = from.entry.rules.now; asked = calc file }) (default_in (node tree.now)) (map (λ word. string_bytes word) options.now.columns.now) options.now.depth options.now.format (S.taken sink.old) (S.taken sink.new) result }
+    ensures failures { CountsFailure (is_write result) (S.failures sink.old) (S.failures sink.new) }
+{
+    let (rules, words) = (from.rules, options.columns);
+    let default = default_in(tree);
+    let named = keys_of(alloc, rules, &file.situation, &default, words)?;
+    let form = form_of(alloc, options.format)?;
+    let (depth, form) = (options.depth, form.as_ref());
+    let explained = Explained { depth, form };
+    explain_file(alloc, from, tree, file, named.as_slice(), explained, sink)
+}
+
+/// Explains the columns of the file of this text under a rule set, or those that words name, if there are any.
+fn explain_text<'m, 'f, S: RowSink>(
+    alloc: Global,
+    from: RuleFiles<'m, 'f, '_>,
+    text: &'f str,
+    options: &ExplainOptions<'_>,
+    sink: &mut S,
+) -> Result<(), Refusal>
+    requires { IsAccepted from.files.now (rule_set from.rules.now) }
+    ensures answer { IsTextExplained from.entry.rules.now text.now (map (λ word. string_bytes word) options.now.columns.now) options.now.depth options.now.format (S.taken sink.old) (S.taken sink.new) result }
+    ensures failures { CountsFailure (is_write result) (S.failures sink.old) (S.failures sink.new) }
+{
+    let file = read_file(alloc, from.rules, text)?;
+    let tree = read_tree(alloc, text)?;
+    rule_sets_are_safe();
+    calc_inputs_fit();
+    explain_named(alloc, from, &tree, file, options, sink)
+}
+
 /// Explains the columns of a file under a rule set, or those that words name, one after another: a line for each key, with its value and where that
 /// came from, and below it, in the order in which its formula needs them, each key that it asks for and each parameter that it reads. A key whose
 /// formula was followed above is named alone.
@@ -142,19 +187,10 @@ pub fn explain_rules<'x, S: RowSink>(
 {
     let rules = rules_of(alloc, files)?;
     let modules = modules_of(alloc, files)?;
-    let file = read_file(alloc, &rules, text)?;
-    let tree = read_tree(alloc, text)?;
-    rule_sets_are_safe();
-    calc_inputs_fit();
-    let default = default_in(&tree);
-    let named = keys_of(alloc, &rules, &file.situation, &default, options.columns)?;
-    let form = form_of(alloc, options.format)?;
     let from = RuleFiles {
         files,
         modules: modules.as_slice(),
         rules: &rules,
     };
-    let (depth, form) = (options.depth, form.as_ref());
-    let explained = Explained { depth, form };
-    explain_file(alloc, from, &tree, file, named.as_slice(), explained, sink)
+    explain_text(alloc, from, text, options, sink)
 }

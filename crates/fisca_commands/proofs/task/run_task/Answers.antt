@@ -24,4 +24,4 @@ pub returns-in-Axes-clause-ending : goal.returns-in-Axes-clause-ending
 returns-in-Axes-clause-ending g c =
     subst (λ (task : Task). IsTaskEnding task c.args.files.now c.args.told_paths.now c.args.text.now (g.S.RowSink.taken c.args.sink.now) (g.S.RowSink.taken c.run_axes.new.sink) c.run_axes.result) (sym c.in-Axes.is)
     (subst (λ words. IsAxesEnding (map (λ word. string_bytes word) words) (option_map (λ text. text.now) c.in-Axes.keep) c.in-Axes.options (g.S.RowSink.taken c.args.sink.now) (g.S.RowSink.taken c.run_axes.new.sink) c.run_axes.result)
-    c.as_slice.ensures.value c.run_axes.ensures.ending)
+    c.as_slice-in-Axes.ensures.value c.run_axes.ensures.ending)

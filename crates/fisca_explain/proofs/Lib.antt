@@ -1,4 +1,3 @@
-mod Dates
 pub mod Keeping
 pub mod ToldKeys
 pub mod FromMemory

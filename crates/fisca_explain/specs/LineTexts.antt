@@ -2,8 +2,6 @@
 use Rattle.std.specs.Prelude.{ℕ, zero, suc, List, [], ◌∷◌, ◌++◌, codes, if◌then◌else◌, Option, Some, None, string_bytes, true, false}
 use Rattle.std.specs.Fmt.{decimal}
 use Rattle.std.specs.Str.{bytes_eq}
-use Rattle.std.specs.Str.Lossy.{utf8_lossy}
-use Rattle.fisca_folder.specs.Shown.{shown}
 use Rattle.fisca_forms.specs.Forms.{Cell, bare, cell_in, closing, quoted}
 use Rattle.fisca_forms.specs.LineForms.{Form, before_cell, name_at}
 use Rattle.fisca_explain.specs.declared.line.Kind.{Kind}
@@ -141,14 +139,3 @@ explain_names =
 
 abbrev pub cells_text : Form → Line → List ℕ
 cells_text form l = subject_cells form l ++ (answer_cells form l ++ (told_cells form l ++ closing form.format))
-
--- Pieces
-
--- a text of a module, in one line
-abbrev pub source_text : List ℕ → List ℕ
-source_text t = shown (utf8_lossy t)
-
--- what is told, if it is
-abbrev pub told_text : Option (List ℕ) → List ℕ
-told_text None = []
-told_text (Some t) = source_text t

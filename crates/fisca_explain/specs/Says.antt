@@ -14,7 +14,8 @@ use Rattle.fisca_simulation.specs.Told.{value_of}
 use Rattle.fisca_time.specs.PeriodText.{date_text, text_of as period_text}
 use Rattle.fisca_simulation.specs.declared.note.Reading.{Reading}
 use Rattle.fisca_explain.specs.Explained.{Entry, of_key, of_reading}
-use Rattle.fisca_explain.specs.LineTexts.{cells_text, source_text, text_of}
+use Rattle.fisca_explain.specs.LineTexts.{cells_text, text_of}
+use Rattle.fisca_rule_files.specs.Listing.{text_of as source_text}
 use Rattle.fisca_explain.specs.declared.line.Kind.TheVariants as kind
 use Rattle.fisca_explain.specs.declared.line.Line.{Line}
 use Rattle.fisca_explain.specs.declared.line.Source.TheVariants as source

@@ -1,6 +1,7 @@
 //! How the values of a situation came about, as lines.
 #![tactic(auto)]
 
+mod bare;
 mod below;
 mod cells;
 mod explain;
@@ -12,7 +13,6 @@ mod origin;
 mod reading;
 mod stated;
 mod text;
-mod texts;
 mod view;
 mod walk;
 

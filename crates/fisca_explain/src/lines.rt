@@ -4,7 +4,6 @@ ghost use Rattle.std.specs.Prelude.{◌≡◌, [], IfOk, None, OnOk, option_map,
 ghost use Rattle.fisca_columns.specs.Steps.Texts.{member_of, name_of};
 ghost use Rattle.fisca_columns.specs.Texts.{value_text};
 ghost use Rattle.fisca_explain.specs.Explained.{of_key};
-ghost use Rattle.fisca_explain.specs.LineTexts.{source_text};
 ghost use Rattle.fisca_explain.specs.Lines.{KeepsKey, fault_in, names_at, value_in};
 ghost use Rattle.fisca_explain.specs.Says.{HasAnswer, NamesKey, Says};
 ghost use Rattle.fisca_explanation.specs.Explanations.{Reason, above, unfit};
@@ -13,15 +12,16 @@ ghost use Rattle.fisca_situations.specs.Steps.Views.{situation as situation_view
 ghost use Rattle.fisca_symbols.specs.Known.{tables as known};
 ghost use Rattle.fisca_time.specs.PeriodText.{text_of as period_text};
 
+use crate::bare::{is_bare, may_be_bare};
 use crate::line::{Kind, Line, Source};
 use crate::origin::Origin;
-use crate::texts::{date_text, is_bare, may_be_bare, write_source, write_told};
 use crate::view::View;
 use fisca_ast::ClassLine;
 use fisca_columns::write_value;
 use fisca_declarations::Declaration;
 use fisca_folder::write_shown;
 use fisca_model::{EvalFault, Key, Value};
+use fisca_rule_files::{text_of, text_told, write_day, write_source};
 use fisca_situations::Situation;
 use fisca_symbols::Tables;
 use fisca_time::{Instant, Period};
@@ -50,36 +50,6 @@ fn member_at<'s>(tables: &Tables<'_>, situation: &'s Situation, key: &Key) -> &'
     }
 }
 
-/// The name of a key's variable, and nothing where there is none.
-fn variable_text(view: &View<'_, '_, '_, '_>, key: &Key) -> Result<String, AllocError>
-    ensures { IfOk result (λ text. string_bytes text ≡ source_text (name_of (slice_get (known view.now.rules.now.tables).variables key.now.variable))) }
-{
-    let mut text = String::new(view.alloc);
-    write_source(
-        view.alloc,
-        name_at(&view.rules.tables, key.variable),
-        &mut text,
-    )?;
-    Ok(text)
-}
-
-/// The name of a key's member, and nothing where there is none.
-fn member_text(
-    view: &View<'_, '_, '_, '_>,
-    situation: &Situation,
-    key: &Key,
-) -> Result<String, AllocError>
-    ensures { IfOk result (λ text. string_bytes text ≡ source_text (member_of (situation_view situation.now).members key.now.member (slice_get (known view.now.rules.now.tables).variables key.now.variable))) }
-{
-    let mut text = String::new(view.alloc);
-    write_source(
-        view.alloc,
-        member_at(&view.rules.tables, situation, key),
-        &mut text,
-    )?;
-    Ok(text)
-}
-
 /// A period.
 fn period_text(view: &View<'_, '_, '_, '_>, period: Period) -> Result<String, AllocError>
     ensures { IfOk result (λ text. string_bytes text ≡ period_text period) }
@@ -100,8 +70,8 @@ fn put_key(
     ensures key { OnOk result (NamesKey (names_at view.now situation.now EvalFault.Memory) (key_seen key.now) line.new) }
     ensures others { OnOk result (line.new ≡ record line.old { name = line.new.name; member = line.new.member; period = line.new.period }) }
 {
-    line.name = variable_text(view, key)?;
-    line.member = member_text(view, situation, key)?;
+    line.name = text_of(view.alloc, name_at(&view.rules.tables, key.variable))?;
+    line.member = text_of(view.alloc, member_at(&view.rules.tables, situation, key))?;
     line.period = period_text(view, key.period)?;
     Ok(())
 }
@@ -114,7 +84,7 @@ fn put_told(
 ) -> Result<(), AllocError>
     ensures { OnOk result (KeepsKey line.old line.new) }
 {
-    write_told(view.alloc, &declaration.label, &mut line.label)?;
+    line.label = text_told(view.alloc, &declaration.label)?;
     match declaration.reference.as_slice().first() {
         Some(reference) => write_source(view.alloc, reference.as_bytes(), &mut line.reference),
         None => Ok(()),
@@ -161,7 +131,7 @@ fn put_formula(
     let Some(dated) = formulas.in_force(day) else {
         return Ok(());
     };
-    line.since = date_text(view.alloc, dated.start)?;
+    write_day(dated.start, &mut line.since)?;
     write_module(view, declaration.module, &mut line.file)?;
     line.line = formula_line(declaration, dated.start);
     Ok(())
@@ -314,7 +284,7 @@ pub(crate) fn line_of_key(
     match view.rules.declarations.get(key.variable) {
         None => Ok(line),
         Some(declaration) => {
-            write_told(view.alloc, &declaration.unit, &mut line.unit)?;
+            line.unit = text_told(view.alloc, &declaration.unit)?;
             put_source(view, situation, key, declaration, origin, &mut line)?;
             Ok(line)
         }

@@ -5,13 +5,13 @@ ghost use Rattle.fisca_explain.specs.Explained.{of_reading};
 ghost use Rattle.fisca_explain.specs.Lines.{KeepsReading};
 ghost use Rattle.fisca_explain.specs.Says.{Names, Says};
 
+use crate::bare::{is_bare, may_be_bare};
 use crate::line::{Kind, Line, Source};
-use crate::texts::{is_bare, may_be_bare, write_date};
 use crate::view::View;
 use fisca_folder::write_shown;
 use fisca_model::Value;
 use fisca_ops::{OperationFault, parameter_at, scale_sum_at};
-use fisca_rule_files::{ParameterPlace, entry_in_force};
+use fisca_rule_files::{ParameterPlace, entry_in_force, write_day};
 use fisca_simulation::Reading;
 use fisca_time::Instant;
 use fisca_yaml::Tree;
@@ -53,17 +53,8 @@ fn write_said(said: Option<&str>, text: &mut String) -> Result<(), AllocError> {
     }
 }
 
-/// Appends a text where none stands yet, if there is one.
-fn write_if_none(said: Option<&str>, text: &mut String) -> Result<(), AllocError> {
-    if text.is_empty() {
-        return write_said(said, text);
-    }
-    Ok(())
-}
-
 /// Puts the value of a parameter in force, and where it stands.
 fn put_value(
-    view: &View<'_, '_, '_, '_>,
     place: &ParameterPlace<'_, '_>,
     day: Instant,
     line: &mut Line,
@@ -77,7 +68,7 @@ fn put_value(
         return Ok(());
     };
     line.line = Some(found.entry.line);
-    write_date(view.alloc, found.since, &mut line.since)?;
+    write_day(found.since, &mut line.since)?;
     write_said(
         said_of(&found.entry.value, "reference", day),
         &mut line.reference,
@@ -86,7 +77,6 @@ fn put_value(
 
 /// Puts where a parameter or a scale stands, and what is told of it.
 fn put_place(
-    view: &View<'_, '_, '_, '_>,
     place: &ParameterPlace<'_, '_>,
     day: Instant,
     line: &mut Line,
@@ -96,10 +86,13 @@ fn put_place(
     write_shown(place.path.as_str(), &mut line.name)?;
     write_shown(place.file, &mut line.file)?;
     line.line = Some(place.line);
-    put_value(view, place, day, line)?;
+    put_value(place, day, line)?;
     write_said(said_of(place.tree, "unit", day), &mut line.unit)?;
     write_said(said_of(place.tree, "description", day), &mut line.label)?;
-    write_if_none(said_of(place.tree, "reference", day), &mut line.reference)
+    if line.reference.is_empty() {
+        write_said(said_of(place.tree, "reference", day), &mut line.reference)?;
+    }
+    Ok(())
 }
 
 /// The word of a fault of a parameter or a scale.
@@ -174,10 +167,10 @@ pub(crate) fn line_of_reading(
     ensures { IfOk result (λ line. (n : Names) → Says n (of_reading depth reading.now) line) }
 {
     let mut line = line_of_answer(view, depth, reading)?;
-    write_date(view.alloc, reading.day, &mut line.period)?;
+    write_day(reading.day, &mut line.period)?;
     match view.parameters.find(reading.place) {
         Some(place) => {
-            put_place(view, place, reading.day, &mut line)?;
+            put_place(place, reading.day, &mut line)?;
             Ok(line)
         }
         None => Ok(line),

@@ -17,7 +17,7 @@ pub(crate) struct Stated {
 }
 
 /// The input of a file, and the period that values without one have.
-#[derive(Clone, Copy)]
+#[derive(Drop)]
 pub(crate) struct StatedInputs<'t, 'a> {
     /// The input.
     pub(crate) tree: &'t Tree<'a>,

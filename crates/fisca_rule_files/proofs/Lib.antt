@@ -1,4 +1,3 @@
-mod Dates
 mod FirstModule
 pub mod ListedLines
 mod Telling

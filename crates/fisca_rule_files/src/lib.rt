@@ -3,6 +3,7 @@
 
 mod cells;
 mod check;
+mod days;
 mod ending;
 mod law;
 mod listing;
@@ -14,6 +15,7 @@ mod texts;
 
 pub use cells::list_names;
 pub use check::check_rules;
+pub use days::write_day;
 pub use ending::Ending;
 pub use law::each_variable_has_its_line;
 pub use listing::write_listing;
@@ -23,3 +25,4 @@ pub use parameter_files::{
 };
 pub use refusal::{Refusal, Unanswered};
 pub use rule_files::rules_of;
+pub use texts::{text_of, text_told, write_source};

@@ -1,0 +1,86 @@
+-- What `fisca test` answers and writes over several files: the report on each below its path, and one count of all.
+use Rattle.std.specs.Prelude.{◌≡◌, ◌⊎◌, ◌==◌, ◌++◌, ℕ, ◌+◌, ◌-◌, ◌^◌, min, Bool, false, List, [], ◌∷◌, codes, Option, Result, Ok, Err, MatchResult}
+use Rattle.std.specs.Io.KnownBytes.{Appends, Keeps}
+use Rattle.fisca_folder.specs.Layers.{Told}
+use Rattle.fisca_folder.specs.Shown.{shown}
+use Rattle.fisca_params.specs.Source.{Source}
+use Rattle.fisca_rule_files.specs.Ending.{TaskOutcome, IsTold}
+use Rattle.fisca_rule_files.specs.Refusal.{of_file, paths_of}
+use Rattle.fisca_rule_files.specs.RuleFiles.{IsAccepted, RefusesFiles}
+use Rattle.fisca_rule_files.specs.declared.refusal.Refusal.{Refusal}
+use Rattle.fisca_rule_files.specs.declared.refusal.Refusal.TheVariants.{Write, Memory}
+use Rattle.fisca_rules.specs.Views.{rule_set}
+use Rattle.fisca_rules.specs.declared.rule_set.RuleSet.{RuleSet}
+use Rattle.fisca_test_file.specs.Report.{counts_text}
+use Rattle.fisca_test_file.specs.Tests.{Test}
+use Rattle.fisca_test_file.specs.declared.all.Verdict.{Verdict}
+use Rattle.fisca_writer.specs.Run.{AppendsPart}
+use Rattle.fisca_commands.specs.Ending.{IsJudged}
+use Rattle.fisca_commands.specs.Test.{IsTested, RefusesTests, SaysTests}
+
+-- the line above the report on a file
+abbrev pub path_line : List ℕ → List ℕ
+path_line path = shown path ++ codes "\n"
+
+abbrev pub no_tests : Verdict
+no_tests = record { passed = 0; failed = 0 }
+
+-- as far as 64 bits count
+abbrev pub counted_on : ℕ → ℕ → ℕ
+counted_on total more = min (total + more) (2 ^ 64 - 1)
+
+-- the counts of some files, and of one more
+abbrev pub added : Verdict → Verdict → Verdict
+added total verdict = record { passed = counted_on total.passed verdict.passed; failed = counted_on total.failed verdict.failed }
+
+abbrev pub counts_line : Verdict → List ℕ
+counts_line total = counts_text total.passed total.failed
+
+-- what is answered for a text under a rule set: it is refused and nothing is written, or its tests of the name are worked out in order
+abbrev pub IsTextTested : RuleSet → List ℕ → Option (List ℕ) → Option (List ℕ) → Option (List ℕ) → Result Verdict Refusal → Type 0
+IsTextTested rules text name old new answer =
+    ((refusal : Refusal) × (answer ≡ Err refusal) × RefusesTests rules text name refusal × Keeps old new)
+    ⊎ ((ts : List Test) × SaysTests rules text name ts × IsTested (record { rules = rules; tests = ts }) old new answer)
+
+-- the sink failed in these bytes, or memory was refused
+abbrev pub IsCutIn : List ℕ → Option (List ℕ) → Option (List ℕ) → Refusal → Type 0
+IsCutIn bytes old new refusal = ((refusal ≡ Write) ⊎ (refusal ≡ Memory)) × AppendsPart bytes old new
+
+-- a file's path is written, and then its text is tested
+abbrev pub IsFileTested : RuleSet → Option (List ℕ) → Source → Option (List ℕ) → Option (List ℕ) → Result Verdict Refusal → Type 0
+IsFileTested rules name file old new answer =
+    ((refusal : Refusal) × (answer ≡ Err refusal) × IsCutIn (path_line file.path) old new refusal)
+    ⊎ ((between : Option (List ℕ)) × Appends old between (path_line file.path) × IsTextTested rules file.text name between new answer)
+
+-- a file that is refused is told with its path, and nothing more is written
+abbrev pub IsRefusedAt : List ℕ → List Told → Option (List ℕ) → Option (List ℕ) → Result Verdict TaskOutcome → Refusal → Type 0
+IsRefusedAt path told old new answer refusal = (outcome : TaskOutcome) × (answer ≡ Err outcome) × IsTold (paths_of path told) refusal outcome × Keeps old new
+
+-- files are tested one after another, up to the first that is refused; the counts of all are answered, with those of the files before
+abbrev pub AreFilesTested : RuleSet → List Told → Option (List ℕ) → List Source → Verdict → Option (List ℕ) → Option (List ℕ) → Result Verdict TaskOutcome → Type 0
+AreFilesTested rules told name [] total old new answer = (answer ≡ Ok total) × Keeps old new
+AreFilesTested rules told name (file ∷ files) total old new answer =
+    (between : Option (List ℕ)) × (one : Result Verdict Refusal) × IsFileTested rules name file old between one
+    × MatchResult one (λ verdict. AreFilesTested rules told name files (added total verdict) between new answer) (IsRefusedAt file.path told between new answer)
+
+-- the line of the counts is written
+abbrev pub IsTotalTold : Verdict → Option (List ℕ) → Option (List ℕ) → Result Verdict Refusal → Type 0
+IsTotalTold total old new (Ok verdict) = (verdict ≡ total) × Appends old new (counts_line total)
+IsTotalTold total old new (Err refusal) = IsCutIn (counts_line total) old new refusal
+
+-- behind all files their counts are written and judged; a refusal is told already
+abbrev pub AreEnded : Result Verdict TaskOutcome → Option (List ℕ) → Option (List ℕ) → TaskOutcome → Type 0
+AreEnded (Ok total) old new outcome = (answer : Result Verdict Refusal) × IsTotalTold total old new answer × IsJudged (of_file []) answer outcome
+AreEnded (Err refused) old new outcome = (outcome ≡ refused) × Keeps old new
+
+-- how `test` ends over several files
+abbrev pub IsTestsEnding : List Source → List Told → List Source → Option (List ℕ) → Option (List ℕ) → Option (List ℕ) → TaskOutcome → Type 0
+IsTestsEnding files told tests name old new outcome =
+    ((refusal : Refusal) × RefusesFiles files refusal × IsTold (paths_of [] told) refusal outcome × Keeps old new)
+    ⊎ ((rules : RuleSet) × IsAccepted files (rule_set rules) × (between : Option (List ℕ)) × (answer : Result Verdict TaskOutcome)
+    × AreFilesTested rules told name tests no_tests old between answer × AreEnded answer between new outcome)
+
+-- the sink failed
+abbrev pub is_failed : Result Verdict TaskOutcome → Bool
+is_failed (Ok total) = false
+is_failed (Err outcome) = outcome.status == 5

@@ -10,7 +10,6 @@ pub mod Headline
 pub mod Kept
 pub mod Listed
 pub mod ManyTests
-pub mod Named
 pub mod Remembered
 pub mod Run
 pub mod Runs

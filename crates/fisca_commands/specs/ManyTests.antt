@@ -1,8 +1,7 @@
 -- What `fisca test` answers and writes over several files: the report on each below its path, and one count of all.
-use Rattle.std.specs.Prelude.{◌≡◌, ◌⊎◌, ◌==◌, ◌++◌, ℕ, ◌+◌, ◌-◌, ◌^◌, min, Bool, false, List, [], ◌∷◌, codes, Option, Result, Ok, Err, MatchResult}
+use Rattle.std.specs.Prelude.{◌≡◌, ◌⊎◌, ◌==◌, ℕ, Bool, false, List, [], ◌∷◌, Option, Result, Ok, Err, MatchResult}
 use Rattle.std.specs.Io.KnownBytes.{Appends, Keeps}
 use Rattle.fisca_folder.specs.Layers.{Told}
-use Rattle.fisca_folder.specs.Shown.{shown}
 use Rattle.fisca_params.specs.Source.{Source}
 use Rattle.fisca_rule_files.specs.Ending.{TaskOutcome, IsTold}
 use Rattle.fisca_rule_files.specs.Refusal.{of_file, paths_of}
@@ -11,30 +10,12 @@ use Rattle.fisca_rule_files.specs.declared.refusal.Refusal.{Refusal}
 use Rattle.fisca_rule_files.specs.declared.refusal.Refusal.TheVariants.{Write, Memory}
 use Rattle.fisca_rules.specs.Views.{rule_set}
 use Rattle.fisca_rules.specs.declared.rule_set.RuleSet.{RuleSet}
-use Rattle.fisca_test_file.specs.Report.{counts_text}
+use Rattle.fisca_run.specs.Counted.{added, counts_line, no_tests, path_line}
 use Rattle.fisca_test_file.specs.Tests.{Test}
 use Rattle.fisca_test_file.specs.declared.all.Verdict.{Verdict}
 use Rattle.fisca_writer.specs.Run.{AppendsPart}
 use Rattle.fisca_commands.specs.Ending.{IsJudged}
 use Rattle.fisca_commands.specs.Test.{IsTested, RefusesTests, SaysTests}
-
--- the line above the report on a file
-abbrev pub path_line : List ℕ → List ℕ
-path_line path = shown path ++ codes "\n"
-
-abbrev pub no_tests : Verdict
-no_tests = record { passed = 0; failed = 0 }
-
--- as far as 64 bits count
-abbrev pub counted_on : ℕ → ℕ → ℕ
-counted_on total more = min (total + more) (2 ^ 64 - 1)
-
--- the counts of some files, and of one more
-abbrev pub added : Verdict → Verdict → Verdict
-added total verdict = record { passed = counted_on total.passed verdict.passed; failed = counted_on total.failed verdict.failed }
-
-abbrev pub counts_line : Verdict → List ℕ
-counts_line total = counts_text total.passed total.failed
 
 -- what is answered for a text under a rule set: it is refused and nothing is written, or its tests of the name are worked out in order
 abbrev pub IsTextTested : RuleSet → List ℕ → Option (List ℕ) → Option (List ℕ) → Option (List ℕ) → Result Verdict Refusal → Type 0

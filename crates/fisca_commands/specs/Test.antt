@@ -11,6 +11,7 @@ use Rattle.fisca_rule_files.specs.declared.refusal.Refusal.TheVariants.{Tests, W
 use Rattle.fisca_rule_files.specs.RuleFiles.{IsAccepted, RefusesFiles}
 use Rattle.fisca_rules.specs.Views.{rule_set}
 use Rattle.fisca_rules.specs.declared.rule_set.RuleSet.{RuleSet}
+use Rattle.fisca_run.specs.Named.{named}
 use Rattle.fisca_situations.specs.Situations.{Situation}
 use Rattle.fisca_simulation.specs.Simulations.{Simulation}
 use Rattle.fisca_symbols.specs.Known.{tables as known}
@@ -23,7 +24,6 @@ use Rattle.fisca_test_file.specs.declared.fault.TestFault.{TestFault}
 use Rattle.fisca_test_file.specs.declared.fault.TestKind.TheVariants as kind
 use Rattle.fisca_yaml.specs.Grouping.{document}
 use Rattle.fisca_yaml.specs.Node.{Node}
-use Rattle.fisca_commands.specs.Named.{named}
 use Rattle.fisca_commands.specs.Yaml.{IsYamlRefused}
 
 -- a rule set, as it stands in memory, and the tests that a file says under it

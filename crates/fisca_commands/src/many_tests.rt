@@ -1,31 +1,23 @@
 //! `fisca test` over several files: the report on each below its path, and one count of all.
 
-ghost use Rattle.std.specs.Prelude.{◌≡◌, ◌==◌, option_map, IfOk, string_bytes};
-ghost use Rattle.fisca_commands.specs.ManyTests.{AreFilesTested, IsFileTested, IsTestsEnding, IsTotalTold, added, counts_line, is_failed, no_tests, path_line};
+ghost use Rattle.std.specs.Prelude.{◌==◌, option_map};
+ghost use Rattle.fisca_commands.specs.ManyTests.{AreFilesTested, IsFileTested, IsTestsEnding, IsTotalTold, is_failed};
 ghost use Rattle.fisca_commands.specs.Steps.ManyTests.{AreTestsReady};
 ghost use Rattle.fisca_rule_files.specs.Refusal.{is_write};
+ghost use Rattle.fisca_run.specs.Counted.{no_tests};
 ghost use Rattle.fisca_writer.specs.Sink.{CountsFailure};
 
 use super::task::judged_of;
 use super::test::test_text;
-use fisca_folder::{ToldPath, write_shown};
+use fisca_folder::ToldPath;
 use fisca_params::SourceFile;
 use fisca_rule_files::{Ending, Refusal, rules_of};
 use fisca_rules::RuleSet;
+use fisca_run::{added, counts_line, path_line};
 use fisca_simulation::{inputs_fit, rule_sets_are_safe};
 use fisca_test_file::{Verdict, situations_are_read};
 use fisca_writer::{RowSink, hand_over};
-use std::alloc::{AllocError, Global};
-
-/// The line with the path of a file.
-fn path_line(alloc: Global, path: &str) -> Result<String, AllocError>
-    ensures { IfOk result (λ line. string_bytes line ≡ path_line path.now) }
-{
-    let mut line = String::new(alloc);
-    write_shown(path, &mut line)?;
-    line.push('\n')?;
-    Ok(line)
-}
+use std::alloc::Global;
 
 /// Writes a line with the path of a file, and below it the report on its tests.
 fn test_file<S: RowSink>(
@@ -43,16 +35,6 @@ fn test_file<S: RowSink>(
     match hand_over(sink, line.as_bytes()) {
         Ok(()) => test_text(alloc, rules, file.text(), name, sink),
         Err(_) => Err(Refusal::Write),
-    }
-}
-
-/// The counts of some files, and those of one more.
-fn added(total: Verdict, verdict: Verdict) -> Verdict
-    ensures { result ≡ added total verdict }
-{
-    Verdict {
-        passed: total.passed.saturating_add(verdict.passed),
-        failed: total.failed.saturating_add(verdict.failed),
     }
 }
 
@@ -82,18 +64,6 @@ fn test_files<S: RowSink>(
         }
     }
     Ok(total)
-}
-
-/// The last line of the reports on several files: `passed P, failed F`.
-fn counts_line(alloc: Global, total: Verdict) -> Result<String, AllocError>
-    ensures { IfOk result (λ line. string_bytes line ≡ counts_line total) }
-{
-    let mut line = String::from_str(alloc, "passed ")?;
-    line.push_str(itoa::Buffer::new().format(total.passed))?;
-    line.push_str(", failed ")?;
-    line.push_str(itoa::Buffer::new().format(total.failed))?;
-    line.push('\n')?;
-    Ok(line)
 }
 
 /// Writes the last line of the reports on several files.

@@ -9,11 +9,11 @@ ghost use Rattle.fisca_rule_files.specs.Refusal.{is_write};
 ghost use Rattle.fisca_yaml.specs.Views.{node};
 
 use super::calc::read_tree;
-use super::named::named;
 use fisca_evaluator::{Evaluator, IndexRecall};
 use fisca_params::SourceFile;
 use fisca_rule_files::{Refusal, rules_of};
 use fisca_rules::RuleSet;
+use fisca_run::named;
 use fisca_simulation::{inputs_fit, rule_sets_are_safe};
 use fisca_situations::Situation;
 use fisca_test_file::{

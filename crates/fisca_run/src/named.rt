@@ -1,7 +1,7 @@
 //! The tests of a file whose names have a text.
 
 ghost use Rattle.std.specs.Prelude.{◌≡◌, option_map};
-ghost use Rattle.fisca_commands.specs.Named as spec;
+ghost use Rattle.fisca_run.specs.Named as spec;
 ghost use Rattle.fisca_yaml.specs.Views.{node};
 
 use fisca_yaml::Tree;
@@ -20,8 +20,9 @@ fn is_named(test: &Tree<'_>, text: &str) -> bool
     }
 }
 
-/// The tests of a file whose names have this text, if there is one, and all where there is none. It takes no memory.
-pub(crate) fn named<'a>(alloc: Global, tree: Tree<'a>, name: Option<&str>) -> Tree<'a>
+/// The tests of a file whose names have this text, if there is one, and all where there is none; what is one test of another name becomes a file of none. It
+/// takes no memory. This project's own rule.
+pub fn named<'a>(alloc: Global, tree: Tree<'a>, name: Option<&str>) -> Tree<'a>
     ensures { node result ≡ spec.named (option_map (λ text. text.now) name.entry) (node tree) }
 {
     let Some(text) = name else {

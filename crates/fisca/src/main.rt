@@ -14,7 +14,7 @@ use fisca_folder::{FolderFault, LONGEST, LaidFiles, LayerFault, read_layers, tex
 use fisca_params::SourceFile;
 use fisca_words::Place;
 use fisca_writer::StreamSink;
-use folder::{DiskFolder, is_folder, open_regular, read_named};
+use folder::{DiskFolder, open_regular, read_named};
 use lines::ReadLines;
 use output::{ErrorOutput, Output, Stream, fits};
 use std::alloc::AllocError;
@@ -300,7 +300,7 @@ fn run_each<W: Write + Drop>(
 ) -> Ending {
     let (files, told) = (laid.files.as_slice(), laid.told.as_slice());
     if let ([path], [file]) = (task.paths.as_slice(), tests)
-        && !is_folder(rt, path.as_str())
+        && file.path() == path.as_str()
     {
         return run_test(
             rt.alloc(),

@@ -23,14 +23,14 @@ IsTextTested rules text name old new answer =
     ((refusal : Refusal) × (answer ≡ Err refusal) × RefusesTests rules text name refusal × Keeps old new)
     ⊎ ((ts : List Test) × SaysTests rules text name ts × IsTested (record { rules = rules; tests = ts }) old new answer)
 
--- the sink failed in these bytes, or memory was refused
-abbrev pub IsCutIn : List ℕ → Option (List ℕ) → Option (List ℕ) → Refusal → Type 0
-IsCutIn bytes old new refusal = ((refusal ≡ Write) ⊎ (refusal ≡ Memory)) × AppendsPart bytes old new
+-- the sink failed in this line, or memory was refused before it
+abbrev pub IsLineRefused : List ℕ → Option (List ℕ) → Option (List ℕ) → Refusal → Type 0
+IsLineRefused line old new refusal = ((refusal ≡ Write) × AppendsPart line old new) ⊎ ((refusal ≡ Memory) × Keeps old new)
 
 -- a file's path is written, and then its text is tested
 abbrev pub IsFileTested : RuleSet → Option (List ℕ) → Source → Option (List ℕ) → Option (List ℕ) → Result Verdict Refusal → Type 0
 IsFileTested rules name file old new answer =
-    ((refusal : Refusal) × (answer ≡ Err refusal) × IsCutIn (path_line file.path) old new refusal)
+    ((refusal : Refusal) × (answer ≡ Err refusal) × IsLineRefused (path_line file.path) old new refusal)
     ⊎ ((between : Option (List ℕ)) × Appends old between (path_line file.path) × IsTextTested rules file.text name between new answer)
 
 -- a file that is refused is told with its path, and nothing more is written
@@ -47,7 +47,7 @@ AreFilesTested rules told name (file ∷ files) total old new answer =
 -- the line of the counts is written
 abbrev pub IsTotalTold : Verdict → Option (List ℕ) → Option (List ℕ) → Result Verdict Refusal → Type 0
 IsTotalTold total old new (Ok verdict) = (verdict ≡ total) × Appends old new (counts_line total)
-IsTotalTold total old new (Err refusal) = IsCutIn (counts_line total) old new refusal
+IsTotalTold total old new (Err refusal) = IsLineRefused (counts_line total) old new refusal
 
 -- behind all files their counts are written and judged; a refusal is told already
 abbrev pub AreEnded : Result Verdict TaskOutcome → Option (List ℕ) → Option (List ℕ) → TaskOutcome → Type 0

@@ -1,9 +1,6 @@
 //! `fisca size`: the number of positions of a run file.
 
-ghost use Rattle.std.specs.Prelude.{◌≡◌, ◌++◌, codes, IfOk, IfErr, OnOk, OnErr, is_err};
-ghost use Rattle.std.specs.Fmt.{decimal};
-ghost use Rattle.std.specs.Io.KnownBytes.{Appends};
-ghost use Rattle.fisca_writer.specs.Run.{AppendsPart};
+ghost use Rattle.std.specs.Prelude.{IfOk, IfErr};
 ghost use Rattle.fisca_writer.specs.Sink.{CountsFailure};
 ghost use Rattle.fisca_commands.specs.Run.{RefusesRunText};
 ghost use Rattle.fisca_commands.specs.Size.{IsSize, IsSizeIn};

@@ -2,11 +2,13 @@
 //! another, the tests that are chosen by their names, and lines that tell of files and counts.
 #![tactic(auto)]
 
+mod cells;
 mod counted;
 mod named;
 mod run_laws;
 mod slot_laws;
 
+pub use cells::first_name;
 pub use counted::{added, counts_line, path_line, write_size};
 pub use named::named;
 pub use run_laws::positions_have_situations;

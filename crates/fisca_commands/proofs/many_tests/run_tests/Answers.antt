@@ -1,6 +1,10 @@
-use Rattle.std.proofs.Common.{inl, inr}
+use Rattle.std.proofs.Common.{inl, inr, refl}
+use Rattle.std.proofs.KnownBytes.{Keeps-refl}
 use Rattle.fisca_commands.proofs.Tested.{ready}
 use Rattle.fisca_commands.proofs.many_tests.run_tests.Goals as goal
+
+pub returns-in-Err-clause-ending : goal.returns-in-Err-clause-ending
+returns-in-Err-clause-ending g c = inl (c.in-Err.refusal, c.in-Err.ensures.err, c.refused.ensures, Keeps-refl (g.S.RowSink.taken c.args.sink.now))
 
 pub test_files-requires : goal.test_files-requires
 test_files-requires g c line n t read =

@@ -103,7 +103,7 @@ relative_error_margin         how far, as a share of the expected number
 
 Where there are both margins, both hold. What is refused is told by one line on standard error,
 such as fisca: PATH:LINE: FAULT, and no test of a file is run before all of it are read. The first
-file that is refused is the last that is read.";
+file that is refused ends the run.";
 
 pub const TEST_EXAMPLE: &str = "Example:
   fisca test examples/housing examples/housing/tests.yaml";
@@ -123,7 +123,7 @@ Exit status:
   0  done
   1  a test failed
   2  the command line is wrong
-  3  a rule file or the file of the tests is refused
+  3  a rule file or a file of tests is refused
   5  a file could not be read, or the output could not be written
   6  out of memory";
 
@@ -294,7 +294,7 @@ pub const NAME_HELP: &str = "Run the tests whose names have TEXT";
 
 pub const NAME_LONG: &str = "Run the tests whose names have TEXT
 
-The others are not read, and count nowhere.";
+The others are as if they did not stand in their file.";
 
 pub const RUN_FILE_HELP: &str =
     "The file that says the grid and what is worked out, or - for standard input";

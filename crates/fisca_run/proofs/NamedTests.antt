@@ -1,0 +1,63 @@
+-- Which tests have a text in their names.
+use Rattle.std.proofs.Common.{◌≡◌, ◌↔◌, ◌⊎◌, ℕ, ◌++◌, List, [], ◌∷◌, Bool, true, false, ◌||◌, length, drop, cond, inl, inr, refl, sym, ap, ◌∙◌}
+use Rattle.std.proofs.lemmas.Bool.Decides.{Decides-eqb}
+use Rattle.std.proofs.lemmas.Slice.Eq.{starts_is}
+use Rattle.std.specs.Prelude.{nat_eq}
+use Rattle.std.specs.List.{filter, starts_with}
+use Rattle.std.specs.Str.Iter.{HasSubslice}
+use Rattle.fisca_run.specs.Named.{has_text, is_named, named_items}
+use Rattle.fisca_yaml.specs.Node.{item}
+use Rattle.fisca_yaml.specs.Views.{items_view, node}
+use Rattle.fisca_yaml.specs.declared.tree.Item.{Item}
+
+or_left : (a b : Bool) → a ≡ true → (a || b) ≡ true
+or_left a b e = rw e refl
+
+or_right : (a b : Bool) → b ≡ true → (a || b) ≡ true
+or_right true b e = refl
+or_right false b e = e
+
+either : (a b : Bool) → (a || b) ≡ true → (a ≡ true) ⊎ (b ≡ true)
+either true b e = inl refl
+either false b e = inr e
+
+-- the text stands where it begins
+begun : (text name rest : List ℕ) → name ≡ text ++ rest → starts_with nat_eq name text ≡ true
+begun text name rest e = (starts_is Decides-eqb name text (starts_with nat_eq name text) refl).1 rest e
+
+begins : (text name : List ℕ) → starts_with nat_eq name text ≡ true → name ≡ text ++ drop (length text) name
+begins text name e = (starts_is Decides-eqb name text (starts_with nat_eq name text) refl).0 e
+
+found : (text name before behind : List ℕ) → name ≡ before ++ (text ++ behind) → has_text text name ≡ true
+found text [] [] behind e = begun text [] behind e
+found text [] (byte ∷ before) behind e = absurd cc
+found text (byte ∷ name) [] behind e = or_left _ (has_text text name) (begun text (byte ∷ name) behind e)
+found text (byte ∷ name) (first ∷ before) behind e = or_right (starts_with nat_eq (byte ∷ name) text) _ (found text name before behind (cc))
+
+stands : (text name : List ℕ) → has_text text name ≡ true → HasSubslice name text
+stands text [] e = ([], drop (length text) [], begins text [] e)
+stands text (byte ∷ name) e = at (either (starts_with nat_eq (byte ∷ name) text) (has_text text name) e)
+  where
+    at : (starts_with nat_eq (byte ∷ name) text ≡ true) ⊎ (has_text text name ≡ true) → HasSubslice (byte ∷ name) text
+    at (inl here) = ([], drop (length text) (byte ∷ name), begins text (byte ∷ name) here)
+    at (inr later) = let is = stands text name later in (byte ∷ is.0, is.1, ap (λ bytes. byte ∷ bytes) is.2)
+
+-- what `contains` answers is whether the text stands somewhere
+pub contained : (answer : Bool) (text name : List ℕ) → (answer ≡ true) ↔ HasSubslice name text → answer ≡ has_text text name
+contained true text name is = let at = is.0 refl in sym (found text name at.0 at.1 at.2)
+contained false text name is = no (has_text text name) refl
+  where
+    no : (b : Bool) → has_text text name ≡ b → false ≡ b
+    no true e = is.1 (stands text name e)
+    no false e = refl
+
+-- the items that are left are those of the name
+pub kept_items : (text : List ℕ) (items : List Item) → items_view (filter (λ (i : Item). is_named text (node i.value)) items) ≡ named_items text (items_view items)
+kept_items text [] = refl
+kept_items text (i ∷ items) = go (is_named text (node i.value)) refl
+  where
+    go : (b : Bool) → is_named text (node i.value) ≡ b
+        → items_view (cond b (i ∷ filter (λ (i : Item). is_named text (node i.value)) items) (filter (λ (i : Item). is_named text (node i.value)) items))
+        ≡ cond b (item i.line (node i.value) (named_items text (items_view items))) (named_items text (items_view items))
+    go true is = ap (item i.line (node i.value)) (kept_items text items)
+    go false is = kept_items text items

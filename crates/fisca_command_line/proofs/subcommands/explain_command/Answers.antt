@@ -1,4 +1,4 @@
-use Rattle.std.proofs.Common.{◌∙◌, ◌||◌, ap, ap₂, codes, rules}
+use Rattle.std.proofs.Common.{◌∙◌, ◌||◌, ap, ap₂, rules}
 use Rattle.std.proofs.lemmas.Result.{IfOk-weaker}
 use Rattle.clap.specs.Simple.{with_rule}
 use Rattle.fisca_command_line.specs.CommandLine.{with_files}

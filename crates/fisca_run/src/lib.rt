@@ -3,14 +3,14 @@
 #![tactic(auto)]
 
 mod cells;
+mod chosen;
 mod counted;
-mod named;
 mod run_laws;
 mod slot_laws;
 
 pub use cells::first_name;
+pub use chosen::named;
 pub use counted::{added, counts_line, path_line, write_size};
-pub use named::named;
 pub use run_laws::positions_have_situations;
 pub use slot_laws::{
     marks_are_of_slots, other_variables_stay, slots_are_within, slots_turn_between_positions,

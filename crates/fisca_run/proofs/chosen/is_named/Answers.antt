@@ -3,7 +3,7 @@ use Rattle.std.proofs.lemmas.Str.Pattern.{contains_text}
 use Rattle.fisca_run.proofs.NamedTests.{contained}
 use Rattle.fisca_run.specs.Named.{name_has}
 use Rattle.fisca_yaml.specs.Steps.Find.{as_text}
-use Rattle.fisca_run.proofs.named.is_named.Goals as goal
+use Rattle.fisca_run.proofs.chosen.is_named.Goals as goal
 
 pub returns : goal.returns
 returns c =

@@ -5,7 +5,7 @@ use Rattle.fisca_run.specs.Named.{is_named}
 use Rattle.fisca_yaml.specs.Node.{list}
 use Rattle.fisca_yaml.specs.Views.{items_view, node}
 use Rattle.fisca_yaml.specs.declared.tree.Item.{Item}
-use Rattle.fisca_run.proofs.named.named.Goals as goal
+use Rattle.fisca_run.proofs.chosen.named.Goals as goal
 
 pub returns-in-List : goal.returns-in-List
 returns-in-List c =

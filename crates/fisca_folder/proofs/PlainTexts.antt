@@ -1,7 +1,8 @@
 -- Texts of printable characters of ASCII, which are shown as they are.
-use Rattle.std.proofs.Common.{◌≡◌, ◌<◌, ◌-◌, ◌/◌, ◌%◌, ◌++◌, ◌&&◌, ◌∙◌, ℕ, Bool, List, [], ◌∷◌, true, false, cond, if◌then◌else◌, nat_lt, codes, flat_map, refl, ap, arith}
+use Rattle.std.proofs.Common.{◌≡◌, ◌<◌, ◌-◌, ◌/◌, ◌%◌, ◌++◌, ◌&&◌, ◌∙◌, ℕ, Bool, List, [], ◌∷◌, true, false, cond, if◌then◌else◌, nat_lt, codes, flat_map, refl, ap, sym, arith, Result, Ok, Err, OnOk}
 use Rattle.std.proofs.lemmas.Bool.Decides.{nat_tests}
 use Rattle.std.proofs.lemmas.Str.{encode_ascii}
+use Rattle.std.specs.Result.{is_ok}
 use Rattle.std.specs.Char.{is_control, encode_utf8}
 use Rattle.std.specs.Str.{chars, chars_after, continuation_len, lead_bits}
 use Rattle.fisca_folder.specs.Shown.{shown, shown_char, shown_mark, two_digits}
@@ -56,3 +57,8 @@ plain_is_shown [] plain = refl
 plain_is_shown (c ∷ cs) plain =
     ap (flat_map shown_char) (own_characters c cs (first_of (is_printable c) (is_plain cs) plain) (rest_of (is_printable c) (is_plain cs) plain))
     ∙ all_as_themselves (c ∷ cs) plain
+
+-- so it may be appended as it is
+pub plain_appended : {E : Type 0} (result : Result (Unit {0}) E) (old text new : List ℕ) → is_plain text ≡ true → new ≡ (if is_ok result then old ++ text else old) → OnOk result (new ≡ old ++ shown text)
+plain_appended (Ok x) old text new plain is = is ∙ ap (λ text. old ++ text) (sym (plain_is_shown text plain))
+plain_appended (Err e) old text new plain is = tt

@@ -2,3 +2,4 @@ mod FirstModule
 pub mod ListedLines
 mod Telling
 pub mod Built
+mod DayTexts

@@ -15,7 +15,7 @@ fn write_padded(number: u32, width: usize, text: &mut String) -> Result<(), Allo
 {
     let mut buffer = itoa::Buffer::new();
     let digits = buffer.format(number);
-    for _place in digits.len()..width {
+    for _zero in 0..width.saturating_sub(digits.len()) {
         text.push('0')?;
     }
     text.push_str(digits)

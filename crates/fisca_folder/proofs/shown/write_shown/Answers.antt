@@ -2,9 +2,8 @@ use Rattle.std.proofs.Common.{◌++◌, flat_map, string_bytes, sym, ap, ◌∙�
 use Rattle.std.proofs.lemmas.Iterator.{YieldsList-from_chars}
 use Rattle.std.proofs.lemmas.Iterator.Consumers.{YieldsList-end}
 use Rattle.std.proofs.lemmas.List.{flat_map_more}
-use Rattle.std.proofs.lemmas.Result.{on_ok_weaker}
 use Rattle.fisca_folder.specs.Shown.{shown_char}
-use Rattle.fisca_folder.proofs.PlainTexts.{plain_is_shown}
+use Rattle.fisca_folder.proofs.PlainTexts.{plain_appended}
 use Rattle.fisca_folder.proofs.shown.write_shown.Goals as goal
 
 pub loop-c-preserved : goal.loop-c-preserved
@@ -20,4 +19,4 @@ returns c =
 
 pub returns-then-is_plain : goal.returns-then-is_plain
 returns-then-is_plain c =
-    on_ok_weaker c.push_str.result (λ is. is ∙ ap (λ text. string_bytes c.args.line.now ++ text) (sym (plain_is_shown c.args.text.now c.then-is_plain.is))) c.push_str.ensures.bytes
+    plain_appended c.push_str.result (string_bytes c.args.line.now) c.args.text.now (string_bytes c.push_str.new.self) (sym c.is_plain.ensures ∙ c.if-is_plain.true) c.push_str.ensures.bytes

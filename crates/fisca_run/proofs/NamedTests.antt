@@ -6,7 +6,7 @@ use Rattle.std.specs.Prelude.{nat_eq}
 use Rattle.std.specs.List.{filter, starts_with}
 use Rattle.std.specs.Str.Iter.{HasSubslice}
 use Rattle.fisca_run.specs.Named.{has_text, is_named, named_items}
-use Rattle.fisca_yaml.specs.Node.{item}
+use Rattle.fisca_yaml.specs.Node.{Items, item}
 use Rattle.fisca_yaml.specs.Views.{items_view, node}
 use Rattle.fisca_yaml.specs.declared.tree.Item.{Item}
 
@@ -36,11 +36,11 @@ found text (byte ∷ name) (first ∷ before) behind e = or_right (starts_with n
 
 stands : (text name : List ℕ) → has_text text name ≡ true → HasSubslice name text
 stands text [] e = ([], drop (length text) [], begins text [] e)
-stands text (byte ∷ name) e = at (either (starts_with nat_eq (byte ∷ name) text) (has_text text name) e)
+stands text (byte ∷ name) e = at (λ later. stands text name later) (either (starts_with nat_eq (byte ∷ name) text) (has_text text name) e)
   where
-    at : (starts_with nat_eq (byte ∷ name) text ≡ true) ⊎ (has_text text name ≡ true) → HasSubslice (byte ∷ name) text
-    at (inl here) = ([], drop (length text) (byte ∷ name), begins text (byte ∷ name) here)
-    at (inr later) = let is = stands text name later in (byte ∷ is.0, is.1, ap (λ bytes. byte ∷ bytes) is.2)
+    at : (has_text text name ≡ true → HasSubslice name text) → (starts_with nat_eq (byte ∷ name) text ≡ true) ⊎ (has_text text name ≡ true) → HasSubslice (byte ∷ name) text
+    at rest (inl here) = ([], drop (length text) (byte ∷ name), begins text (byte ∷ name) here)
+    at rest (inr later) = let is = rest later in (byte ∷ is.0, is.1, ap (λ bytes. byte ∷ bytes) is.2)
 
 -- what `contains` answers is whether the text stands somewhere
 pub contained : (answer : Bool) (text name : List ℕ) → (answer ≡ true) ↔ HasSubslice name text → answer ≡ has_text text name
@@ -51,13 +51,12 @@ contained false text name is = no (has_text text name) refl
     no true e = is.1 (stands text name e)
     no false e = refl
 
+-- an item is left or not
+kept : (is : Bool) (i : Item) (items : List Item) (rest : Items) → items_view items ≡ rest → items_view (cond is (i ∷ items) items) ≡ cond is (item i.line (node i.value) rest) rest
+kept true i items rest e = ap (item i.line (node i.value)) e
+kept false i items rest e = e
+
 -- the items that are left are those of the name
 pub kept_items : (text : List ℕ) (items : List Item) → items_view (filter (λ (i : Item). is_named text (node i.value)) items) ≡ named_items text (items_view items)
 kept_items text [] = refl
-kept_items text (i ∷ items) = go (is_named text (node i.value)) refl
-  where
-    go : (b : Bool) → is_named text (node i.value) ≡ b
-        → items_view (cond b (i ∷ filter (λ (i : Item). is_named text (node i.value)) items) (filter (λ (i : Item). is_named text (node i.value)) items))
-        ≡ cond b (item i.line (node i.value) (named_items text (items_view items))) (named_items text (items_view items))
-    go true is = ap (item i.line (node i.value)) (kept_items text items)
-    go false is = kept_items text items
+kept_items text (i ∷ items) = kept (is_named text (node i.value)) i (filter (λ (i : Item). is_named text (node i.value)) items) (named_items text (items_view items)) (kept_items text items)

@@ -23,7 +23,7 @@ fn is_named(test: &Tree<'_>, text: &str) -> bool
 /// The tests of a file whose names have this text, if there is one, and all where there is none; what is one test of another name becomes a file of none. It
 /// takes no memory. This project's own rule.
 pub fn named<'a>(alloc: Global, tree: Tree<'a>, name: Option<&str>) -> Tree<'a>
-    ensures { node result ≡ spec.named (option_map (λ text. text.now) name.entry) (node tree) }
+    ensures { node result ≡ spec.named (option_map (λ text. text.now) name.entry) (node tree.entry) }
 {
     let Some(text) = name else {
         return tree;

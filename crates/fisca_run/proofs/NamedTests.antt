@@ -6,9 +6,9 @@ use Rattle.std.specs.Prelude.{nat_eq}
 use Rattle.std.specs.List.{filter, starts_with}
 use Rattle.std.specs.Str.Iter.{HasSubslice}
 use Rattle.fisca_run.specs.Named.{has_text, is_named, named_items}
-use Rattle.fisca_yaml.specs.Node.{Items, item}
-use Rattle.fisca_yaml.specs.Views.{items_view, node}
-use Rattle.fisca_yaml.specs.declared.tree.Item.{Item}
+use Rattle.fisca_yaml.specs.Node.{Node, Items, item}
+use Rattle.fisca_yaml.specs.Views.{Seen_entry, Seen_item, entry_step, item_step, items_view, node, seen_item, tree_step}
+use Rattle.fisca_yaml.specs.declared.tree.Item.{Item, fold_out-Item}
 
 or_left : (a b : Bool) → a ≡ true → (a || b) ≡ true
 or_left a b e = rw e refl
@@ -51,12 +51,17 @@ contained false text name is = no (has_text text name) refl
     no true e = is.1 (stands text name e)
     no false e = refl
 
+seen : (i : Item) → seen_item i ≡ record { line = i.line; value = node i.value }
+seen i = fold_out-Item Node Seen_entry Seen_item tree_step entry_step item_step i
+
 -- an item is left or not
 kept : (is : Bool) (i : Item) (items : List Item) (rest : Items) → items_view items ≡ rest → items_view (cond is (i ∷ items) items) ≡ cond is (item i.line (node i.value) rest) rest
-kept true i items rest e = ap (item i.line (node i.value)) e
+kept true i items rest e = ap (λ (s : Seen_item). item s.line s.value (items_view items)) (seen i) ∙ ap (item i.line (node i.value)) e
 kept false i items rest e = e
 
 -- the items that are left are those of the name
 pub kept_items : (text : List ℕ) (items : List Item) → items_view (filter (λ (i : Item). is_named text (node i.value)) items) ≡ named_items text (items_view items)
 kept_items text [] = refl
-kept_items text (i ∷ items) = kept (is_named text (node i.value)) i (filter (λ (i : Item). is_named text (node i.value)) items) (named_items text (items_view items)) (kept_items text items)
+kept_items text (i ∷ items) =
+    kept (is_named text (node i.value)) i (filter (λ (i : Item). is_named text (node i.value)) items) (named_items text (items_view items)) (kept_items text items)
+    ∙ ap (λ (s : Seen_item). named_items text (item s.line s.value (items_view items))) (sym (seen i))

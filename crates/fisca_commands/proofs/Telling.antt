@@ -48,5 +48,5 @@ modules_unwritten (Err fault) r is = fault_unwritten fault r is
 
 pub files_unwritten : (files : List Source) (r : Refusal) → RefusesFiles files r → is_failed_write r ≡ false
 files_unwritten files r (inl is) = ap is_failed_write is.0
-files_unwritten files r (inr (inl is)) = told_unwritten files is.1 r is.3
+files_unwritten files r (inr (inl is)) = told_unwritten files is.1.0 r is.1.2
 files_unwritten files r (inr (inr is)) = modules_unwritten (rules_by is.0 files) r is.2

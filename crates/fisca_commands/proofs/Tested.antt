@@ -1,11 +1,11 @@
 -- What is known of the tests of a file once it is read: each is worked out in a situation whose inputs are of their types.
-use Rattle.std.proofs.Common.{◌≡◌, ◌≢◌, ◌∙◌, ℕ, List, Some, Ok, Err, inl, inr, refl, sym}
+use Rattle.std.proofs.Common.{◌≡◌, ◌≢◌, ◌∙◌, ℕ, List, Ok, Err, inl, inr, refl, sym}
 use Rattle.fisca_simulation.specs.Told.{IsReady}
 use Rattle.fisca_params.specs.Source.{Source}
 use Rattle.fisca_params.specs.Tree.{TreeNode}
 use Rattle.fisca_rule_files.proofs.Built.{built}
 use Rattle.fisca_rule_files.specs.RuleFiles.{IsAccepted}
-use Rattle.std.specs.Prelude.{◌⊎◌, Option, Result}
+use Rattle.std.specs.Prelude.{◌⊎◌, Option}
 use Rattle.std.specs.Io.KnownBytes.{Keeps}
 use Rattle.fisca_rules.specs.Rules.{Rules}
 use Rattle.fisca_rules.specs.Steps.Rules.{rules_of}
@@ -20,7 +20,6 @@ use Rattle.fisca_test_file.specs.Read.{IsRead}
 use Rattle.fisca_yaml.specs.Node.{Node}
 use Rattle.fisca_test_file.specs.Handing.{IsPartOf, IsReported}
 use Rattle.fisca_test_file.specs.Steps.Tests.{tests_of}
-use Rattle.fisca_test_file.specs.Tests.{Test}
 use Rattle.fisca_test_file.specs.declared.fault.TestFault.{TestFault}
 use Rattle.fisca_test_file.specs.declared.fault.TestKind.TheVariants as kind
 use Rattle.fisca_test_file.specs.declared.report_fault.ReportFault.TheVariants as report

@@ -1,6 +1,5 @@
 -- The tests of several files, one after another.
-use Rattle.std.proofs.Common.{◌≡◌, ◌⊎◌, ℕ, List, [], ◌∷◌, Bool, Option, Result, Ok, Err, Some, cond, inl, inr, refl, ap, subst, sym, ◌∙◌}
-use Rattle.std.specs.Io.KnownBytes.{Appends, Keeps}
+use Rattle.std.proofs.Common.{◌≡◌, ℕ, List, [], ◌∷◌, Option, Result, Ok, Err, Some, inl, inr, refl}
 use Rattle.std.proofs.KnownBytes.{Keeps-refl}
 use Rattle.fisca_folder.specs.Layers.{Told}
 use Rattle.fisca_params.specs.Source.{Source}

@@ -1,4 +1,4 @@
-use Rattle.std.proofs.Common.{◌≡◌, ◌+◌, ◌<◌, ◌≤◌, ◌==◌, suc, [], ◌∷◌, List, Err, cond, length, drop, drop-cons, option_map, ap, ◌∙◌, sym, refl, subst, arith}
+use Rattle.std.proofs.Common.{◌≡◌, ◌+◌, ◌<◌, ◌≤◌, ◌==◌, suc, ◌∷◌, List, Err, cond, length, drop, drop-cons, option_map, ap, ◌∙◌, sym, refl, subst, arith}
 use Rattle.std.proofs.Math.ListN.{drop_of_length-le}
 use Rattle.fisca_params.specs.Source.{Source}
 use Rattle.fisca_rule_files.specs.Ending.{IsTold}
@@ -42,7 +42,7 @@ loop-file-preserved g c =
     let way = subst (λ (left : List Source). IsUnderWay c.args.rules.now c.args.told_paths.now name items old left l.total (g.S.RowSink.taken l.sink)) cut l.invariant.0 in
     let on = further c.args.rules.now c.args.told_paths.now name items old c.file-item.result (drop (suc l.file-index) items) l.total c.in-Ok.verdict (g.S.RowSink.taken l.sink) (g.S.RowSink.taken c.test_file.new.sink)
     way c.in-Ok.ensures.answer in (
-      subst (λ n. IsUnderWay c.args.rules.now c.args.told_paths.now name items old (drop n items) _ (g.S.RowSink.taken c.test_file.new.sink)) next
+      subst (λ n. IsUnderWay c.args.rules.now c.args.told_paths.now name items old (drop n items) c.added-total.result (g.S.RowSink.taken c.test_file.new.sink)) next
           (subst (λ (total : Verdict). IsUnderWay c.args.rules.now c.args.told_paths.now name items old (drop (suc l.file-index) items) total (g.S.RowSink.taken c.test_file.new.sink)) (sym c.added-total.ensures) on),
       c.in-Ok.ensures.failures ∙ l.invariant.1,
     )

@@ -7,6 +7,7 @@ WRONG_MARGINS = [
     "-1", "-0.0001", "x", "'1'", "1e3", "0x1", "1,5", "1/2", ".", "true", "9223372036854775808",
     "0.0000000000000000001", "01", *TEXTS,
 ]
+WRONG_LISTS = ["", "~", "{a: b}", "[[a]]", "[a, ~]", "[a, {b: c}]"]
 # values that a key may not have
 WRONG_VALUES = {
     "period": [
@@ -14,23 +15,22 @@ WRONG_VALUES = {
         "year:2017:0", "year:2017:1201", "[2017]", "{2017: 1}", "", "~",
     ],
     "absolute_error_margin": WRONG_MARGINS, "relative_error_margin": WRONG_MARGINS, "name": TEXTS, "description": TEXTS,
-    "keywords": ["", "~", "{a: b}", "[[a]]", "[a, ~]", "[a, {b: c}]"],
+    "keywords": WRONG_LISTS, "only_variables": WRONG_LISTS, "ignore_variables": WRONG_LISTS,
 }
 NO_KEYS = [
-    "outputs", "inputs", "filter", "only_variables", "Name", "columns", "axes", "absolute_error_margins", "name_",
+    "outputs", "inputs", "filter", "only_variable", "Name", "columns", "axes", "absolute_error_margins", "name_",
     "' output'",
 ]
-BREAKABLE = [
-    "unknown", "unknown", "period", "absolute_error_margin", "relative_error_margin", "name", "description", "keywords",
-    "output",
-]
+REFORM_KEYS = ["reforms", "extensions"]
+BREAKABLE = ["unknown", "unknown", "reform", "output", *WRONG_VALUES]
 
 
 def break_keys(lot, test):
     """A fault of a test's keys."""
     key = lot.choice(BREAKABLE)
-    if key == "unknown":
-        key = lot.choice(NO_KEYS)
+    word = "UseReform" if key == "reform" else "BadTest"
+    if key in ("unknown", "reform"):
+        key = lot.choice(NO_KEYS if key == "unknown" else REFORM_KEYS)
         test.sections[key] = [f"{MARK}{key}: {lot.choice(['1', '', '[1]', '{a: 1}'])}"]
     elif key == "output":
         del test.sections["output"]
@@ -42,7 +42,7 @@ def break_keys(lot, test):
         test.sections[key] = [f"{MARK}{key}: {lot.choice(WRONG_VALUES[key])}"]
     if lot.random() < 0.3:
         test.sections = dict(sorted(test.sections.items(), key=lambda section: section[0] != key))
-    return "BadTest"
+    return word
 
 
 WRONG_INPUTS = [

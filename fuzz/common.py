@@ -37,7 +37,7 @@ VALUE_FAULTS = frozenset(
 # of the file of each command
 FILE_FAULTS = {
     "calc": YAML_FAULTS | INPUT_FAULTS | {"BadKey", "BadColumn"},
-    "test": YAML_FAULTS | INPUT_FAULTS | {"BadTest", "BadOutput"},
+    "test": YAML_FAULTS | INPUT_FAULTS | {"BadTest", "BadOutput", "UseReform"},
     "run": YAML_FAULTS | INPUT_FAULTS | AXES_FAULTS | {"BadKey", "BadNeutral", "BadColumn", "BadCondition"},
 }
 

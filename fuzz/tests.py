@@ -13,7 +13,7 @@ from common import Answer
 from drawn_tests import RULES, drawn_test, report
 
 COUNT = 100
-WORDS = common.YAML_FAULTS | common.INPUT_FAULTS | {"BadTest", "BadOutput"}
+WORDS = common.YAML_FAULTS | common.INPUT_FAULTS | {"BadTest", "BadOutput", "UseReform"}
 
 
 def item_lines(lot, test):

@@ -10,7 +10,6 @@ import argparse
 import json
 import pathlib
 import random
-import shutil
 import tempfile
 
 import fisca
@@ -39,14 +38,14 @@ def families(count):
 
 
 def reformed(folder):
-    """A copy of the rules in a folder, with the changes."""
-    shutil.copytree(RULES, folder)
+    """The rules with the changes, which are written as a reform into a folder."""
     for name, (before, after) in CHANGES.items():
-        path = folder / "parameters" / "housing_benefit" / f"{name}.yaml"
-        text = path.read_text()
+        path = pathlib.Path("parameters", "housing_benefit", f"{name}.yaml")
+        text = (RULES / path).read_text()
         assert text.count(before) == 1
-        path.write_text(text.replace(before, after))
-    return fisca.Rules(folder)
+        (folder / path).parent.mkdir(parents=True, exist_ok=True)
+        (folder / path).write_text(text.replace(before, after))
+    return fisca.Rules(RULES, reforms=[folder])
 
 
 def changes(count):

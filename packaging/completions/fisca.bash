@@ -30,7 +30,7 @@ _fisca() {
       [=:]*) ((at++)) ;; # bash cuts words there: the next one belongs to the one before
       -*)
         case "$command $word" in
-          'calc --decimals' | 'calc --format' | 'run --from' | 'run --to' | 'run --part' | 'run --rows' | 'run --decimals' | 'run --format' | 'list --format' | 'axes --keep' | 'axes --from' | 'axes --to' | 'axes --part' | 'axes --rows' | 'axes --decimals' | 'axes --format')
+          'check --reform' | 'calc --reform' | 'calc --decimals' | 'calc --format' | 'test --name' | 'test --reform' | 'run --reform' | 'run --from' | 'run --to' | 'run --part' | 'run --rows' | 'run --decimals' | 'run --format' | 'size --reform' | 'list --reform' | 'list --format' | 'explain --reform' | 'explain --depth' | 'explain --format' | 'axes --keep' | 'axes --from' | 'axes --to' | 'axes --part' | 'axes --rows' | 'axes --decimals' | 'axes --format')
             [[ ${COMP_WORDS[at + 1]} != = ]] || ((at++))
             ((++at < COMP_CWORD)) || wanted=$word
             ;;
@@ -41,21 +41,23 @@ _fisca() {
   done
   [[ $typed != [=:]* ]] || typed=
   if [[ $typed == -* && $wanted != -* ]]; then wanted=-; fi
+  [[ $command != test || $wanted == -* ]] || ((wanted = wanted < 1 ? wanted : 1))
   case "$command $wanted" in
     ' 0' | 'help 0')
       _fisca_words <<'END'
-check  Check the rule files of a folder
-calc   Work out values
-test   Run tests of rules
-run    Write the lines of a grid of situations
-size   Count the positions of a grid
-list   List the variables of a rule set
-axes   List the values of axes
-help   Print this message or the help of the given subcommand(s)
+check    Check the rule files of a folder
+calc     Work out values
+test     Run tests of rules
+run      Write the lines of a grid of situations
+size     Count the positions of a grid
+list     List the variables of a rule set
+explain  Tell how values come about
+axes     List the values of axes
+help     Print this message or the help of the given subcommand(s)
 END
       ;;
-    'check 0' | 'calc 0' | 'test 0' | 'run 0' | 'size 0' | 'list 0') _fisca_paths -d ;;
-    'calc 1' | 'test 1' | 'run 1' | 'size 1') _fisca_paths -f ;;
+    'check 0' | 'calc 0' | 'test 0' | 'run 0' | 'size 0' | 'list 0' | 'explain 0' | 'check --reform' | 'calc --reform' | 'test --reform' | 'run --reform' | 'size --reform' | 'list --reform' | 'explain --reform') _fisca_paths -d ;;
+    'calc 1' | 'test 1' | 'run 1' | 'size 1' | 'explain 1') _fisca_paths -f ;;
     ' -')
       _fisca_words <<'END'
 -h         Print help
@@ -66,12 +68,14 @@ END
       ;;
     'check -')
       _fisca_words <<'END'
--h      Print help
---help  Print help
+--reform  Lay the files of a reform's folder over those of the rule set
+-h        Print help
+--help    Print help
 END
       ;;
     'calc -')
       _fisca_words <<'END'
+--reform    Lay the files of a reform's folder over those of the rule set
 --header    Write a first line with the names of the cells
 --decimals  Round numbers to N places, 0 to 18 [default: exact]
 --format    Write lines as tsv, csv or jsonl
@@ -82,12 +86,15 @@ END
       ;;
     'test -')
       _fisca_words <<'END'
--h      Print help
---help  Print help
+--name    Run the tests whose names have TEXT
+--reform  Lay the files of a reform's folder over those of the rule set
+-h        Print help
+--help    Print help
 END
       ;;
     'run -')
       _fisca_words <<'END'
+--reform      Lay the files of a reform's folder over those of the rule set
 --from        Begin at this position [default: 0]
 --to          End before this position [default: the last one is worked out]
 --part        Take part I of N, such as 1/4, in place of --from and --to
@@ -102,14 +109,25 @@ END
       ;;
     'size -')
       _fisca_words <<'END'
--h      Print help
---help  Print help
+--reform  Lay the files of a reform's folder over those of the rule set
+-h        Print help
+--help    Print help
 END
       ;;
     'list -')
       _fisca_words <<'END'
+--reform  Lay the files of a reform's folder over those of the rule set
 --header  Write a first line with the names of the cells
 --format  Write lines as tsv, csv or jsonl
+-h        Print help
+--help    Print help
+END
+      ;;
+    'explain -')
+      _fisca_words <<'END'
+--reform  Lay the files of a reform's folder over those of the rule set
+--depth   Explain no further than N values below one another
+--format  Write text or jsonl [default: text]
 -h        Print help
 --help    Print help
 END

@@ -11,7 +11,9 @@ Numbers are `Fraction`, in the unit that the rules give their variable, or where
 conditions are `bool`, and a member of an Enum is its name, a `str`. What the program tells on standard error is raised
 as a `FiscaError`.
 """
+from ._comparing import Comparison, Difference
 from ._errors import Failed, FiscaError, NoValue, OutOfMemory, Refused
+from ._explaining import Step
 from ._lines import Amount, Situation
 from ._listing import Variable
 from ._rows import Row, Run, axes
@@ -20,7 +22,9 @@ from ._values import Number, Value
 
 __all__ = [
     "Amount",
+    "Comparison",
     "Counts",
+    "Difference",
     "Failed",
     "FiscaError",
     "NoValue",
@@ -31,6 +35,7 @@ __all__ = [
     "Rules",
     "Run",
     "Situation",
+    "Step",
     "Value",
     "Variable",
     "Verdict",

@@ -34,9 +34,10 @@ class Refused(FiscaError):
     """A rule file, the file of the command, an axis, a condition or a position is refused (status 3).
 
     `word` is the program's word, which docs/LANGUAGE.md explains. `path` is the file: a rule file by its path below
-    the folder of the rules, the file of the command as it was named, a control character as `\\x0a`. `line` counts
-    from 1. Both are None where no file is told, and of what was handed over as Python data, which is all on one line.
-    Of a situation among many that is Python data `line` is its number.
+    the folder of the rules, or with reforms in the folder that it is in; the file of the command as it was named. A
+    control character is told as `\\x0a`. `line` counts from 1. Both are None where no file is told, and of what was
+    handed over as Python data, which is all on one line. Of a situation among many that is Python data `line` is its
+    number.
     """
 
     def __init__(self, text: str, status: int, handed: Optional[str] = None) -> None:

@@ -1,6 +1,7 @@
 """Finds the program, and runs it: to its end, or line by line."""
 from __future__ import annotations
 
+import io
 import os
 import shutil
 import subprocess
@@ -64,15 +65,24 @@ def standard_input(data: Optional[bytes]) -> Iterator[Union[int, IO[bytes]]]:
         yield file
 
 
-def output_of(words: Sequence[str], file: Optional[File] = None, good: Collection[int] = (0,)) -> str:
-    """What the program prints on these words, of which the first one is the program, and a file behind them.
+def output_of(
+    words: Sequence[str], file: Optional[File] = None, good: Collection[int] = (0,), behind: Sequence[str] = ()
+) -> str:
+    """What the program prints on these words, of which the first one is the program, a file and words behind it.
     FiscaError where its status is none of the good ones."""
     with standard_input(file and file.data) as source:
-        call = [*words, *([file.word] if file else [])]
+        call = [*words, *([file.word] if file else []), *behind]
         ran = subprocess.run(call, stdin=source, capture_output=True, check=False)
     if ran.returncode not in good:
         raise error_of(ran.stderr, ran.returncode, file and file.handed)
     return ran.stdout.decode()
+
+
+def whole_lines(output: IO[bytes]) -> Iterator[str]:
+    """The lines of an output, without one that is cut short."""
+    for line in io.TextIOWrapper(output, "utf-8", newline="\n"):
+        if line.endswith("\n"):
+            yield line[:-1]
 
 
 def lines_of(
@@ -87,9 +97,7 @@ def lines_of(
         with subprocess.Popen(call, stdin=source, stdout=subprocess.PIPE, stderr=told) as ran:
             assert ran.stdout is not None
             try:
-                for line in ran.stdout:
-                    if line.endswith(b"\n"):
-                        yield line[:-1].decode()
+                yield from whole_lines(ran.stdout)
             except BaseException:
                 ran.kill()
                 raise

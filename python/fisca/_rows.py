@@ -23,6 +23,20 @@ class Row(NamedTuple):
     columns: Tuple[Value, ...]
 
 
+class End:
+    """How the lines of a run ended: the position at which it goes on, if it does."""
+
+    more: Optional[int] = None
+
+
+def lines_to_end(lines: Generator[str, None, str], end: End) -> Generator[str, None, None]:
+    """The lines, and behind them how they ended. FiscaError where the last line does not tell that."""
+    found = ENDED.fullmatch((yield from lines) or "")
+    if not found:
+        raise FiscaError("the program ended before its last line", 0)
+    end.more = int(found[1]) if found[1] else None
+
+
 class Run(Iterator[Row]):
     """The rows of a run, in the order of their positions. None is held: each is read when it is asked for.
 
@@ -36,22 +50,26 @@ class Run(Iterator[Row]):
 
     def __init__(self, lines: Generator[str, None, str], is_rounded: bool) -> None:
         """The rows of lines behind the first one, which has the names; the generator gives what was told in the end."""
-        self.more: Optional[int] = None
+        self._end = End()
         self.axes: Tuple[str, ...] = ()
         self.columns: Tuple[str, ...] = ()
-        self._lines = lines
+        self._lines = lines_to_end(lines, self._end)
         self._value_of = rounded_value_of if is_rounded else value_of
-        self._is_over = False
-        head = self._next_line()
+        head = next(self._lines, None)
         self._names = tuple(head.split("\t")[1:]) if head is not None else ()
         if head is None or not f"{head}\t".startswith("position\t"):
-            lines.close()
+            self.close()
             raise FiscaError(f"no line of names: {head}", 0)
 
     def _has_axes(self, count: int) -> Run:
         """Takes so many of the names for those of axes."""
         self.axes, self.columns = self._names[:count], self._names[count:]
         return self
+
+    @property
+    def more(self) -> Optional[int]:
+        """The position at which the run goes on, behind its last row."""
+        return self._end.more
 
     def __iter__(self) -> Run:
         return self
@@ -64,14 +82,10 @@ class Run(Iterator[Row]):
 
     def close(self) -> None:
         """Ends the program. No row comes behind that, and `more` is not told."""
-        self._is_over = True
         self._lines.close()
 
     def __next__(self) -> Row:
-        texts = self._next_texts()
-        if texts is None:
-            raise StopIteration
-        position, *cells = texts
+        position, *cells = self._cells_of(next(self._lines))
         values = tuple(map(self._value_of, cells))
         count = len(self.axes)
         # an axis is of a variable of numbers
@@ -79,37 +93,15 @@ class Run(Iterator[Row]):
 
     def texts(self) -> Iterator[Tuple[str, ...]]:
         """The rows that are left as the program writes them: a text for the position, each axis and each column."""
-        while True:
-            texts = self._next_texts()
-            if texts is None:
-                return
-            yield tuple(texts)
+        for line in self._lines:
+            yield tuple(self._cells_of(line))
 
-    def _next_texts(self) -> Optional[List[str]]:
-        """The cells of the next row, or None behind the last one."""
-        line = self._next_line()
-        if line is None:
-            return None
-        texts = line.split("\t")
-        if len(texts) != 1 + len(self._names):
+    def _cells_of(self, line: str) -> List[str]:
+        """The cells of a row."""
+        cells = line.split("\t")
+        if len(cells) != 1 + len(self._names):
             raise FiscaError(f"no row of {len(self.axes)} axes and {len(self.columns)} columns: {line}", 0)
-        return texts
-
-    def _next_line(self) -> Optional[str]:
-        """The next line, or None behind the last one."""
-        if self._is_over:
-            return None
-        self._is_over = True
-        try:
-            line = next(self._lines)
-        except StopIteration as ended:
-            found = ENDED.fullmatch(ended.value or "")
-            if not found:
-                raise FiscaError("the program ended before its last line", 0) from None
-            self.more = int(found[1]) if found[1] else None
-            return None
-        self._is_over = False
-        return line
+        return cells
 
 
 def options_of(

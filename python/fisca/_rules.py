@@ -4,9 +4,11 @@ from __future__ import annotations
 import operator
 import os
 import re
-from typing import TYPE_CHECKING, Any, Iterator, List, NamedTuple, Optional, Tuple
+from typing import TYPE_CHECKING, Any, Iterable, Iterator, List, NamedTuple, Optional, Sequence, Tuple, Union
 
+from ._comparing import Comparison
 from ._errors import FiscaError
+from ._explaining import Step, step_of
 from ._lines import Amount, Population, Situation, amount_of, situations_of
 from ._listing import Variable, variable_of
 from ._program import PathLike, Said, file_of, lines_of, output_of, program_of
@@ -18,6 +20,7 @@ if TYPE_CHECKING:
     import pandas
 
 COUNTS = re.compile(r"entities (\d+), variables (\d+), parameters (\d+)\n")
+VERDICTS = re.compile(r"passed \d+, failed \d+")
 
 
 class Counts(NamedTuple):
@@ -30,15 +33,19 @@ class Counts(NamedTuple):
 
 class Verdict(NamedTuple):
     """Whether a test passed. Each detail is a line of the program on a value that is not as expected; there is none
-    of a test that passed."""
+    of a test that passed. `path` is that of its file, where there are several or a folder."""
 
     name: str
     passed: bool
     details: Tuple[str, ...]
+    path: Optional[str] = None
 
 
 class Rules:
-    """The rules of a folder: `entities.py`, `variables` and `parameters`.
+    """The rules of a folder: `entities.py`, `variables` and `parameters`, with those of the folders of reforms laid over.
+
+    A file of a reform takes the place of that of the same path, and one that is empty takes it away; of several reforms
+    each is laid over those before it.
 
     They are read anew at each call, by the program. Each method raises Refused where a rule file or the file of the
     command is refused, Failed where a file or folder cannot be read, OutOfMemory where there is no memory, and
@@ -50,16 +57,29 @@ class Rules:
     as a third or an infinity, and TypeError for data of another kind.
     """
 
-    def __init__(self, folder: PathLike, program: Optional[PathLike] = None) -> None:
+    def __init__(
+        self,
+        folder: PathLike,
+        program: Optional[PathLike] = None,
+        *,
+        reforms: Union[PathLike, Iterable[PathLike]] = (),
+    ) -> None:
         self.folder = os.fspath(folder)
         self.program = program
+        several = [reforms] if isinstance(reforms, (str, os.PathLike)) else reforms
+        self.reforms = tuple(os.fspath(it) for it in several)
 
     def __repr__(self) -> str:
-        return f"Rules({self.folder!r})"
+        reforms = f", reforms={list(self.reforms)!r}" if self.reforms else ""
+        return f"Rules({self.folder!r}{reforms})"
+
+    def _call(self, command: str, *options: str) -> List[str]:
+        """The words of a call, but for its folder and its file."""
+        return [program_of(self.program), command, *options, *(f"--reform={it}" for it in self.reforms)]
 
     def _words(self, command: str, *options: str) -> List[str]:
         """The words of a call, but for its file."""
-        return [program_of(self.program), command, *options, "--", self.folder]
+        return [*self._call(command, *options), "--", self.folder]
 
     def check(self) -> Counts:
         """Reads all rule files, and tells how many entities, variables and parameters there are."""
@@ -82,6 +102,20 @@ class Rules:
         """
         text = output_of(self._words("calc", "--format=jsonl", *places_of(decimals)), file_of(said))
         return [amount_of(line, decimals is not None)[1] for line in text.split("\n")[:-1]]
+
+    def explain(self, said: Said, columns: Sequence[str] = (), depth: Optional[int] = None) -> List[Step]:
+        """How the values of the columns of a file of `fisca calc` come about, or of other `columns`, as texts like
+        `rent@2025-03`: each value, and below it what its formula needed, in order.
+
+        With `depth` no further than so many values below one another. A column that cannot be worked out is no error:
+        its steps say why, and no other column comes behind it. ValueError for a depth below 0.
+        """
+        if depth is not None and depth < 0:
+            raise ValueError(f"a depth is 0 or more, and not {depth}")
+        levels = [] if depth is None else [f"--depth={operator.index(depth)}"]
+        words = self._words("explain", "--format=jsonl", *levels)
+        text = output_of(words, file_of(said), good=(0, 4), behind=columns)
+        return [step_of(line) for line in text.split("\n")[:-1]]
 
     def calc_lines(self, population: Population, decimals: Optional[int] = None) -> Iterator[Situation]:
         """The values of many situations, in their order, as they come: the rules are read once.
@@ -139,9 +173,39 @@ class Rules:
         if max(start, stop) > size or workers == 1:
             # past the end it is refused as a whole
             return run_of(lines_of(self._words("run", *options), file, good), said, is_rounded)
-        words = [program_of(self.program), "run", *options_of(decimals=decimals, keep_going=keep_going)]
+        words = self._call("run", *options_of(decimals=decimals, keep_going=keep_going))
         parts = parts_of(words, self.folder, size, start, stop, workers)
         return run_of(lines_of_parts(parts, file, workers, good), said, is_rounded)
+
+    def compare(
+        self,
+        reforms: Union[PathLike, Iterable[PathLike]],
+        said: Said,
+        start: int = 0,
+        *,
+        to: Optional[int] = None,
+        part: Optional[Tuple[int, int]] = None,
+        decimals: Optional[int] = None,
+        keep_going: bool = False,
+        workers: int = 1,
+    ) -> Comparison:
+        """Where the rows of a file of `fisca run` are others when the files of a folder, or of several, are laid over
+        those of the rules: the positions, as they are found, with the values before and after.
+
+        The file is run under both at a time, each by its own processes. The other arguments and the errors are those
+        of `run`: Refused where the file is refused under the rules, or else under the reform.
+        """
+        several = [reforms] if isinstance(reforms, (str, os.PathLike)) else reforms
+        reformed = Rules(self.folder, self.program, reforms=[*self.reforms, *several])
+        before = self.run(said, start, None, to=to, part=part, decimals=decimals, keep_going=keep_going, workers=workers)
+        try:
+            after = reformed.run(
+                said, start, None, to=to, part=part, decimals=decimals, keep_going=keep_going, workers=workers
+            )
+        except BaseException:
+            before.close()
+            raise
+        return Comparison(before, after)
 
     def frame(
         self,
@@ -176,13 +240,19 @@ class Rules:
         frame.attrs["more"] = found.more
         return frame
 
-    def test(self, said: Said) -> List[Verdict]:
-        """The verdicts on the tests of a file of `fisca test`, or on a list of tests, in their order.
+    def test(self, said: Said, *more: PathLike, name: Optional[str] = None) -> List[Verdict]:
+        """The verdicts on the tests of a file of `fisca test`, or on a list of tests, in their order, and behind them
+        on those of `more` files. Of a folder they are those of the files below it whose names end in `.yaml` or `.yml`.
 
-        A test that fails is no error. A value that cannot be worked out fails its test, and its detail says why.
-        ValueError where names with line breaks look as other tests do.
+        With `name` only the tests are run whose names have that text. A test that fails is no error. A value that
+        cannot be worked out fails its test, and its detail says why. ValueError where names with line breaks look as
+        other tests do.
         """
-        return verdicts_of(output_of(self._words("test"), file_of(said), good=(0, 1)))
+        named = [] if name is None else [f"--name={name}"]
+        words, behind = self._words("test", *named), [file_of(it).word for it in more]
+        text = output_of(words, file_of(said), good=(0, 1), behind=behind)
+        is_folder = isinstance(said, (str, os.PathLike)) and os.path.isdir(said)
+        return verdicts_of_files(text) if more or is_folder else verdicts_of(text)
 
 
 def places_of(decimals: Optional[int]) -> List[str]:
@@ -213,9 +283,38 @@ def float_of(text: str) -> Any:
     return float(text) if NUMBER.fullmatch(text) else value_of(text)
 
 
+def verdicts_of_files(text: str) -> List[Verdict]:
+    """The verdicts of the reports on several files, each below its path and with its counts as its last line, and behind
+    them the counts of all. ValueError where line breaks in names hide where a report ends."""
+    *lines, last = text.split("\n")[:-1] or [""]
+    found: List[Verdict] = []
+    while lines:
+        path, *lines = lines
+        for at in [it for it, line in enumerate(lines) if VERDICTS.fullmatch(line)]:
+            try:
+                verdicts = verdicts_of_report(lines[: at + 1])
+            except ValueError:
+                # a name with a line break, behind which the report goes on
+                continue
+            found += [it._replace(path=path) for it in verdicts]
+            lines = lines[at + 1 :]
+            break
+        else:
+            raise ValueError(f"no counts of the tests of {path}: a name has a line break")
+    passed = sum(it.passed for it in found)
+    if last != f"passed {passed}, failed {len(found) - passed}":
+        raise ValueError(f"'{last}', and not {len(found)} tests: a name has a line break")
+    return found
+
+
 def verdicts_of(text: str) -> List[Verdict]:
     """The verdicts of a report. ValueError where line breaks in names hide how many there are."""
-    *lines, last = text.split("\n")[:-1] or [""]
+    return verdicts_of_report(text.split("\n")[:-1] or [""])
+
+
+def verdicts_of_report(report: List[str]) -> List[Verdict]:
+    """The verdicts of the lines of a report. ValueError where line breaks in names hide how many there are."""
+    *lines, last = report
     found: List[Tuple[List[str], List[str]]] = []
     for line in lines:
         if re.match("ok |failed ", line) or not found:

@@ -10,7 +10,7 @@ from concurrent.futures import Future, ThreadPoolExecutor
 from typing import IO, Collection, Deque, Generator, List, NamedTuple, Optional, Sequence, Set
 
 from ._errors import FiscaError, error_of
-from ._program import File, standard_input
+from ._program import File, standard_input, whole_lines
 
 # so often a part is tried whose process dies, and the statuses of a process that died, beside signals: the output
 # failed, or there was no memory
@@ -113,9 +113,9 @@ def lines_of_parts(
                 waiting.append(pool.submit(crew.done, part))
             found = waiting.popleft().result()
             with found.lines:
-                for number, line in enumerate(found.lines):
-                    if line.endswith(b"\n") and (number or not at):
-                        yield line[:-1].decode()
+                if at:
+                    found.lines.readline()
+                yield from whole_lines(found.lines)
             if found.fault:
                 raise found.fault
     finally:

@@ -162,11 +162,11 @@ def test_a_program_that_is_killed_or_ends_too_early(stand_in):
     with pytest.raises(fisca.FiscaError):
         next(run)
     hello = stand_in("echo hello")
-    for call in (hello.check, hello.list, lambda: hello.calc({}), lambda: hello.size(GRID), lambda: hello.run(GRID),
-                 lambda: list(hello.calc_lines([{}]))):
+    for call in (hello.check, hello.list, lambda: hello.calc({}), lambda: hello.explain({}), lambda: hello.size(GRID),
+                 lambda: hello.run(GRID), lambda: list(hello.calc_lines([{}]))):
         with pytest.raises(fisca.FiscaError):
             call()
-    for call in (stand_in("exit 0").check, lambda: list(stand_in(f"{HEAD}; printf '0\\t1\\n'").run(GRID))):
+    for call in (stand_in("exit 0").check, lambda: list(stand_in(f"{HEAD}; printf '0\\t1\\n'; echo end >&2").run(GRID))):
         with pytest.raises(fisca.FiscaError):
             call()
     for printed in ("{}", "1", '{"declared": 1}'):

@@ -115,6 +115,23 @@ def test_forms_and_keeping_going(room, small):
     assert (room / "out").read_bytes() == one_run(*options, **how)
 
 
+def test_reforms_are_laid_over(room):
+    folders = [room / "a reform", room / "b's"]
+    for folder, value in zip(folders, (45, 90)):
+        path = folder / "parameters" / "housing_benefit" / "smallest_amount.yaml"
+        path.parent.mkdir(parents=True)
+        text = (RULES / path.relative_to(folder)).read_text()
+        path.write_text(text.replace("value: 25\n", f"value: {value}\n"))
+    options = [f"--reform={it}" for it in folders]
+    assert called(room, "--parts", "5", *options).returncode == 0
+    assert (room / "out").read_bytes() == one_run(*options) != one_run()
+    # the folders count among what decides the lines
+    kept = room / "out.parts"
+    kept.mkdir()
+    (kept / "run").write_text("another run\n")
+    assert called(room, "--parts", "5", *options).returncode == 2
+
+
 def test_more_parts_than_positions_on_other_machines(room):
     # a machine that is reached by a command of our own, for want of another one, and has a shell as behind an sshd
     ssh = room / "ssh"

@@ -8,6 +8,8 @@ from conftest import ENTITIES, TOP
 
 import fisca
 
+FAMILY = TOP / "examples" / "housing" / "family.yaml"
+SCALE = "parameters/housing_benefit/income_reduction.yaml"
 STORED = sorted(TOP.glob("examples/*/*.stdout")) + sorted(TOP.glob("tests/rules/*/*.stdout"))
 
 
@@ -83,6 +85,26 @@ def test_list_of_texts_that_look_otherwise(small, tmp_path):
 def test_list_without_variables(tmp_path):
     (tmp_path / "entities.py").write_text(ENTITIES)
     assert fisca.Rules(tmp_path).list() == []
+
+
+def test_explain(housing):
+    column, income, allowance, scale = housing.explain(FAMILY, ["income_reduction"], depth=1)
+    assert (column.depth, column.kind, column.value, column.source, column.line) == (0, "key", 240, "formula", 43)
+    assert (income.depth, income.name, income.member, income.value) == (1, "household_income", "home", 2900)
+    assert (income.unit, income.label) == ("currency", "Salaries of all members of the household")
+    assert (allowance.kind, allowance.period, allowance.since) == ("parameter", "2025-03-01", "2025-01-01")
+    assert (scale.kind, scale.base, scale.value, scale.file) == ("scale", 900, 240, SCALE)
+    assert [it.value for it in housing.explain(FAMILY) if it.depth == 0] == [it.value for it in housing.calc(FAMILY)]
+
+
+def test_explain_up_to_a_fault(small):
+    said = {"period": "2025-01", "columns": ["share"], "input": {"persons": {"Ann": {"salary": 0}}}}
+    column, below = small.explain(said)
+    assert (column.value, column.fault, below.value, below.source) == (None, "ZeroDivisor", 0, "given")
+    with pytest.raises(fisca.Refused):
+        small.explain({}, ["none"])
+    with pytest.raises(ValueError):
+        small.explain({}, depth=-1)
 
 
 @pytest.mark.parametrize("stored", [it for it in STORED if it.stem in ("family", "calc")], ids=str)
@@ -214,6 +236,30 @@ def test_names_of_tests_with_line_breaks(small):
         small.test([{**test, "name": "a\nok b"}])
 
 
+def test_tests_of_several_files_and_folders(small, tmp_path):
+    (tmp_path / "deep").mkdir()
+    first, second, other = tmp_path / "b.yaml", tmp_path / "deep" / "a.yml", tmp_path / "a.txt"
+    first.write_text("- {name: one, period: 2017-01, output: {salary: 0}}\n- {name: two, period: 2017-01, output: {salary: 1}}\n")
+    second.write_text("name: three\nperiod: 2017-01\noutput:\n  salary: 0\n")
+    other.write_text("no tests")
+    for found in (small.test(tmp_path), small.test(first, second)):
+        assert [(it.name, it.passed, it.path) for it in found] == [
+            ("one", True, str(first)),
+            ("two", False, str(first)),
+            ("three", True, str(second)),
+        ]
+    assert [it.path for it in small.test(first)] == [None, None]
+    assert small.test(tmp_path / "deep", name="t") == [("three", True, (), str(second))]
+
+
+def test_tests_by_name(small):
+    tests = [{"name": name, "period": "2017-01", "output": {"salary": 0}} for name in ("one", "two", "one more")]
+    unread = {"name": "other", "input": "none"}
+    assert [it.name for it in small.test([*tests, unread], name="one")] == ["one", "one more"]
+    assert small.test(tests, name="None") == []
+    assert [it.name for it in small.test(tests, name="")] == ["one", "two", "one more"]
+
+
 def test_a_folder_that_looks_like_an_option(small, tmp_path, monkeypatch):
     monkeypatch.chdir(tmp_path)
     (tmp_path / "small").rename(tmp_path / "--help")
@@ -237,3 +283,36 @@ def test_the_program_is_found(small, tmp_path, monkeypatch):
         own.check()
     (tmp_path / "crates.txt").touch()
     assert own.check().parameters == 9
+
+
+def test_reforms_are_laid_over_the_rules(tmp_path):
+    (tmp_path / "entities.py").write_text("Person = build_entity(key='person', plural='persons', is_person=True)\n")
+    (tmp_path / "variables").mkdir()
+    (tmp_path / "parameters").mkdir()
+    (tmp_path / "parameters" / "rate.yaml").write_text("values: {2017-01-01: 0.1}\n")
+    lines = ["class tax(Variable):", "    value_type = float", "    entity = Person", "    definition_period = MONTH"]
+    lines += ["    def formula(person, period, parameters):", "        return parameters(period).rate * 10"]
+    (tmp_path / "variables" / "tax.py").write_text("\n".join([*lines, ""]))
+    for name, rate in (("one", 0.2), ("two", 0.3)):
+        (tmp_path / name / "parameters").mkdir(parents=True)
+        (tmp_path / name / "parameters" / "rate.yaml").write_text(f"values: {{2017-01-01: {rate}}}\n")
+    said = {"period": "2017-01", "input": {"persons": {"Ann": {}}}, "columns": "tax"}
+    found = [fisca.Rules(tmp_path, reforms=it).calc(said)[0].value for it in ([], [tmp_path / "one"], tmp_path / "two")]
+    assert found == [1, 2, 3]
+    both = fisca.Rules(tmp_path, reforms=[tmp_path / "one", str(tmp_path / "two")])
+    assert both.calc(said)[0].value == 3
+    assert repr(both) == f"Rules({str(tmp_path)!r}, reforms=[{str(tmp_path / 'one')!r}, {str(tmp_path / 'two')!r}])"
+    assert [it.amounts[0].value for it in both.calc_lines([said, said])] == [3, 3]
+    axes = [[{"name": "tax", "count": 2, "min": 0, "max": 1}]]
+    grid = {"period": "2017-01", "input": {"persons": {"Ann": {}}}, "axes": axes, "columns": "tax"}
+    assert (both.size(grid), len(list(both.run(grid, workers=2)))) == (2, 2)
+
+
+def test_messages_name_the_folder_of_a_reform(tmp_path):
+    for name in ("rules", "reform"):
+        (tmp_path / name).mkdir()
+    (tmp_path / "rules" / "entities.py").write_text("Person = build_entity(key='person', plural='persons', is_person=True)\n")
+    (tmp_path / "reform" / "entities.py").write_text("x\n")
+    with pytest.raises(fisca.Refused) as told:
+        fisca.Rules(tmp_path / "rules", reforms=[tmp_path / "reform"]).check()
+    assert (told.value.path, told.value.line) == (str(tmp_path / "reform" / "entities.py"), 1)

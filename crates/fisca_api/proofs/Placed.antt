@@ -1,7 +1,7 @@
 -- Where nodes may be worked out: whom they ask for, and whose roles they read, in a formula of an entity.
 use Rattle.std.proofs.Common.{◌≡◌, ℕ, zero, suc, List, [], ◌∷◌, ◌++◌, Bool, true, false, Some}
 use Rattle.std.specs.Prelude.{⊤, ◌⊎◌, slice_get}
-use Rattle.fisca_formula_semantics.specs.Wellformed.{Within}
+use Rattle.fisca_typing.specs.Wellformed.{Within}
 use Rattle.fisca_model.specs.Tables.{Entity, Tables, Variable, is_person_at}
 use Rattle.fisca_typing.specs.Asks.{person_place}
 use Rattle.fisca_typing.specs.Formulas.{Formula}

@@ -3,7 +3,7 @@ use Rattle.std.proofs.Common.{◌≡◌, ℕ, zero, suc, ◌+◌, List, [], ◌�
 use Rattle.std.specs.Prelude.{slice_get, Result, Ok, Err}
 use Rattle.fisca_ast.specs.Tree.{Tree}
 use Rattle.fisca_ast.specs.declared.fault.FormulaKind.{FormulaKind}
-use Rattle.fisca_formula_semantics.proofs.Good.{OkIs, if_is, then_is}
+use Rattle.fisca_typing.proofs.Good.{OkIs, if_is, then_is}
 use Rattle.fisca_model.specs.Tables.{Tables}
 use Rattle.fisca_model.specs.declared.value_type.ValueType.{ValueType}
 use Rattle.fisca_num.specs.Results.{and_then}

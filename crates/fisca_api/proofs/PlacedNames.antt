@@ -13,8 +13,8 @@ use Rattle.fisca_ast.specs.declared.tree.Delimiter.{Delimiter}
 use Rattle.fisca_ast.specs.declared.tree.Delimiter.TheVariants as bracket
 use Rattle.fisca_ast.specs.declared.tree.Suffix.{Suffix}
 use Rattle.fisca_ast.specs.declared.tree.Suffix.TheVariants as suffix
-use Rattle.fisca_formula_semantics.proofs.Good.{OkIs, if_is, then_any, then_eq, then_is}
-use Rattle.fisca_formula_semantics.proofs.GoodAsks.{StandsAt, first-at}
+use Rattle.fisca_typing.proofs.Good.{OkIs, if_is, then_any, then_eq, then_is}
+use Rattle.fisca_typing.proofs.GoodAsks.{StandsAt, first-at}
 use Rattle.fisca_model.specs.Tables.{Entity, Tables, Variable, if_single, is_group_of, is_person_at, member_named, otherwise, place_in, role_of_constant, role_of_key, roles_at, roles_of, variable_named}
 use Rattle.fisca_model.specs.declared.role_place.RolePlace.{RolePlace}
 use Rattle.fisca_model.specs.declared.value_type.ValueType.{ValueType}

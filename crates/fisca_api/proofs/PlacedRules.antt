@@ -14,8 +14,8 @@ use Rattle.fisca_declarations.specs.VariableForms.{Written}
 use Rattle.fisca_declarations.specs.declared.declared.Declared.{Declared}
 use Rattle.fisca_model.specs.Tables as typing
 use Rattle.fisca_model.specs.declared.value_type.ValueType.{ValueType}
-use Rattle.fisca_names.specs.Names.{Placed, fault_at, names_from, placed_from, told_at}
-use Rattle.fisca_names.specs.declared.fault.BuildFault.{BuildFault}
+use Rattle.fisca_rules.specs.FirstPass.{Placed, fault_at, names_from, placed_from, told_at}
+use Rattle.fisca_rules.specs.declared.build_fault.BuildFault.{BuildFault}
 use Rattle.fisca_num.specs.Results.{and_then}
 use Rattle.fisca_params.specs.Tree.{TreeNode}
 use Rattle.fisca_api.proofs.Placed.{IsPlacedFormula, RolesFit}

@@ -11,8 +11,8 @@ use Rattle.fisca_ast.specs.declared.tree.Operator.{Operator}
 use Rattle.fisca_ast.specs.declared.tree.Operator.TheVariants as operator
 use Rattle.fisca_ast.specs.declared.tree.Prefix.{Prefix}
 use Rattle.fisca_ast.specs.declared.tree.Prefix.TheVariants as prefix
-use Rattle.fisca_formula_semantics.proofs.Good.{OkIs, if_is, then_any, then_eq, then_is}
-use Rattle.fisca_formula_semantics.specs.Wellformed.{Within}
+use Rattle.fisca_typing.proofs.Good.{OkIs, if_is, then_any, then_eq, then_is}
+use Rattle.fisca_typing.specs.Wellformed.{Within}
 use Rattle.fisca_model.specs.Tables.{Tables, is_person_at, members_at}
 use Rattle.fisca_model.specs.declared.value_type.ValueType.{ValueType}
 use Rattle.fisca_model.specs.declared.value_type.ValueType.TheVariants as vt

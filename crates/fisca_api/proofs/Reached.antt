@@ -3,10 +3,10 @@ use Rattle.std.proofs.Common.{◌≡◌, ◌<◌, ℕ, zero, suc, ◌*◌, ◌+�
 use Rattle.std.specs.Prelude.{⊤, ◌==◌, ◌&&◌, if◌then◌else◌, slice_get, Result, Ok, Err}
 use Rattle.std.proofs.Common.{eq-eqb}
 use Rattle.fisca_ast.specs.declared.tree.Comparison.{Comparison}
-use Rattle.fisca_formula_semantics.specs.Answers.{arithmetic_of, comparison_of, logic_of, number_by, same_of, unary_of}
-use Rattle.fisca_formula_semantics.specs.Meaning.{Locals, at_index, at_person, at_place, formula_means, from_first, in_turn, local_at, mean, mean_from, parameter_value, scale_value, total_over}
-use Rattle.fisca_formula_semantics.specs.Questions.{ask_all, ask_by, ask_first, ask_known, ask_of, ask_part, ask_person, ask_plain, ask_typed, ask_year, at_period, at_start, counted, group_at, has_no_parts, in_range, moved_all, on_start, person_of, persons_in, twelve}
-use Rattle.fisca_formula_semantics.specs.Wellformed.{Within}
+use Rattle.fisca_typing.specs.Answers.{arithmetic_of, comparison_of, logic_of, number_by, same_of, unary_of}
+use Rattle.fisca_typing.specs.Meaning.{Locals, at_index, at_person, at_place, formula_means, from_first, in_turn, local_at, mean, mean_from, parameter_value, scale_value, total_over}
+use Rattle.fisca_typing.specs.Questions.{ask_all, ask_by, ask_first, ask_known, ask_of, ask_part, ask_person, ask_plain, ask_typed, ask_year, at_period, at_start, counted, group_at, has_no_parts, in_range, moved_all, on_start, person_of, persons_in, twelve}
+use Rattle.fisca_typing.specs.Wellformed.{Within}
 use Rattle.fisca_groups.specs.declared.entity_members.EntityMembers.{EntityMembers}
 use Rattle.fisca_key_semantics.specs.Dialogues.{Dialogue, asks, computed, fails, gives, stuck, with_bool, with_member, with_number, ◌>>=◌}
 use Rattle.fisca_model.specs.Groups.{Groups, Point, has, persons_at, with_role}

@@ -2,9 +2,8 @@
 
 pub use fisca_ast::{FormulaFault, FormulaKind, Module};
 pub use fisca_lexer::{Class, Mark, Token, tokens};
-pub use fisca_names::BuildFault;
 pub use fisca_parser::read_module;
-pub use fisca_rules::{DatedFormula, RuleSet};
+pub use fisca_rules::{BuildFault, DatedFormula, RuleSet};
 pub use fisca_simulation::rule_sets_are_safe;
 pub use fisca_symbols::{
     Choices, DeclaredType, DefaultValue, Entity, Role, Roles, SetInput, Variable,

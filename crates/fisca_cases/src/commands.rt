@@ -107,7 +107,13 @@ fn call<S: RowSink>(
             PLAIN,
             sink,
         ).err()),
-        [text] if command == "test" => Ok(test_rules(alloc, files, text.as_str(), sink).err()),
+        [text] if command == "test" => Ok(test_rules(
+            alloc,
+            files,
+            text.as_str(),
+            None,
+            sink,
+        ).err()),
         [] if command == "check" => Ok(check_rules(alloc, files, sink).err()),
         _ => Err(malformed()),
     }
@@ -155,7 +161,7 @@ fn push_end(
             shown.push("status ");
             shown.push_number(u64::from(refusal.status()));
             shown.push(", ");
-            shown.push(refusal.line(alloc, "file.yaml")?.as_str());
+            shown.push(refusal.line(alloc, "file.yaml", &[])?.as_str());
             if let Some(position) = position_of(refusal) {
                 shown.push(" at ");
                 shown.push_number(position);

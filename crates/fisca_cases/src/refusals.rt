@@ -53,6 +53,6 @@ fn told(alloc: Global, refusal: &Refusal) -> Result<String, CaseFault> {
     told.push(", status ");
     told.push_number(u64::from(refusal.status()));
     told.push(", ");
-    told.push(refusal.line(alloc, "file.yaml")?.as_str());
+    told.push(refusal.line(alloc, "file.yaml", &[])?.as_str());
     Ok(told.finish()?)
 }

@@ -110,7 +110,7 @@ walk_no_help s names enabled (word ∷ words) w goes none =
 -- a command of the program, but for its `help`
 abbrev IsNamed : Option Text → Type 0
 IsNamed None = Unit {0}
-IsNamed (Some name) = (name ≡ codes "check") ⊎ ((name ≡ codes "calc") ⊎ ((name ≡ codes "test") ⊎ ((name ≡ codes "run") ⊎ ((name ≡ codes "size") ⊎ ((name ≡ codes "list") ⊎ (name ≡ codes "axes"))))))
+IsNamed (Some name) = (name ≡ codes "check") ⊎ ((name ≡ codes "calc") ⊎ ((name ≡ codes "test") ⊎ ((name ≡ codes "run") ⊎ ((name ≡ codes "size") ⊎ ((name ≡ codes "list") ⊎ ((name ≡ codes "explain") ⊎ (name ≡ codes "axes")))))))
 
 swapped : (one other : Text) → bytes_eq one other ≡ false → bytes_eq other one ≡ false
 swapped one other differ = go (bytes_eq other one) refl
@@ -122,27 +122,28 @@ swapped one other differ = go (bytes_eq other one) refl
         let back : bytes_eq one other ≡ true = (bytes_eq-Decides one other).1 (sym same) in
         absurd (true≢false (sym back ∙ differ))
 
--- the commands as built: `check`, `calc`, `test`, `run`, `size`, `list`, `axes` and `help`
+-- the commands as built: `check`, `calc`, `test`, `run`, `size`, `list`, `explain`, `axes` and `help`
 abbrev sub : ℕ → Shape
 sub place = slice_index_or (built fisca_app).subs place (built fisca_app).top
 
 entered_named : (stop : Option (Text × List Text)) → IsNoHelp stop → IsNamed (option_map (λ command. command.0) (entered (built fisca_app) stop))
 entered_named None other = tt
-entered_named (Some stop) other = go (bytes_eq (codes "check") stop.0) (bytes_eq (codes "calc") stop.0) (bytes_eq (codes "test") stop.0) (bytes_eq (codes "run") stop.0) (bytes_eq (codes "size") stop.0) (bytes_eq (codes "list") stop.0) (bytes_eq (codes "axes") stop.0) (bytes_eq (codes "help") stop.0) (swapped stop.0 (codes "help") other)
+entered_named (Some stop) other = go (bytes_eq (codes "check") stop.0) (bytes_eq (codes "calc") stop.0) (bytes_eq (codes "test") stop.0) (bytes_eq (codes "run") stop.0) (bytes_eq (codes "size") stop.0) (bytes_eq (codes "list") stop.0) (bytes_eq (codes "explain") stop.0) (bytes_eq (codes "axes") stop.0) (bytes_eq (codes "help") stop.0) (swapped stop.0 (codes "help") other)
   where
-    go : (check calc test run size list axes help : Bool) → help ≡ false
-        → IsNamed (option_map (λ command. command.0) (option_map (λ s. rows_at s stop.1) (cond (check || false) (Some (sub 0)) (cond (calc || false) (Some (sub 1)) (cond (test || false) (Some (sub 2)) (cond (run || false) (Some (sub 3)) (cond (size || false) (Some (sub 4)) (cond (list || false) (Some (sub 5)) (cond (axes || false) (Some (sub 6)) (cond (help || false) (Some (sub 7)) None))))))))))
-    go true calc test run size list axes help none = inl refl
-    go false true test run size list axes help none = inr (inl refl)
-    go false false true run size list axes help none = inr (inr (inl refl))
-    go false false false true size list axes help none = inr (inr (inr (inl refl)))
-    go false false false false true list axes help none = inr (inr (inr (inr (inl refl))))
-    go false false false false false true axes help none = inr (inr (inr (inr (inr (inl refl)))))
-    go false false false false false false true help none = inr (inr (inr (inr (inr (inr refl)))))
-    go false false false false false false false true none = absurd (true≢false none)
-    go false false false false false false false false none = tt
+    go : (check calc test run size list explain axes help : Bool) → help ≡ false
+        → IsNamed (option_map (λ command. command.0) (option_map (λ s. rows_at s stop.1) (cond (check || false) (Some (sub 0)) (cond (calc || false) (Some (sub 1)) (cond (test || false) (Some (sub 2)) (cond (run || false) (Some (sub 3)) (cond (size || false) (Some (sub 4)) (cond (list || false) (Some (sub 5)) (cond (explain || false) (Some (sub 6)) (cond (axes || false) (Some (sub 7)) (cond (help || false) (Some (sub 8)) None)))))))))))
+    go true calc test run size list explain axes help none = inl refl
+    go false true test run size list explain axes help none = inr (inl refl)
+    go false false true run size list explain axes help none = inr (inr (inl refl))
+    go false false false true size list explain axes help none = inr (inr (inr (inl refl)))
+    go false false false false true list explain axes help none = inr (inr (inr (inr (inl refl))))
+    go false false false false false true explain axes help none = inr (inr (inr (inr (inr (inl refl)))))
+    go false false false false false false true axes help none = inr (inr (inr (inr (inr (inr (inl refl))))))
+    go false false false false false false false true help none = inr (inr (inr (inr (inr (inr (inr refl))))))
+    go false false false false false false false false true none = absurd (true≢false none)
+    go false false false false false false false false false none = tt
 
--- words without a fault name `check`, `calc`, `test`, `run`, `size`, `list` or `axes`
+-- words without a fault name `check`, `calc`, `test`, `run`, `size`, `list`, `explain` or `axes`
 named : (words : List Text) → fault_of fisca_app words ≡ [] → IsNamed (option_map (λ command. command.0) (subcommand_of fisca_app words))
 named words none =
     let app = built fisca_app in
@@ -155,8 +156,8 @@ module _ {Z : Type 0} where
   same_name (Some b) = refl
 
 pub no_other : (app : App) (words : List Text) (m : ArgMatches) (name : Text) → app ≡ fisca_app → (is_simple_and_free app ≡ true → fault_of app words ≡ []) → HasMatchesOf app words m
-    → Some name ≡ subcommand_name_of m → name ≢ codes "check" → name ≢ codes "calc" → name ≢ codes "test" → name ≢ codes "run" → name ≢ codes "size" → name ≢ codes "list" → name ≢ codes "axes" → ⊥
-no_other app words m name is none matches met no_check no_calc no_test no_run no_size no_list no_axes = elim told [
+    → Some name ≡ subcommand_name_of m → name ≢ codes "check" → name ≢ codes "calc" → name ≢ codes "test" → name ≢ codes "run" → name ≢ codes "size" → name ≢ codes "list" → name ≢ codes "explain" → name ≢ codes "axes" → ⊥
+no_other app words m name is none matches met no_check no_calc no_test no_run no_size no_list no_explain no_axes = elim told [
   | inl e ↦ no_check e
   | inr later ↦ elim later [
     | inl e ↦ no_calc e
@@ -168,7 +169,10 @@ no_other app words m name is none matches met no_check no_calc no_test no_run no
           | inl e ↦ no_size e
           | inr three ↦ elim three [
             | inl e ↦ no_list e
-            | inr e ↦ no_axes e
+            | inr four ↦ elim four [
+              | inl e ↦ no_explain e
+              | inr e ↦ no_axes e
+            ]
           ]
         ]
       ]
@@ -182,7 +186,7 @@ no_other app words m name is none matches met no_check no_calc no_test no_run no
     found : HasMatchesOf fisca_app words m
     found = subst (λ (a : App). HasMatchesOf a words m) is matches
 
-    told : (name ≡ codes "check") ⊎ ((name ≡ codes "calc") ⊎ ((name ≡ codes "test") ⊎ ((name ≡ codes "run") ⊎ ((name ≡ codes "size") ⊎ ((name ≡ codes "list") ⊎ (name ≡ codes "axes"))))))
+    told : (name ≡ codes "check") ⊎ ((name ≡ codes "calc") ⊎ ((name ≡ codes "test") ⊎ ((name ≡ codes "run") ⊎ ((name ≡ codes "size") ⊎ ((name ≡ codes "list") ⊎ ((name ≡ codes "explain") ⊎ (name ≡ codes "axes")))))))
     told = subst IsNamed (ap (option_map (λ command. command.0)) (sym (found refl).1) ∙ same_name (out-ArgMatches m).subcommand ∙ sym met) (named words faultless)
 
 both : (o : Option (Text × List Row)) (name : Text) (rows : List Row) → option_map (λ command. command.0) o ≡ Some name → option_map (λ command. command.1) o ≡ Some rows → o ≡ Some (name, rows)

@@ -4,7 +4,7 @@ use Rattle.std.specs.Str.{bytes_eq}
 use Rattle.std.specs.Str.Parse.{ParsesUnsigned}
 use Rattle.std.specs.declared.num.ParseIntError.{ParseIntError}
 use Rattle.clap.specs.Matches.{ReadsOne}
-use Rattle.clap.specs.Walk.{Row, Text, first_of, one_of}
+use Rattle.clap.specs.Walk.{Row, Text, all_of, first_of, one_of}
 use Rattle.fisca_command_line.specs.declared.options.RunOptions.{RunOptions}
 use Rattle.fisca_command_line.specs.declared.options.TableForm.{TableForm}
 use Rattle.fisca_forms.specs.Forms.{Places}
@@ -18,6 +18,10 @@ use Rattle.fisca_writer.specs.declared.range.Range.TheVariants as range
 -- the text of an argument that has to be given
 abbrev pub text_of : Text → List Row → List ℕ
 text_of id rows = unwrap_or (first_of id rows) []
+
+-- the texts of an option that may come several times
+abbrev pub texts_of : Text → List Row → List Text
+texts_of id rows = unwrap_or (all_of id rows) []
 
 -- a flag is set where its text is `true`
 abbrev pub is_set : Option Text → Bool
@@ -59,6 +63,14 @@ IsForm rows form =
     (form.header ≡ is_set (first_of (codes "header") rows))
     × ArePlaces (one_of (codes "decimals") rows) form.decimals
     × (form.format ≡ option_and_then format_of (first_of (codes "format") rows))
+
+-- the form of an explanation that a text names: that of lines, and none of a text for readers
+abbrev pub explain_format_of : Text → Option (Option Format)
+explain_format_of text = if bytes_eq text (codes "text") then Some None else (if bytes_eq text (codes "jsonl") then Some (Some Jsonl) else None)
+
+-- the form of an explanation that the options ask for
+abbrev pub explain_format_at : List Row → Option Format
+explain_format_at rows = option_and_then (λ found. found) (option_and_then explain_format_of (first_of (codes "format") rows))
 
 -- what the options of a run ask for
 abbrev pub AreOptions : List Row → RunOptions → Type 0

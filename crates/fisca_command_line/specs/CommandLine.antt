@@ -30,6 +30,14 @@ places_rule id = record (option_rule id) { parser = Some (Unsigned 0 18) }
 abbrev pub axis_rule : Rule
 axis_rule = record (required_rule (codes "AXIS")) { action = Some Append; range = Some (record { start_inclusive = 1; end_inclusive = usize_max }) }
 
+-- the folder of a reform, once or several times: [--reform DIR]..
+abbrev pub reform_rule : Rule
+reform_rule = record (option_rule (codes "reform")) { action = Some Append }
+
+-- columns, or none
+abbrev pub column_rule : Rule
+column_rule = record (new_rule (codes "COLUMN")) { action = Some Append; range = Some (record { start_inclusive = 0; end_inclusive = usize_max }) }
+
 -- the options of a range and its lines: [--from P] [--to P] [--part I/N] [--rows N]
 abbrev pub with_range : App → App
 with_range app = with_rule (with_rule (with_rule (with_rule app (number_rule (codes "from"))) (number_rule (codes "to"))) (option_rule (codes "part"))) (number_rule (codes "rows"))
@@ -46,35 +54,48 @@ with_form app = with_rule (with_rule (with_rule app (flag_rule (codes "header"))
 abbrev pub axes_app : App
 axes_app = with_form (with_range (with_rule (with_rule (new_app (codes "axes")) axis_rule) (option_rule (codes "keep"))))
 
--- RULES
+-- RULES [--reform DIR]..
 abbrev pub check_app : App
-check_app = with_rule (new_app (codes "check")) (required_rule (codes "RULES"))
+check_app = with_rule (with_rule (new_app (codes "check")) (required_rule (codes "RULES"))) reform_rule
 
--- RULES FILE, the options of a form, and [--lines]
+-- the files and folders of tests: TESTS..
+abbrev pub tests_rule : Rule
+tests_rule = record (required_rule (codes "TESTS")) { action = Some Append; range = Some (record { start_inclusive = 1; end_inclusive = usize_max }) }
+
+-- a command over a rule set and a file: RULES FILE [--reform DIR]..
+abbrev pub with_files : App → App
+with_files app = with_rule (with_rule (with_rule app (required_rule (codes "RULES"))) (required_rule (codes "FILE"))) reform_rule
+
+-- RULES FILE [--reform DIR].., the options of a form, and [--lines]
 abbrev pub calc_app : App
-calc_app = with_rule (with_form (with_rule (with_rule (new_app (codes "calc")) (required_rule (codes "RULES"))) (required_rule (codes "FILE")))) (flag_rule (codes "lines"))
+calc_app = with_rule (with_form (with_files (new_app (codes "calc")))) (flag_rule (codes "lines"))
 
--- RULES TESTS
+-- RULES TESTS.. [--name TEXT] [--reform DIR]..
 abbrev pub test_app : App
-test_app = with_rule (with_rule (new_app (codes "test")) (required_rule (codes "RULES"))) (required_rule (codes "TESTS"))
+test_app = with_rule (with_rule (with_rule (with_rule (new_app (codes "test")) (required_rule (codes "RULES"))) tests_rule) (option_rule (codes "name"))) reform_rule
 
--- RULES FILE, the options of a range and of a form, and [--keep-going]
+-- RULES FILE [--reform DIR].., the options of a range and of a form, and [--keep-going]
 abbrev pub run_app : App
-run_app = with_rule (with_form (with_range (with_rule (with_rule (new_app (codes "run")) (required_rule (codes "RULES"))) (required_rule (codes "FILE"))))) (flag_rule (codes "keep-going"))
+run_app = with_rule (with_form (with_range (with_files (new_app (codes "run"))))) (flag_rule (codes "keep-going"))
 
--- RULES FILE
+-- RULES FILE [--reform DIR]..
 abbrev pub size_app : App
-size_app = with_rule (with_rule (new_app (codes "size")) (required_rule (codes "RULES"))) (required_rule (codes "FILE"))
+size_app = with_files (new_app (codes "size"))
 
--- RULES and the options of a table
+-- RULES [--reform DIR].. and the options of a table
 abbrev pub list_app : App
-list_app = with_table (with_rule (new_app (codes "list")) (required_rule (codes "RULES")))
+list_app = with_table (with_rule (with_rule (new_app (codes "list")) (required_rule (codes "RULES"))) reform_rule)
+
+-- RULES FILE COLUMN.. [--reform DIR].., [--depth N] and [--format FORM]
+abbrev pub explain_app : App
+explain_app =
+    with_rule (with_rule (with_rule (with_files (new_app (codes "explain"))) column_rule) (number_rule (codes "depth"))) (option_rule (codes "format"))
 
 -- the program without its commands
 abbrev pub top_app : App
 top_app = on_top (λ s. record s { has_version = true; subcommand_required = true; arg_required_else_help = true }) (new_app (codes "fisca"))
 
--- the program: `check`, `calc`, `test`, `run`, `size`, `list` or `axes`
+-- the program: `check`, `calc`, `test`, `run`, `size`, `list`, `explain` or `axes`
 abbrev pub fisca_app : App
 fisca_app =
-    with_subcommand (with_subcommand (with_subcommand (with_subcommand (with_subcommand (with_subcommand (with_subcommand top_app check_app.top) calc_app.top) test_app.top) run_app.top) size_app.top) list_app.top) axes_app.top
+    with_subcommand (with_subcommand (with_subcommand (with_subcommand (with_subcommand (with_subcommand (with_subcommand (with_subcommand top_app check_app.top) calc_app.top) test_app.top) run_app.top) size_app.top) list_app.top) explain_app.top) axes_app.top

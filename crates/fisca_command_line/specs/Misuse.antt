@@ -11,7 +11,7 @@ use Rattle.clap.specs.declared.error.kind.ErrorKind.TheVariants as kind
 use Rattle.fisca_grid.specs.Words.{part_of}
 use Rattle.fisca_forms.specs.declared.form.Format.{Format}
 use Rattle.fisca_forms.specs.declared.form.Format.TheVariants.{Jsonl}
-use Rattle.fisca_command_line.specs.Asked.{format_of, is_set}
+use Rattle.fisca_command_line.specs.Asked.{explain_format_of, format_of, is_set}
 use Rattle.fisca_command_line.specs.CommandLine.{fisca_app}
 use Rattle.fisca_command_line.specs.declared.misuse.Misuse.{Misuse}
 use Rattle.fisca_command_line.specs.declared.misuse.Misuse.TheVariants as misuse
@@ -22,6 +22,7 @@ kind_of misuse.BadPart = kind.ValueValidation
 kind_of misuse.PartWithFrom = kind.ArgumentConflict
 kind_of misuse.PartWithTo = kind.ArgumentConflict
 kind_of misuse.BadFormat = kind.InvalidValue
+kind_of misuse.BadExplainFormat = kind.InvalidValue
 kind_of misuse.HeaderWithJson = kind.ArgumentConflict
 
 -- a part that is none, or one beside a start or a stop of its own
@@ -47,14 +48,26 @@ options_misuse rows =
     (range_misuse (first_of (codes "part") rows) (is_some (first_of (codes "from") rows)) (is_some (first_of (codes "to") rows)))
     (form_misuse (first_of (codes "format") rows) (is_set (first_of (codes "header") rows)))
 
+-- a form that is none of an explanation
+abbrev pub explain_form_misuse : Option Text → Option Misuse
+explain_form_misuse None = None
+explain_form_misuse (Some text) = if is_some (explain_format_of text) then None else Some misuse.BadExplainFormat
+
+abbrev pub explain_misuse : List Row → Option Misuse
+explain_misuse rows = explain_form_misuse (first_of (codes "format") rows)
+
 -- the commands that have these options
 abbrev pub takes_options : Text → Bool
 takes_options name = bytes_eq name (codes "run") || (bytes_eq name (codes "axes") || (bytes_eq name (codes "calc") || bytes_eq name (codes "list")))
 
+-- the misuse of the options of the command with this name
+abbrev pub misuse_under : Text → List Row → Option Misuse
+misuse_under name rows = if takes_options name then options_misuse rows else (if bytes_eq name (codes "explain") then explain_misuse rows else None)
+
 -- the misuse in the matches of a command
 abbrev pub misuse_of : Option (Text × List Row) → Option Misuse
 misuse_of None = None
-misuse_of (Some command) = if takes_options command.0 then options_misuse command.1 else None
+misuse_of (Some command) = misuse_under command.0 command.1
 
 abbrev pub misuse_kinds : Option Misuse → Kinds
 misuse_kinds None = []

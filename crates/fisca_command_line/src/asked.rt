@@ -3,8 +3,8 @@
 ghost use Rattle.std.specs.Prelude.{◌≡◌, is_some, option_and_then, option_map, codes};
 ghost use Rattle.clap.specs.Matches.{found_of};
 ghost use Rattle.clap.specs.Walk.{first_of, one_of, rows_of};
-ghost use Rattle.fisca_command_line.specs.Asked.{format_of, is_set, part_at, text_of, ArePlaces, AreOptions, IsForm, IsOptionalNumber, IsRangeOf, IsStart};
-ghost use Rattle.fisca_command_line.specs.Misuse.{form_misuse, options_misuse, range_misuse};
+ghost use Rattle.fisca_command_line.specs.Asked.{explain_format_at, explain_format_of, format_of, is_set, part_at, text_of, ArePlaces, AreOptions, IsForm, IsOptionalNumber, IsRangeOf, IsStart};
+ghost use Rattle.fisca_command_line.specs.Misuse.{explain_form_misuse, explain_misuse, form_misuse, options_misuse, range_misuse};
 ghost use Rattle.fisca_forms.specs.LineForms.{places_in};
 ghost use Rattle.fisca_grid.specs.Words.{part_of};
 
@@ -124,6 +124,38 @@ pub fn form_in(matches: &ArgMatches<'_>) -> TableForm
     }
 }
 
+/// The levels of `--depth`.
+pub fn depth_in(matches: &ArgMatches<'_>) -> Option<u64>
+    ensures { IsOptionalNumber (one_of (codes "depth") (rows_of (found_of matches.now))) result }
+{
+    number_in(matches, "depth")
+}
+
+/// The form of an explanation that a text names: that of lines, and none of a text for readers.
+fn read_explain_format(text: &str) -> Option<Option<Format>>
+    ensures { result ≡ explain_format_of text.now }
+{
+    match text {
+        "text" => Some(None),
+        "jsonl" => Some(Some(Format::Jsonl)),
+        _ => None,
+    }
+}
+
+/// The form of an explanation that a text names, if there is one.
+fn explain_format(text: Option<&str>) -> Option<Format>
+    ensures { result ≡ option_and_then (λ found. found) (option_and_then explain_format_of (option_map (λ text. text.now) text.entry)) }
+{
+    read_explain_format(text?)?
+}
+
+/// The form of an explanation that the options ask for.
+pub fn explain_format_in(matches: &ArgMatches<'_>) -> Option<Format>
+    ensures { result ≡ explain_format_at (rows_of (found_of matches.now)) }
+{
+    explain_format(text_in(matches, "format"))
+}
+
 /// What the options of a run ask for.
 pub fn options(matches: &ArgMatches<'_>) -> RunOptions
     ensures { AreOptions (rows_of (found_of matches.now)) result }
@@ -167,4 +199,21 @@ pub fn misuse_in(matches: &ArgMatches<'_>) -> Option<Misuse>
     let in_range = range_misuse(text_in(matches, "part"), has_from, has_to);
     let in_form = form_misuse(text_in(matches, "format"), flag(matches, "header"));
     in_range.or(in_form)
+}
+
+/// Why a form of an explanation means nothing, if it does.
+fn explain_form_misuse(text: Option<&str>) -> Option<Misuse>
+    ensures { result ≡ explain_form_misuse (option_map (λ text. text.now) text.entry) }
+{
+    match read_explain_format(text?) {
+        None => Some(Misuse::BadExplainFormat),
+        Some(_) => None,
+    }
+}
+
+/// Why options of `explain` mean nothing, if they do.
+pub fn explain_misuse_in(matches: &ArgMatches<'_>) -> Option<Misuse>
+    ensures { result ≡ explain_misuse (rows_of (found_of matches.now)) }
+{
+    explain_form_misuse(text_in(matches, "format"))
 }

@@ -6,12 +6,13 @@ pub const STATUSES: &str = "Exit status:
   0  done
   1  a test failed
   2  the command line is wrong
-  3  a rule file, the file of the command, an axis, the condition or the position is refused
+  3  a rule file, the file of the command, an axis, the condition, the position or a column is refused
   4  a value cannot be worked out
   5  a file could not be read, or the output could not be written
   6  out of memory
 
-'fisca help COMMAND' says more of a command.";
+'fisca help COMMAND' says more of a command.
+'fisca help WORD' tells what the word of a refusal means, such as BadIndent, and what to do.";
 
 pub const CHECK_ABOUT: &str = "Check the rule files of a folder";
 
@@ -85,21 +86,24 @@ Exit status:
 pub const TEST_ABOUT: &str = "Run tests of rules";
 
 pub const TEST_LONG: &str =
-    "Run the tests of a file, and tell of each whether it passed: ok NAME, or failed NAME and below it a
-line for each value that is not as expected. The last line is: passed P, failed F.
+    "Run the tests of files and folders, and tell of each whether it passed: ok NAME, or failed NAME and
+below it a line for each value that is not as expected. The last line is: passed P, failed F.
 
-It reads the rule files of the folder as 'fisca check' does, and then the file, a test or a list of
+It reads the rule files of the folder as 'fisca check' does, and then each file, a test or a list of
 tests. Each is a map of these keys, of which only output has to be there:
 
 name, description, keywords   what the test is about; one without a name is told by its number
 period                        the period that values without one have
 input                         what is known of the persons and their groups
 output                        the values that are expected
+only_variables                variables whose values alone are compared, one or a list
+ignore_variables              variables whose values are not compared, one or a list
 absolute_error_margin         how far a number may be off
 relative_error_margin         how far, as a share of the expected number
 
 Where there are both margins, both hold. What is refused is told by one line on standard error,
-such as fisca: PATH:LINE: FAULT, and no test is run before all are read.";
+such as fisca: PATH:LINE: FAULT, and no test of a file is run before all of it are read. The first
+file that is refused ends the run.";
 
 pub const TEST_EXAMPLE: &str = "Example:
   fisca test examples/housing examples/housing/tests.yaml";
@@ -110,7 +114,7 @@ pub const TEST_MORE: &str = "Example:
 FAULT is a word:
   of a rule file       see 'fisca check --help'
   of the file's YAML   Tab, BadIndent, DuplicateKey, BadFlow, BadQuote, Unsupported, TooDeep, TooLong
-  of a test            BadTest, BadOutput
+  of a test            BadTest, BadOutput; UseReform (it names reforms or extensions: use --reform)
   of its input         UnknownEntity, UnknownVariable, UnknownPerson, PersonTwice, RoleFull,
                        BadValue, PeriodMismatch, InconsistentInput, TooMany
 A value that cannot be worked out fails its test, and its word stands where the value would.
@@ -119,7 +123,7 @@ Exit status:
   0  done
   1  a test failed
   2  the command line is wrong
-  3  a rule file or the file of the tests is refused
+  3  a rule file or a file of tests is refused
   5  a file could not be read, or the output could not be written
   6  out of memory";
 
@@ -228,7 +232,69 @@ Exit status:
   5  a file could not be read, or the output could not be written
   6  out of memory";
 
-pub const TESTS_HELP: &str = "The file of the tests, or - for standard input";
+pub const EXPLAIN_ABOUT: &str = "Tell how values come about";
+
+pub const EXPLAIN_LONG: &str =
+    "Tell how the values of columns come about, one line for each variable, member and period.
+
+It reads the rule files and the file as 'fisca calc' does, and explains each column of the file, or
+those that are named, one after another. A line tells the value and what it comes from: an input, a
+default, or the formula in force with its file and line. Below it, two spaces further in, stands
+what that formula needed, in order: the values that it asked for, and the parameters and scales
+that it read, with the day, the value, and where that stands. What was explained further up says
+'above'. A value that cannot be worked out is explained up to its fault, which is told as by
+'fisca calc'.";
+
+pub const EXPLAIN_EXAMPLE: &str = "Example:
+  fisca explain examples/housing examples/housing/family.yaml housing_benefit";
+
+pub const EXPLAIN_MORE: &str = "Example:
+  fisca explain examples/housing examples/housing/family.yaml housing_benefit
+
+FAULT is a word: see 'fisca calc --help'; BadWord, with no path, where COLUMN names no value
+
+Exit status:
+  0  done
+  2  the command line is wrong
+  3  a rule file, the file or a column is refused
+  4  a value cannot be worked out
+  5  a file could not be read, or the output could not be written
+  6  out of memory";
+
+pub const COLUMN_HELP: &str = "What is explained, in place of the columns of the file";
+
+pub const COLUMN_LONG: &str = "What is explained, in place of the columns of the file
+
+NAME, NAME#INDEX, NAME@PERIOD or NAME#INDEX@PERIOD, as in the file: the variable, the place of the
+member from 0 on, and the period, which is that of the file without one.";
+
+pub const DEPTH_HELP: &str = "Explain no further than N values below one another";
+
+pub const DEPTH_LONG: &str = "Explain no further than N values below one another
+
+With 0 the columns alone are told, with 1 what their formulas needed, and so on.";
+
+pub const EXPLAIN_FORMAT_HELP: &str = "Write text or jsonl [default: text]";
+
+pub const EXPLAIN_FORMAT_LONG: &str = "Write text or jsonl [default: text]
+
+text   for readers
+jsonl  an object of JSON in each line, with the keys depth, kind (key, parameter or scale), name,
+       member, period, base, value, fault, source, since, file, line, unit, label and reference";
+
+pub const TESTS_HELP: &str = "Files of tests, or folders of them, or - for standard input";
+
+pub const TESTS_LONG: &str = "Files of tests, or folders of them, or - for standard input
+
+In a folder the files whose names end in .yaml or .yml are taken, in eight levels of folders, in order
+of their paths. Of a folder, and of several files, the path of each file stands above its report, and
+the last line has the count of all.";
+
+pub const NAME_HELP: &str = "Run the tests whose names have TEXT";
+
+pub const NAME_LONG: &str = "Run the tests whose names have TEXT
+
+The others are as if they did not stand in their file.";
 
 pub const RUN_FILE_HELP: &str =
     "The file that says the grid and what is worked out, or - for standard input";
@@ -236,6 +302,14 @@ pub const RUN_FILE_HELP: &str =
 pub const FILE_HELP: &str = "The file that says what is worked out, or - for standard input";
 
 pub const RULES_HELP: &str = "The folder of the rule set: entities.py, variables and parameters";
+
+pub const REFORM_HELP: &str = "Lay the files of a reform's folder over those of the rule set";
+
+pub const REFORM_LONG: &str = "Lay the files of a reform's folder over those of the rule set
+
+A file of DIR takes the place of that of the same path, and one that is empty takes it away; the others
+are added. With several, each is laid over those before it. The path of each file is then told with
+the folder that it is in, such as fisca: DIR/PATH:LINE: FAULT.";
 
 pub const AXES_ABOUT: &str = "List the values of axes";
 

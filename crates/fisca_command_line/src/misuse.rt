@@ -20,6 +20,8 @@ pub enum Misuse {
     PartWithTo,
     /// The text of `--format` is no form.
     BadFormat,
+    /// The text of `--format` is no form of an explanation.
+    BadExplainFormat,
     /// Lines of JSON name their cells.
     HeaderWithJson,
 }
@@ -31,7 +33,7 @@ impl Misuse {
     {
         match self {
             Misuse::BadPart => ErrorKind::ValueValidation,
-            Misuse::BadFormat => ErrorKind::InvalidValue,
+            Misuse::BadFormat | Misuse::BadExplainFormat => ErrorKind::InvalidValue,
             Misuse::PartWithFrom | Misuse::PartWithTo | Misuse::HeaderWithJson => {
                 ErrorKind::ArgumentConflict
             }
@@ -51,6 +53,9 @@ impl Misuse {
                 "the argument '--part <I/N>' cannot be used with '--to <P>': a part ends where the next one begins"
             }
             Misuse::BadFormat => "invalid value for '--format <FORM>': FORM is tsv, csv or jsonl",
+            Misuse::BadExplainFormat => {
+                "invalid value for '--format <FORM>': FORM is text or jsonl"
+            }
             Misuse::HeaderWithJson => {
                 "the argument '--header' cannot be used with '--format jsonl': each line names its cells"
             }

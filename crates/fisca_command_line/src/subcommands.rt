@@ -3,18 +3,19 @@
 ghost use Rattle.std.specs.Prelude.{◌≡◌, false, IfOk, codes};
 ghost use Rattle.clap.specs.declared.builder.command.Command.TheViews.{out-Command};
 ghost use Rattle.clap.specs.Simple.{app_of, new_app};
-ghost use Rattle.fisca_command_line.specs.CommandLine.{axes_app, calc_app, check_app, fisca_app, list_app, run_app, size_app, test_app, top_app};
+ghost use Rattle.fisca_command_line.specs.CommandLine.{axes_app, calc_app, check_app, explain_app, fisca_app, list_app, run_app, size_app, test_app, top_app};
 
 use crate::arguments::{
-    axis_argument, keep_going_option, keep_option, lines_option, required, with_form, with_range,
-    with_table,
+    axis_argument, column_argument, depth_option, explain_format_option, keep_going_option,
+    keep_option, lines_option, name_option, reform_option, required, tests_argument, with_files,
+    with_form, with_range, with_table,
 };
 use crate::help::{
     ABOUT, AXES_ABOUT, AXES_EXAMPLE, AXES_EXAMPLES, AXES_LONG, CALC_ABOUT, CALC_EXAMPLE, CALC_LONG,
-    CALC_MORE, CHECK_ABOUT, CHECK_EXAMPLE, CHECK_LONG, CHECK_MORE, FILE_HELP, LIST_ABOUT,
-    LIST_EXAMPLE, LIST_LONG, LIST_MORE, RULES_HELP, RUN_ABOUT, RUN_EXAMPLE, RUN_FILE_HELP,
-    RUN_LONG, RUN_MORE, SIZE_ABOUT, SIZE_EXAMPLE, SIZE_LONG, SIZE_MORE, STATUSES, TEST_ABOUT,
-    TEST_EXAMPLE, TEST_LONG, TEST_MORE, TESTS_HELP,
+    CALC_MORE, CHECK_ABOUT, CHECK_EXAMPLE, CHECK_LONG, CHECK_MORE, EXPLAIN_ABOUT, EXPLAIN_EXAMPLE,
+    EXPLAIN_LONG, EXPLAIN_MORE, FILE_HELP, LIST_ABOUT, LIST_EXAMPLE, LIST_LONG, LIST_MORE,
+    RULES_HELP, RUN_ABOUT, RUN_EXAMPLE, RUN_FILE_HELP, RUN_LONG, RUN_MORE, SIZE_ABOUT,
+    SIZE_EXAMPLE, SIZE_LONG, SIZE_MORE, STATUSES, TEST_ABOUT, TEST_EXAMPLE, TEST_LONG, TEST_MORE,
 };
 use clap::Command;
 use std::alloc::{AllocError, Global};
@@ -42,18 +43,26 @@ pub fn axes_command<'a>(alloc: Global) -> Result<Command<'a>, AllocError>
     with_form(alloc, command)
 }
 
+/// The command `check` with its help, and no arguments yet.
+fn check_page<'a>(alloc: Global) -> Command<'a>
+    ensures app { app_of result ≡ new_app (codes "check") }
+    ensures local { (out-Command result).has_globals ≡ false }
+{
+    Command::new(alloc, "check")
+        .about(CHECK_ABOUT)
+        .long_about(CHECK_LONG)
+        .after_help(CHECK_EXAMPLE)
+        .after_long_help(CHECK_MORE)
+}
+
 /// The command `check`.
 fn check_command<'a>(alloc: Global) -> Result<Command<'a>, AllocError>
     ensures app { IfOk result (λ command. app_of command ≡ check_app) }
     ensures local { IfOk result (λ command. (out-Command command).has_globals ≡ false) }
 {
     let rules = required(alloc, "RULES", RULES_HELP);
-    Command::new(alloc, "check")
-        .about(CHECK_ABOUT)
-        .long_about(CHECK_LONG)
-        .after_help(CHECK_EXAMPLE)
-        .after_long_help(CHECK_MORE)
-        .arg(rules)
+    let reform = reform_option(alloc);
+    check_page(alloc).arg(rules)?.arg(reform)
 }
 
 /// The command `calc` with its help, and no arguments yet.
@@ -73,10 +82,9 @@ pub fn calc_command<'a>(alloc: Global) -> Result<Command<'a>, AllocError>
     ensures app { IfOk result (λ command. app_of command ≡ calc_app) }
     ensures local { IfOk result (λ command. (out-Command command).has_globals ≡ false) }
 {
-    let rules = required(alloc, "RULES", RULES_HELP);
-    let file = required(alloc, "FILE", FILE_HELP);
     let lines = lines_option(alloc);
-    with_form(alloc, calc_page(alloc).arg(rules)?.arg(file)?)?.arg(lines)
+    let command = with_files(alloc, calc_page(alloc), FILE_HELP)?;
+    with_form(alloc, command)?.arg(lines)
 }
 
 /// The command `test` with its help, and no arguments yet.
@@ -97,8 +105,13 @@ fn test_command<'a>(alloc: Global) -> Result<Command<'a>, AllocError>
     ensures local { IfOk result (λ command. (out-Command command).has_globals ≡ false) }
 {
     let rules = required(alloc, "RULES", RULES_HELP);
-    let tests = required(alloc, "TESTS", TESTS_HELP);
-    test_page(alloc).arg(rules)?.arg(tests)
+    let (tests, name) = (tests_argument(alloc), name_option(alloc));
+    let reform = reform_option(alloc);
+    test_page(alloc)
+        .arg(rules)?
+        .arg(tests)?
+        .arg(name)?
+        .arg(reform)
 }
 
 /// The command `run` with its help, and no arguments yet.
@@ -118,10 +131,9 @@ pub fn run_command<'a>(alloc: Global) -> Result<Command<'a>, AllocError>
     ensures app { IfOk result (λ command. app_of command ≡ run_app) }
     ensures local { IfOk result (λ command. (out-Command command).has_globals ≡ false) }
 {
-    let rules = required(alloc, "RULES", RULES_HELP);
-    let file = required(alloc, "FILE", RUN_FILE_HELP);
     let going = keep_going_option(alloc);
-    let command = with_range(alloc, run_page(alloc).arg(rules)?.arg(file)?)?;
+    let command = with_files(alloc, run_page(alloc), RUN_FILE_HELP)?;
+    let command = with_range(alloc, command)?;
     with_form(alloc, command)?.arg(going)
 }
 
@@ -142,9 +154,7 @@ fn size_command<'a>(alloc: Global) -> Result<Command<'a>, AllocError>
     ensures app { IfOk result (λ command. app_of command ≡ size_app) }
     ensures local { IfOk result (λ command. (out-Command command).has_globals ≡ false) }
 {
-    let rules = required(alloc, "RULES", RULES_HELP);
-    let file = required(alloc, "FILE", RUN_FILE_HELP);
-    size_page(alloc).arg(rules)?.arg(file)
+    with_files(alloc, size_page(alloc), RUN_FILE_HELP)
 }
 
 /// The command `list` with its help, and no arguments yet.
@@ -165,7 +175,32 @@ pub fn list_command<'a>(alloc: Global) -> Result<Command<'a>, AllocError>
     ensures local { IfOk result (λ command. (out-Command command).has_globals ≡ false) }
 {
     let rules = required(alloc, "RULES", RULES_HELP);
-    with_table(alloc, list_page(alloc).arg(rules)?)
+    let reform = reform_option(alloc);
+    with_table(alloc, list_page(alloc).arg(rules)?.arg(reform)?)
+}
+
+/// The command `explain` with its help, and no arguments yet.
+fn explain_page<'a>(alloc: Global) -> Command<'a>
+    ensures app { app_of result ≡ new_app (codes "explain") }
+    ensures local { (out-Command result).has_globals ≡ false }
+{
+    Command::new(alloc, "explain")
+        .about(EXPLAIN_ABOUT)
+        .long_about(EXPLAIN_LONG)
+        .after_help(EXPLAIN_EXAMPLE)
+        .after_long_help(EXPLAIN_MORE)
+}
+
+/// The command `explain`.
+pub fn explain_command<'a>(alloc: Global) -> Result<Command<'a>, AllocError>
+    ensures app { IfOk result (λ command. app_of command ≡ explain_app) }
+    ensures local { IfOk result (λ command. (out-Command command).has_globals ≡ false) }
+{
+    let columns = column_argument(alloc);
+    let depth = depth_option(alloc);
+    let format = explain_format_option(alloc);
+    let command = with_files(alloc, explain_page(alloc), FILE_HELP)?;
+    command.arg(columns)?.arg(depth)?.arg(format)
 }
 
 /// The program with its help, and no commands yet.
@@ -192,6 +227,7 @@ pub fn command<'a>(alloc: Global) -> Result<Command<'a>, AllocError>
     let run = run_command(alloc)?;
     let size = size_command(alloc)?;
     let list = list_command(alloc)?;
+    let explain = explain_command(alloc)?;
     let axes = axes_command(alloc)?;
     program_page(alloc)
         .subcommand(check)?
@@ -200,5 +236,6 @@ pub fn command<'a>(alloc: Global) -> Result<Command<'a>, AllocError>
         .subcommand(run)?
         .subcommand(size)?
         .subcommand(list)?
+        .subcommand(explain)?
         .subcommand(axes)
 }

@@ -6,48 +6,57 @@ ghost use Rattle.clap.specs.Walk.{rows_of};
 ghost use Rattle.clap.specs.Simple.{subcommand_of};
 ghost use Rattle.clap.specs.Kinds.{FailsBy};
 ghost use Rattle.fisca_command_line.specs.CommandLine.{fisca_app};
-ghost use Rattle.fisca_command_line.specs.Misuse.{misuse_kinds, options_misuse, usage_fault};
-ghost use Rattle.fisca_command_line.specs.Work.{IsAxesTask, IsCalcTask, IsCalcWork, IsCheckTask, IsLinesTask, IsListTask, IsRunTask, IsSizeTask, IsTask, IsTestTask, IsWorkOf};
+ghost use Rattle.fisca_command_line.specs.Misuse.{explain_misuse, misuse_kinds, options_misuse, usage_fault};
+ghost use Rattle.fisca_command_line.specs.Work.{AreFolders, IsAxesTask, IsCalcTask, IsCalcWork, IsCheckTask, IsExplainTask, IsLinesTask, IsListTask, IsRunTask, IsSizeTask, IsTask, IsTestsTask, IsWorkOf};
 
-use crate::asked::{flag, form_in, misuse_in, options, text_at, text_in};
+use crate::asked::{
+    depth_in, explain_format_in, explain_misuse_in, flag, form_in, misuse_in, options, text_at,
+    text_in,
+};
 use crate::options::{RunOptions, TableForm};
-use crate::subcommands::{axes_command, calc_command, command, list_command, run_command};
+use crate::subcommands::{
+    axes_command, calc_command, command, explain_command, list_command, run_command,
+};
 use clap::{ArgMatches, Error};
+use fisca_forms::Format;
 use std::alloc::{AllocError, Global};
 
 /// What a command line asks for.
 #[derive(Debug, Drop)]
 pub enum Task<'a> {
-    /// `check`: check the rule files of a folder.
+    /// `check`: check the rule files of folders.
     Check {
-        rules: &'a str,
+        rules: RuleFolders<'a>,
     },
-    /// `calc`: work out the columns of a file under the rule files of a folder.
+    /// `calc`: work out the columns of a file under the rule files of folders.
     Calc {
-        rules: &'a str,
+        rules: RuleFolders<'a>,
         file: &'a str,
         form: TableForm,
     },
-    /// `test`: work out the tests of a file under the rule files of a folder.
-    Test {
-        rules: &'a str,
-        file: &'a str,
-    },
-    /// `run`: write the lines of a run file under the rule files of a folder.
+    /// `run`: write the lines of a run file under the rule files of folders.
     Run {
-        rules: &'a str,
+        rules: RuleFolders<'a>,
         file: &'a str,
         options: RunOptions,
     },
-    /// `size`: write the number of positions of a run file under the rule files of a folder.
+    /// `size`: write the number of positions of a run file under the rule files of folders.
     Size {
-        rules: &'a str,
+        rules: RuleFolders<'a>,
         file: &'a str,
     },
-    /// `list`: list the variables of the rule files of a folder.
+    /// `list`: list the variables of the rule files of folders.
     List {
-        rules: &'a str,
+        rules: RuleFolders<'a>,
         form: TableForm,
+    },
+    /// `explain`: tell how the values of columns of a file come about under the rule files of folders.
+    Explain {
+        rules: RuleFolders<'a>,
+        file: &'a str,
+        columns: Vec<String>,
+        depth: Option<u64>,
+        format: Option<Format>,
     },
     /// `axes`: list the values of axes.
     Axes {
@@ -64,13 +73,35 @@ pub enum Work<'a> {
     Task(Task<'a>),
     /// A task over each line of a file.
     Lines(LinesTask<'a>),
+    /// `test`.
+    Tests(TestsTask<'a>),
+}
+
+/// The folders of a rule set: its own, and those of the reforms that are laid over it, in order.
+#[derive(Debug, Drop)]
+pub struct RuleFolders<'a> {
+    /// The rule set's own folder.
+    pub rules: &'a str,
+    /// The folders of the reforms.
+    pub reforms: Vec<String>,
+}
+
+/// `test`: work out the tests of files and folders under the rule files of folders.
+#[derive(Debug, Drop)]
+pub struct TestsTask<'a> {
+    /// The folders of the rule files.
+    pub rules: RuleFolders<'a>,
+    /// The files and folders of the tests.
+    pub paths: Vec<String>,
+    /// What the names of the tests that are run have, if not all are.
+    pub name: Option<&'a str>,
 }
 
 /// `calc --lines`: work out the columns of many files, one in each line of a file, under the rule files of a folder.
 #[derive(Debug, Drop)]
 pub struct LinesTask<'a> {
-    /// The folder of the rule files.
-    pub rules: &'a str,
+    /// The folders of the rule files.
+    pub rules: RuleFolders<'a>,
     /// The file of the lines.
     pub file: &'a str,
     /// The form of the lines that are written.
@@ -88,6 +119,16 @@ fn copies(alloc: Global, texts: &[&str]) -> Result<Vec<String>, AllocError>
     Ok(copies)
 }
 
+/// The folders of the rule files.
+fn folders<'a>(alloc: Global, matches: &ArgMatches<'a>) -> Result<RuleFolders<'a>, AllocError>
+    ensures { IfOk result (λ folders. AreFolders (rows_of (found_of matches.now)) folders) }
+{
+    Ok(RuleFolders {
+        rules: text_at(matches, "RULES"),
+        reforms: copies(alloc, matches.get_strs("reform").unwrap_or(&[]))?,
+    })
+}
+
 /// The task of `axes`.
 fn axes_task<'a>(alloc: Global, matches: &ArgMatches<'a>) -> Result<Task<'a>, AllocError>
     ensures { IfOk result (λ task. IsAxesTask (rows_of (found_of matches.now)) task) }
@@ -100,76 +141,90 @@ fn axes_task<'a>(alloc: Global, matches: &ArgMatches<'a>) -> Result<Task<'a>, Al
 }
 
 /// The task of `check`.
-fn check_task<'a>(matches: &ArgMatches<'a>) -> Task<'a>
-    ensures { IsCheckTask (rows_of (found_of matches.now)) result }
+fn check_task<'a>(alloc: Global, matches: &ArgMatches<'a>) -> Result<Task<'a>, AllocError>
+    ensures { IfOk result (λ task. IsCheckTask (rows_of (found_of matches.now)) task) }
 {
-    Task::Check {
-        rules: text_at(matches, "RULES"),
-    }
+    let rules = folders(alloc, matches)?;
+    Ok(Task::Check { rules })
 }
 
 /// The task of `calc`.
-fn calc_task<'a>(matches: &ArgMatches<'a>) -> Task<'a>
-    ensures { IsCalcTask (rows_of (found_of matches.now)) result }
+fn calc_task<'a>(alloc: Global, matches: &ArgMatches<'a>) -> Result<Task<'a>, AllocError>
+    ensures { IfOk result (λ task. IsCalcTask (rows_of (found_of matches.now)) task) }
 {
-    Task::Calc {
-        rules: text_at(matches, "RULES"),
+    Ok(Task::Calc {
+        rules: folders(alloc, matches)?,
         file: text_at(matches, "FILE"),
         form: form_in(matches),
-    }
+    })
 }
 
-/// The task of `test`.
-fn test_task<'a>(matches: &ArgMatches<'a>) -> Task<'a>
-    ensures { IsTestTask (rows_of (found_of matches.now)) result }
+/// The task over tests of `test`.
+fn tests_task<'a>(alloc: Global, matches: &ArgMatches<'a>) -> Result<TestsTask<'a>, AllocError>
+    ensures { IfOk result (λ task. IsTestsTask (rows_of (found_of matches.now)) task) }
 {
-    Task::Test {
-        rules: text_at(matches, "RULES"),
-        file: text_at(matches, "TESTS"),
-    }
+    Ok(TestsTask {
+        rules: folders(alloc, matches)?,
+        paths: copies(alloc, matches.get_strs("TESTS").unwrap_or(&[]))?,
+        name: text_in(matches, "name"),
+    })
 }
 
 /// The task of `run`.
-fn run_task<'a>(matches: &ArgMatches<'a>) -> Task<'a>
-    ensures { IsRunTask (rows_of (found_of matches.now)) result }
+fn run_task<'a>(alloc: Global, matches: &ArgMatches<'a>) -> Result<Task<'a>, AllocError>
+    ensures { IfOk result (λ task. IsRunTask (rows_of (found_of matches.now)) task) }
 {
-    let rules = text_at(matches, "RULES");
+    let rules = folders(alloc, matches)?;
     let file = text_at(matches, "FILE");
-    Task::Run {
+    Ok(Task::Run {
         rules,
         file,
         options: options(matches),
-    }
+    })
 }
 
 /// The task of `size`.
-fn size_task<'a>(matches: &ArgMatches<'a>) -> Task<'a>
-    ensures { IsSizeTask (rows_of (found_of matches.now)) result }
+fn size_task<'a>(alloc: Global, matches: &ArgMatches<'a>) -> Result<Task<'a>, AllocError>
+    ensures { IfOk result (λ task. IsSizeTask (rows_of (found_of matches.now)) task) }
 {
-    let (rules, file) = (text_at(matches, "RULES"), text_at(matches, "FILE"));
-    Task::Size { rules, file }
+    let (rules, file) = (folders(alloc, matches)?, text_at(matches, "FILE"));
+    Ok(Task::Size { rules, file })
 }
 
 /// The task of `list`.
-fn list_task<'a>(matches: &ArgMatches<'a>) -> Task<'a>
-    ensures { IsListTask (rows_of (found_of matches.now)) result }
+fn list_task<'a>(alloc: Global, matches: &ArgMatches<'a>) -> Result<Task<'a>, AllocError>
+    ensures { IfOk result (λ task. IsListTask (rows_of (found_of matches.now)) task) }
 {
-    Task::List {
-        rules: text_at(matches, "RULES"),
+    Ok(Task::List {
+        rules: folders(alloc, matches)?,
         form: form_in(matches),
-    }
+    })
+}
+
+/// The task of `explain`.
+fn explain_task<'a>(alloc: Global, matches: &ArgMatches<'a>) -> Result<Task<'a>, AllocError>
+    ensures { IfOk result (λ task. IsExplainTask (rows_of (found_of matches.now)) task) }
+{
+    let (rules, file) = (folders(alloc, matches)?, text_at(matches, "FILE"));
+    Ok(Task::Explain {
+        rules,
+        file,
+        columns: copies(alloc, matches.get_strs("COLUMN").unwrap_or(&[]))?,
+        depth: depth_in(matches),
+        format: explain_format_in(matches),
+    })
 }
 
 /// The task over lines of `calc`.
-fn lines_task<'a>(matches: &ArgMatches<'a>) -> LinesTask<'a>
-    ensures { IsLinesTask (rows_of (found_of matches.now)) result }
+fn lines_task<'a>(alloc: Global, matches: &ArgMatches<'a>) -> Result<LinesTask<'a>, AllocError>
+    ensures { IfOk result (λ task. IsLinesTask (rows_of (found_of matches.now)) task) }
 {
-    let (rules, file) = (text_at(matches, "RULES"), text_at(matches, "FILE"));
-    LinesTask {
+    let (rules, file) = (folders(alloc, matches)?, text_at(matches, "FILE"));
+    Ok(LinesTask {
         rules,
         file,
         form: form_in(matches),
-    }
+    })
 }
 
 /// The work of `calc`, or why its options mean nothing.
@@ -179,18 +234,18 @@ fn used_calc<'a>(alloc: Global, matches: &ArgMatches<'a>) -> Result<Work<'a>, Er
 {
     match misuse_in(matches) {
         Some(misuse) => Err(misuse.error(calc_command(alloc)?, "fisca calc")),
-        None => Ok(calc_work(matches)),
+        None => Ok(calc_work(alloc, matches)?),
     }
 }
 
 /// The work of `calc`: over lines where `--lines` is set.
-fn calc_work<'a>(matches: &ArgMatches<'a>) -> Work<'a>
-    ensures { IsCalcWork (rows_of (found_of matches.now)) result }
+fn calc_work<'a>(alloc: Global, matches: &ArgMatches<'a>) -> Result<Work<'a>, AllocError>
+    ensures { IfOk result (λ work. IsCalcWork (rows_of (found_of matches.now)) work) }
 {
     if flag(matches, "lines") {
-        Work::Lines(lines_task(matches))
+        Ok(Work::Lines(lines_task(alloc, matches)?))
     } else {
-        Work::Task(calc_task(matches))
+        Ok(Work::Task(calc_task(alloc, matches)?))
     }
 }
 
@@ -201,7 +256,7 @@ fn used_run<'a>(alloc: Global, matches: &ArgMatches<'a>) -> Result<Work<'a>, Err
 {
     match misuse_in(matches) {
         Some(misuse) => Err(misuse.error(run_command(alloc)?, "fisca run")),
-        None => Ok(Work::Task(run_task(matches))),
+        None => Ok(Work::Task(run_task(alloc, matches)?)),
     }
 }
 
@@ -212,7 +267,18 @@ fn used_list<'a>(alloc: Global, matches: &ArgMatches<'a>) -> Result<Work<'a>, Er
 {
     match misuse_in(matches) {
         Some(misuse) => Err(misuse.error(list_command(alloc)?, "fisca list")),
-        None => Ok(Work::Task(list_task(matches))),
+        None => Ok(Work::Task(list_task(alloc, matches)?)),
+    }
+}
+
+/// The task of `explain`, or why its options mean nothing.
+fn used_explain<'a>(alloc: Global, matches: &ArgMatches<'a>) -> Result<Work<'a>, Error>
+    ensures work { IfOk result (IsTask (IsExplainTask (rows_of (found_of matches.now)))) }
+    ensures fault { FailsBy (misuse_kinds (explain_misuse (rows_of (found_of matches.now)))) result }
+{
+    match explain_misuse_in(matches) {
+        Some(misuse) => Err(misuse.error(explain_command(alloc)?, "fisca explain")),
+        None => Ok(Work::Task(explain_task(alloc, matches)?)),
     }
 }
 
@@ -238,12 +304,13 @@ pub fn read_task<'a>(alloc: Global, words: &'a [String]) -> Result<Work<'a>, Err
 {
     let matches = command(alloc)?.try_get_matches_from(words)?;
     match matches.subcommand() {
-        Some(("check", inner)) => Ok(Work::Task(check_task(inner))),
+        Some(("check", inner)) => Ok(Work::Task(check_task(alloc, inner)?)),
         Some(("calc", inner)) => used_calc(alloc, inner),
-        Some(("test", inner)) => Ok(Work::Task(test_task(inner))),
+        Some(("test", inner)) => Ok(Work::Tests(tests_task(alloc, inner)?)),
         Some(("run", inner)) => used_run(alloc, inner),
-        Some(("size", inner)) => Ok(Work::Task(size_task(inner))),
+        Some(("size", inner)) => Ok(Work::Task(size_task(alloc, inner)?)),
         Some(("list", inner)) => used_list(alloc, inner),
+        Some(("explain", inner)) => used_explain(alloc, inner),
         Some(("axes", inner)) => used_axes(alloc, inner),
         Some(_) => unreachable!(),
         None => unreachable!(),

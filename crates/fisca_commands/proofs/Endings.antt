@@ -15,7 +15,7 @@ use Rattle.fisca_commands.specs.AxesRun.{required_filter, optional_filter, filte
 use Rattle.fisca_rule_files.specs.Ending.{IsEndTold, IsTold, TaskOutcome, run_done, run_status}
 use Rattle.fisca_commands.specs.Ending.{IsAnswered, IsJudged, IsRunEnding}
 use Rattle.fisca_test_file.specs.declared.all.Verdict.{Verdict}
-use Rattle.fisca_rule_files.specs.Refusal.{is_failed_write, is_write, status_of}
+use Rattle.fisca_rule_files.specs.Refusal.{PathsTold, is_failed_write, is_write, status_of}
 use Rattle.fisca_rule_files.specs.declared.refusal.Refusal.{Refusal}
 use Rattle.fisca_rule_files.specs.declared.refusal.Refusal.TheVariants.{Params, Formula, Yaml, RunFile, Tests, Axes, BadWord, BadCondition, Run, Eval, Write, Memory, TooManyFiles}
 
@@ -88,9 +88,9 @@ failed_write Memory = refl
 failed_write TooManyFiles = refl
 
 -- what is told of a refusal has the status 5 exactly where the refusal has
-told_write : (path : List ℕ) (refusal : Refusal) (outcome : TaskOutcome) → IsTold path refusal outcome → (outcome.status == 5) ≡ (status_of refusal == 5)
-told_write path refusal outcome (inl e) = ap (λ o. o.status == 5) e
-told_write path refusal outcome (inr h) = ap (λ o. o.status == 5) h.0 ∙ sym (ne_eqb (status_of refusal) 5 h.1)
+told_write : (paths : PathsTold) (refusal : Refusal) (outcome : TaskOutcome) → IsTold paths refusal outcome → (outcome.status == 5) ≡ (status_of refusal == 5)
+told_write paths refusal outcome (inl e) = ap (λ o. o.status == 5) e
+told_write paths refusal outcome (inr h) = ap (λ o. o.status == 5) h.0 ∙ sym (ne_eqb (status_of refusal) 5 h.1)
 
 -- the status of a run that nothing stopped is that of no failed write
 run_unfailed : (lacks : Bool) → (run_status lacks == 5) ≡ false
@@ -105,37 +105,37 @@ pub done_unfailed : (lacks : Bool) (outcome : TaskOutcome) → outcome ≡ run_d
 done_unfailed lacks outcome e = ap (λ (o : TaskOutcome). o.status == 5) e ∙ run_unfailed lacks
 
 -- how a run ends that was refused
-refused_so : (path : List ℕ) (lacks table : Bool) (refusal : Refusal) (old new : Option (List ℕ)) (outcome : TaskOutcome) → IsRunEnding path lacks table (Err refusal) old new outcome
-    → IsTold path refusal outcome
-refused_so path lacks true refusal old new outcome ending = ending.0
-refused_so path lacks false refusal old new outcome ending = ending.0
+refused_so : (paths : PathsTold) (lacks table : Bool) (refusal : Refusal) (old new : Option (List ℕ)) (outcome : TaskOutcome) → IsRunEnding paths lacks table (Err refusal) old new outcome
+    → IsTold paths refusal outcome
+refused_so paths lacks true refusal old new outcome ending = ending.0
+refused_so paths lacks false refusal old new outcome ending = ending.0
 
 -- the failures of a run and of what follows it
-pub counted : (path : List ℕ) (lacks table : Bool) (old new : Option (List ℕ)) (answer : Result RunEnd Refusal) (outcome : TaskOutcome) (before run_failures after : ℕ)
-    → IsRunEnding path lacks table answer old new outcome
+pub counted : (paths : PathsTold) (lacks table : Bool) (old new : Option (List ℕ)) (answer : Result RunEnd Refusal) (outcome : TaskOutcome) (before run_failures after : ℕ)
+    → IsRunEnding paths lacks table answer old new outcome
     → run_failures ≡ cond (is_write answer) (one_more before) before
     → after ≡ cond (is_ok answer && (outcome.status == 5)) (one_more run_failures) run_failures
     → after ≡ cond (outcome.status == 5) (one_more before) before
-counted path lacks table old new (Ok end) outcome before failures after ending first last = last ∙ ap (λ n. cond (outcome.status == 5) (one_more n) n) first
-counted path lacks table old new (Err refusal) outcome before failures after ending first last =
+counted paths lacks table old new (Ok end) outcome before failures after ending first last = last ∙ ap (λ n. cond (outcome.status == 5) (one_more n) n) first
+counted paths lacks table old new (Err refusal) outcome before failures after ending first last =
     last ∙ first
-    ∙ ap (λ failed. cond failed (one_more before) before) (sym (told_write path refusal outcome (refused_so path lacks table refusal old new outcome ending) ∙ failed_write refusal))
+    ∙ ap (λ failed. cond failed (one_more before) before) (sym (told_write paths refusal outcome (refused_so paths lacks table refusal old new outcome ending) ∙ failed_write refusal))
 
 -- the failures of a command that writes no last line
-pub answered : (path : List ℕ) (answer : Result Unit Refusal) (outcome : TaskOutcome) (before after : ℕ)
-    → IsAnswered path answer outcome → after ≡ cond (is_write answer) (one_more before) before → after ≡ cond (outcome.status == 5) (one_more before) before
-answered path (Ok done) outcome before after ending count = count ∙ ap (λ status. cond (status == 5) (one_more before) before) (sym (ap (λ (o : TaskOutcome). o.status) ending))
-answered path (Err refusal) outcome before after ending count =
-    count ∙ ap (λ failed. cond failed (one_more before) before) (sym (told_write path refusal outcome ending ∙ failed_write refusal))
+pub answered : (paths : PathsTold) (answer : Result Unit Refusal) (outcome : TaskOutcome) (before after : ℕ)
+    → IsAnswered paths answer outcome → after ≡ cond (is_write answer) (one_more before) before → after ≡ cond (outcome.status == 5) (one_more before) before
+answered paths (Ok done) outcome before after ending count = count ∙ ap (λ status. cond (status == 5) (one_more before) before) (sym (ap (λ (o : TaskOutcome). o.status) ending))
+answered paths (Err refusal) outcome before after ending count =
+    count ∙ ap (λ failed. cond failed (one_more before) before) (sym (told_write paths refusal outcome ending ∙ failed_write refusal))
 
 neither : (b : Bool) → ((if b then 0 else 1) == 5) ≡ false
 neither true = refl
 neither false = refl
 
 -- the failures of tests
-pub of_tests : (path : List ℕ) (answer : Result Verdict Refusal) (outcome : TaskOutcome) (before after : ℕ)
-    → IsJudged path answer outcome → after ≡ cond (is_write answer) (one_more before) before → after ≡ cond (outcome.status == 5) (one_more before) before
-of_tests path (Ok verdict) outcome before after ending count =
+pub of_tests : (paths : PathsTold) (answer : Result Verdict Refusal) (outcome : TaskOutcome) (before after : ℕ)
+    → IsJudged paths answer outcome → after ≡ cond (is_write answer) (one_more before) before → after ≡ cond (outcome.status == 5) (one_more before) before
+of_tests paths (Ok verdict) outcome before after ending count =
     count ∙ ap (λ failed. cond failed (one_more before) before) (sym (ap (λ (o : TaskOutcome). o.status == 5) ending ∙ neither (verdict.failed == 0)))
-of_tests path (Err refusal) outcome before after ending count =
-    count ∙ ap (λ failed. cond failed (one_more before) before) (sym (told_write path refusal outcome ending ∙ failed_write refusal))
+of_tests paths (Err refusal) outcome before after ending count =
+    count ∙ ap (λ failed. cond failed (one_more before) before) (sym (told_write paths refusal outcome ending ∙ failed_write refusal))

@@ -6,6 +6,7 @@ mod Calculated
 mod Came
 mod Counting
 mod Endings
+mod ExplainedBy
 mod First
 pub mod Fitting
 mod Gone
@@ -26,3 +27,5 @@ mod Stepping
 mod Still
 mod Telling
 mod Tested
+mod TestsPassed
+pub mod NamedKeys

@@ -3,9 +3,10 @@ use Rattle.std.specs.Prelude.{◌≡◌, ◌≢◌, ◌⊎◌, ⊤, ℕ, ◌+◌
 use Rattle.std.specs.Io.KnownBytes.{Appends}
 use Rattle.std.specs.List.{AllZip, FoldsTo, enumerate_from, flat_map, fold}
 use Rattle.std.specs.Str.{IsUtf8}
+use Rattle.fisca_folder.specs.Layers.{Told}
 use Rattle.fisca_forms.specs.LineForms.{Form}
 use Rattle.fisca_params.specs.Source.{Source}
-use Rattle.fisca_rule_files.specs.Refusal.{is_failed_write, key_of, place_in, reason_of, status_of}
+use Rattle.fisca_rule_files.specs.Refusal.{is_failed_write, key_of, of_file, paths_of, place_in, reason_of, status_of}
 use Rattle.fisca_rule_files.specs.RuleFiles.{IsAccepted, RefusesFiles}
 use Rattle.fisca_rule_files.specs.declared.refusal.Refusal.{Refusal}
 use Rattle.fisca_rule_files.specs.declared.refusal.Refusal.TheVariants.{Write, Memory}
@@ -131,8 +132,8 @@ is_write stop.Memory = false
 abbrev pub IsEndedBy : List ℕ → ℕ → LineStop → TaskOutcome → Type 0
 IsEndedBy path worst stop.Over outcome = outcome ≡ record { status = worst; told = None }
 IsEndedBy path worst stop.Unread outcome = IsUnreadTold path outcome
-IsEndedBy path worst stop.Write outcome = outcome ≡ told_of path Write
-IsEndedBy path worst stop.Memory outcome = outcome ≡ told_of path Memory
+IsEndedBy path worst stop.Write outcome = outcome ≡ told_of (of_file path) Write
+IsEndedBy path worst stop.Memory outcome = outcome ≡ told_of (of_file path) Memory
 
 -- The lines of a source are worked out in order, each by itself, up to where something stops them: what is written of them stands in one row, what is told
 -- of each is handed over once, whether or not that fails, and the greatest of their statuses is answered.
@@ -158,13 +159,13 @@ line_names = codes "line" ∷ calc_names
 abbrev pub AreBegun : RuleSet → List ℕ → TableForm → Streams → Streams → TaskOutcome → Type 0
 AreBegun rules path form old new outcome =
     ((refusal : Refusal) × IsHeaderRefused form line_names old.sink.taken new.sink.taken refusal × CountsFailure (is_failed_write refusal) old.sink.failures new.sink.failures
-    × Takes old.told [] new.told × IsTold path refusal outcome)
+    × Takes old.told [] new.told × IsTold (of_file path) refusal outcome)
     ⊎ ((between : Sink) × Takes old.sink (header_of form line_names) between
     × AreWorkedOut rules (shown_form (line_form_of form line_names)) path (record { left = old.left; sink = between; told = old.told }) new outcome)
 
--- what the command answers for these files, the lines of the file at a path, and this form: the files are refused and nothing is written or told, or they
--- make a rule set, and the lines are worked out under it
-abbrev pub IsCalcLines : List Source → List ℕ → TableForm → Streams → Streams → TaskOutcome → Type 0
-IsCalcLines files path form old new outcome =
-    ((refusal : Refusal) × RefusesFiles files refusal × IsTold path refusal outcome × Takes old.sink [] new.sink × Takes old.told [] new.told)
+-- what the command answers for these files, whose paths are told so, the lines of the file at a path, and this form: the files are refused and nothing is written
+-- or told, or they make a rule set, and the lines are worked out under it
+abbrev pub IsCalcLines : List Source → List Told → List ℕ → TableForm → Streams → Streams → TaskOutcome → Type 0
+IsCalcLines files told path form old new outcome =
+    ((refusal : Refusal) × RefusesFiles files refusal × IsTold (paths_of path told) refusal outcome × Takes old.sink [] new.sink × Takes old.told [] new.told)
     ⊎ ((rules : RuleSet) × IsAccepted files (rule_set rules) × AreBegun rules path form old new outcome)

@@ -4,10 +4,12 @@ pub mod Calc
 pub mod CalcLines
 pub mod Ending
 pub mod Ends
+pub mod Explain
 pub mod Forms
 pub mod Headline
 pub mod Kept
 pub mod Listed
+pub mod ManyTests
 pub mod Remembered
 pub mod Run
 pub mod Runs

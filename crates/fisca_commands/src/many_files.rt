@@ -12,7 +12,7 @@ use super::calc::{calc_names, read_file, write_values};
 use super::forms::begin_table;
 use crate::calc_inputs_fit;
 use fisca_command_line::TableForm;
-use fisca_folder::{LONGEST, write_shown};
+use fisca_folder::{LONGEST, ToldPath, write_shown};
 use fisca_forms::LineForm;
 use fisca_params::SourceFile;
 use fisca_rule_files::{Ending, Refusal, rules_of};
@@ -69,23 +69,24 @@ enum LineStop {
 pub fn calc_lines<L: LineSource, S: RowSink, T: RowSink>(
     alloc: Global,
     files: &[SourceFile],
+    told_paths: &[ToldPath],
     path: &str,
     form: TableForm,
     source: &mut L,
     sink: &mut S,
     told: &mut T,
 ) -> Ending
-    ensures { IsCalcLines files.now path.now form (streams_of (L.left source.old) (S.taken sink.old) (S.failures sink.old) (T.taken told.old) (T.failures told.old)) (streams_of (L.left source.new) (S.taken sink.new) (S.failures sink.new) (T.taken told.new) (T.failures told.new)) result }
+    ensures { IsCalcLines files.now told_paths.now path.now form (streams_of (L.left source.old) (S.taken sink.old) (S.failures sink.old) (T.taken told.old) (T.failures told.old)) (streams_of (L.left source.new) (S.taken sink.new) (S.failures sink.new) (T.taken told.new) (T.failures told.new)) result }
 {
     let rules = match rules_of(alloc, files) {
         Ok(rules) => rules,
-        Err(refusal) => return Ending::refused(alloc, &refusal, path),
+        Err(refusal) => return Ending::refused(alloc, &refusal, path, told_paths),
     };
     rule_sets_are_safe();
     calc_inputs_fit();
     match begin_lines(alloc, form, sink) {
         Ok(form) => write_all(alloc, &rules, path, &form, source, sink, told),
-        Err(refusal) => Ending::refused(alloc, &refusal, path),
+        Err(refusal) => Ending::refused(alloc, &refusal, path, &[]),
     }
 }
 
@@ -136,8 +137,8 @@ fn ending_of(alloc: Global, stop: LineStop, worst: u8, path: &str) -> Ending
     match stop {
         LineStop::Over => Ending::of_status(worst),
         LineStop::Unread => Ending::unread(alloc, path),
-        LineStop::Write => Ending::refused(alloc, &Refusal::Write, path),
-        LineStop::Memory => Ending::refused(alloc, &Refusal::Memory, path),
+        LineStop::Write => Ending::refused(alloc, &Refusal::Write, path, &[]),
+        LineStop::Memory => Ending::refused(alloc, &Refusal::Memory, path, &[]),
     }
 }
 

@@ -17,7 +17,7 @@ use Rattle.fisca_machine.specs.Plans.{plays}
 use Rattle.fisca_machine.specs.Running.{before}
 use Rattle.fisca_machine.specs.declared.plan.Plan.{Plan}
 use Rattle.fisca_model.specs.Values as meaning
-use Rattle.fisca_formula_semantics.specs.Meaning.{formula_means}
+use Rattle.fisca_typing.specs.Meaning.{formula_means}
 use Rattle.fisca_model.specs.Groups.{Groups}
 use Rattle.fisca_ir.specs.Views.{node}
 use Rattle.fisca_ir.specs.declared.node.Node.{Node}

@@ -25,7 +25,7 @@ use Rattle.fisca_key_semantics.specs.Dialogues as meaning
 use Rattle.fisca_model.specs.Values as model
 use Rattle.fisca_model.specs.Values.{Value}
 use Rattle.fisca_key_semantics.specs.Dialogues.{Dialogue}
-use Rattle.fisca_formula_semantics.specs.Meaning.{formula_means}
+use Rattle.fisca_typing.specs.Meaning.{formula_means}
 use Rattle.fisca_model.specs.Tables.{variable_type}
 use Rattle.fisca_evaluator.specs.declared.known.Known.{Known}
 use Rattle.fisca_simulation.specs.Simulations.{start_point}

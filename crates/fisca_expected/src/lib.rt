@@ -9,6 +9,7 @@ mod outputs;
 mod periods;
 mod reading;
 mod subject;
+mod tested;
 mod values;
 mod variables;
 mod whom;

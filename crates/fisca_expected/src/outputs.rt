@@ -1,14 +1,19 @@
 //! Expected values, in the order in which they are written.
 
-ghost use Rattle.std.specs.Prelude.{◌≡◌, [], ◌∷◌, ◌++◌, map, IfOk};
-ghost use Rattle.std.specs.List.{flat_map};
+ghost use Rattle.std.specs.Prelude.{◌≡◌, [], ◌∷◌, ◌++◌, map, IfOk, option_map};
+ghost use Rattle.std.specs.List.{filter, flat_map};
+ghost use Rattle.fisca_expected.specs.Steps.Tested.{is_tested};
+ghost use Rattle.fisca_yaml.specs.Views.{node};
 ghost use Rattle.fisca_expected.specs.Outputs as spec;
 ghost use Rattle.fisca_expected.specs.Views.{expected_outputs, output_of, subject as subject_view};
 
 use crate::subject::Subject;
+use crate::tested::is_tested;
 use crate::whom::ExpectedMembers;
 use fisca_model::{Key, Value};
+use fisca_symbols::Tables;
 use fisca_time::Period;
+use fisca_yaml::Tree;
 use std::alloc::{AllocError, Global};
 use std::marker::Model;
 
@@ -72,6 +77,21 @@ impl Outputs {
         ensures { flat_map expected_outputs result.now ≡ self.now }
     {
         self.items.as_slice()
+    }
+
+    /// Those of the variables whose values are compared: those that `only` names, where it is there, but for those that `ignored` names, each a name or a list
+    /// of names. A name that no variable has names none.
+    pub fn tested(
+        self,
+        tables: &Tables<'_>,
+        only: Option<&Tree<'_>>,
+        ignored: Option<&Tree<'_>>,
+    ) -> Outputs
+        ensures { result ≡ filter (λ o. is_tested tables.now (option_map (λ tree. node tree.now) only.entry) (option_map (λ tree. node tree.now) ignored.entry) o.0.variable) self }
+    {
+        let mut items = self.items;
+        items.retain(|output| is_tested(tables, only, ignored, output.variable));
+        Outputs { items }
     }
 
     /// One more of each of these members, in their order.

@@ -1,2 +1,5 @@
 mod Looks
+mod PlainTexts
 mod FirstFiles
+mod Laying
+mod LaidOver

@@ -18,9 +18,10 @@ pub record Entry : Type 0 where
   pub name : List ℕ
   pub is_folder : Option Bool
 
--- what a machine says of a rule set's folder: the entries of a folder and the bytes of a file by its path, which is empty for
--- the rule set's own folder; `None` where it cannot
+-- what a machine says of a rule set's folder: the name that it is told by, and the entries of a folder and the bytes of a file by its
+-- path, which is empty for the rule set's own folder; `None` where it cannot
 pub record Folder : Type 0 where
+  pub name : List ℕ
   pub entries : List ℕ → Option (List Entry)
   pub bytes : List ℕ → Option (List ℕ)
 

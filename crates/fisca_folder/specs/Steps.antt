@@ -1,3 +1,4 @@
 pub mod Folder
+pub mod PlainTexts
 pub mod RulePaths
 pub mod Shown

@@ -3,8 +3,10 @@
 ghost use Rattle.std.specs.Prelude.{◌≡◌, ◌++◌, None, Some, string_bytes, IfOk};
 ghost use Rattle.fisca_folder.specs.Shown.{shown};
 ghost use Rattle.fisca_folder.specs.Folder.{status_of, line_of};
+ghost use Rattle.fisca_folder.specs.Layers.{line_below};
 
 use super::shown::write_shown;
+use super::told::path_below;
 use std::alloc::{AllocError, AllocFailed, Global};
 use std::marker::Model;
 use thiserror::Error;
@@ -70,6 +72,10 @@ pub trait RuleFolder {
     // whether this is what the machine says; of no folder where it does not tell
     ghost says: { Self → Folder → Type 0 };
 
+    /// The name that the folder is told by.
+    fn name(&self) -> &str
+        ensures { (folder : Folder) → says self.now folder → result.now ≡ folder.name };
+
     /// The first `most` entries of a folder, by its path, which is empty for the rule set's own; `None` where it cannot be
     /// listed. Memory is its only error.
     fn entries(&self, path: &str, most: usize) -> Result<Option<Vec<FolderEntry>>, AllocError>
@@ -125,6 +131,25 @@ impl FolderFault {
             FolderFault::TooLong { path } => around(alloc, "fisca: ", path.as_str(), ":1: TooLong"),
             FolderFault::TooManyFiles => String::from_str(alloc, "fisca: TooManyFiles"),
             FolderFault::Memory => String::from_str(alloc, "fisca: out of memory"),
+        }
+    }
+
+    /// The line on standard error, without its line feed, where the paths of files are told in the folder of this name. Memory is its only error.
+    pub fn line_below(&self, alloc: Global, name: &str) -> Result<String, AllocError>
+        ensures { IfOk result (λ line. string_bytes line ≡ line_below name.now self.now) }
+    {
+        match self {
+            FolderFault::CannotRead { path } => {
+                let below = path_below(alloc, name, path.as_str())?;
+                around(alloc, "fisca: ", below.as_str(), ": cannot read")
+            }
+            FolderFault::TooLong { path } => {
+                let below = path_below(alloc, name, path.as_str())?;
+                around(alloc, "fisca: ", below.as_str(), ":1: TooLong")
+            }
+            FolderFault::CannotList | FolderFault::TooManyFiles | FolderFault::Memory => {
+                self.line(alloc, name)
+            }
         }
     }
 }

@@ -3,6 +3,7 @@
 ghost use Rattle.std.specs.Prelude.{◌≡◌, ℕ, ◌<◌, ◌^◌, ◌++◌, IsTrue, OnOk, string_bytes};
 ghost use Rattle.std.specs.Char.{encode_utf8, digit_char};
 ghost use Rattle.fisca_folder.specs.Shown.{shown, shown_char, shown_mark, two_digits};
+ghost use Rattle.fisca_folder.specs.Steps.PlainTexts.{is_plain};
 ghost use Rattle.fisca_folder.specs.Steps.Shown.{is_mark, is_within};
 
 use std::alloc::AllocError;
@@ -13,10 +14,25 @@ use std::alloc::AllocError;
 pub fn write_shown(text: &str, line: &mut String) -> Result<(), AllocError>
     ensures { OnOk result (string_bytes line.new ≡ string_bytes line.old ++ shown text.now) }
 {
+    if is_plain(text) {
+        return line.push_str(text);
+    }
     for c in text.chars() {
         write_char(c, line)?;
     }
     Ok(())
+}
+
+/// Whether all characters of a text are printable ones of ASCII, which are shown as they are.
+fn is_plain(text: &str) -> bool
+    ensures { result ≡ is_plain text.now }
+{
+    for byte in text.as_bytes() {
+        if !is_within(u32::from(*byte), 0x20, 0x7f) {
+            return false;
+        }
+    }
+    true
 }
 
 /// Appends a character, a control character or a mark by its number.

@@ -1,13 +1,13 @@
 -- What a node says before k is what it means, and then k.
 use Rattle.std.proofs.Common.{◌≡◌, ℕ, ◌+◌, ◌*◌, List, [], ◌∷◌, Option, Some, None, Result, Ok, Err, true, false, refl, sym, ap, ap₂, ◌∙◌, slice_get}
 use Rattle.fisca_num.specs.Number.{Number}
-use Rattle.fisca_formula_semantics.specs.Answers.{arithmetic_of, logic_of, comparison_of, same_of, unary_of}
+use Rattle.fisca_typing.specs.Answers.{arithmetic_of, logic_of, comparison_of, same_of, unary_of}
 use Rattle.fisca_model.specs.Values.{Value, number, bool, member}
 use Rattle.fisca_key_semantics.specs.Dialogues.{Dialogue, gives, fails, stuck, asks, ◌>>=◌, with_number, with_member}
-use Rattle.fisca_formula_semantics.specs.Meaning.{mean, at_index, at_person, in_turn, from_first, total_over, chosen, local_at}
-use Rattle.fisca_formula_semantics.specs.Meaning as meaning
+use Rattle.fisca_typing.specs.Meaning.{mean, at_index, at_person, in_turn, from_first, total_over, chosen, local_at}
+use Rattle.fisca_typing.specs.Meaning as meaning
 use Rattle.fisca_model.specs.Groups.{Groups, Point, persons_at}
-use Rattle.fisca_formula_semantics.specs.Questions.{at_start, in_range, on_start, moved_all}
+use Rattle.fisca_typing.specs.Questions.{at_start, in_range, on_start, moved_all}
 use Rattle.fisca_time.specs.Instant.{CivilDate}
 use Rattle.fisca_time.specs.Period.{Span, start_of}
 use Rattle.fisca_time.specs.declared.fault.TimeFault.{TimeFault}

@@ -2,7 +2,7 @@
 use Rattle.std.proofs.Common.{◌≡◌, ℕ, zero, suc, List, [], ◌∷◌, ◌++◌, length, map, Option, Some, None, eq-eqb, ne_eqb, refl, sym, ap, ◌∙◌, ⊎_elim, slice_get}
 use Rattle.std.proofs.lemmas.Bool.{cases_eq}
 use Rattle.fisca_key_semantics.specs.Dialogues.{Dialogue, stuck, ◌>>=◌}
-use Rattle.fisca_formula_semantics.specs.Meaning.{Locals, mean, mean_from, local_at}
+use Rattle.fisca_typing.specs.Meaning.{Locals, mean, mean_from, local_at}
 use Rattle.fisca_model.specs.Groups.{Groups, Point}
 use Rattle.fisca_ir.specs.Views.{node}
 use Rattle.fisca_ir.specs.declared.node.Node.{Node}

@@ -1,7 +1,7 @@
 -- Steps that follow one another.
 use Rattle.std.proofs.Common.{◌≡◌, List, [], ◌∷◌, ◌++◌, Some, Bool, true, false, ◌&&◌, refl, sym, ap, ◌∙◌}
 use Rattle.std.specs.List.{list_all}
-use Rattle.fisca_formula_semantics.specs.Answers.{arithmetic_of}
+use Rattle.fisca_typing.specs.Answers.{arithmetic_of}
 use Rattle.fisca_model.specs.Values.{bool}
 use Rattle.fisca_key_semantics.specs.Dialogues.{◌>>=◌}
 use Rattle.fisca_model.specs.Groups.{Groups, Point}

@@ -1,12 +1,12 @@
 -- What a machine has still to do, told with what comes after it.
 use Rattle.std.specs.Prelude.{◌≡◌, ℕ, zero, suc, ◌+◌, ◌*◌, ◌==◌, if◌then◌else◌, List, [], ◌∷◌, drop, slice_get, length, Option, Some, None}
 use Rattle.fisca_model.specs.Seen.{key_seen, value_seen}
-use Rattle.fisca_formula_semantics.specs.Answers.{arithmetic_of, logic_of, comparison_of, same_of, unary_of}
+use Rattle.fisca_typing.specs.Answers.{arithmetic_of, logic_of, comparison_of, same_of, unary_of}
 use Rattle.fisca_model.specs.Values.{Value, number, bool, member}
 use Rattle.fisca_key_semantics.specs.Dialogues.{Dialogue, gives, fails, stuck, asks, ◌>>=◌, with_number, with_member, computed, no_member}
-use Rattle.fisca_formula_semantics.specs.Meaning.{at_person, at_place, chosen, parameter_value, scale_value}
+use Rattle.fisca_typing.specs.Meaning.{at_person, at_place, chosen, parameter_value, scale_value}
 use Rattle.fisca_model.specs.Groups.{Groups, Point, has, persons_at}
-use Rattle.fisca_formula_semantics.specs.Questions.{at_period, at_start, part_of, counted, ask_all, ask_known, person_of, persons_in}
+use Rattle.fisca_typing.specs.Questions.{at_period, at_start, part_of, counted, ask_all, ask_known, person_of, persons_in}
 use Rattle.fisca_ir.specs.Views.{node, node_step, index_step, pair_step, parameter_step, scale_step, totalled_step, Indexed, Paired, Parametric, Scaled, Summed}
 use Rattle.fisca_ir.specs.declared.node.Node.{Node as Held}
 use Rattle.fisca_ir.specs.declared.node.Parameter.{Parameter, fold-Parameter}

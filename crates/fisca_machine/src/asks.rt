@@ -2,7 +2,7 @@
 
 ghost use Rattle.std.specs.Prelude.{◌≡◌, ◌∷◌, ◌<◌, ◌+◌, IfOk, IfErr, OnOk, drop, slice_get, Some};
 ghost use Rattle.fisca_model.specs.Seen.{value_seen};
-ghost use Rattle.fisca_formula_semantics.specs.Questions as questions;
+ghost use Rattle.fisca_typing.specs.Questions as questions;
 ghost use Rattle.fisca_key_semantics.specs.Dialogues.{computed, with_number};
 ghost use Rattle.fisca_num.specs.Operations.{sum_of};
 ghost use Rattle.fisca_time.specs.Period.{subs};

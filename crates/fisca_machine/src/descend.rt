@@ -1,8 +1,8 @@
 //! Nodes that are begun.
 
 ghost use Rattle.std.specs.Prelude.{◌≡◌, ◌∷◌, ◌<◌, ◌+◌, IfOk, IfErr, None, OnOk, option_map, length};
-ghost use Rattle.fisca_formula_semantics.specs.Meaning.{chosen};
-ghost use Rattle.fisca_formula_semantics.specs.Questions.{counted as counts, group_at as group_meant, person_of as person_meant};
+ghost use Rattle.fisca_typing.specs.Meaning.{chosen};
+ghost use Rattle.fisca_typing.specs.Questions.{counted as counts, group_at as group_meant, person_of as person_meant};
 ghost use Rattle.fisca_groups.specs.Grouped.{grouped};
 ghost use Rattle.fisca_ops.specs.Persons.{persons_from};
 ghost use Rattle.fisca_ops.specs.Ended.{IsMoving, ended};

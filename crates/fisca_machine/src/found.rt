@@ -1,7 +1,7 @@
 //! What nodes name, looked up.
 
 ghost use Rattle.std.specs.Prelude.{◌≡◌, slice_get, None, Some, MatchOption};
-ghost use Rattle.fisca_formula_semantics.specs.Questions.{at_start, part_of as part_of_day, counted as counts};
+ghost use Rattle.fisca_typing.specs.Questions.{at_start, part_of as part_of_day, counted as counts};
 ghost use Rattle.fisca_ir.specs.Views.{node};
 ghost use Rattle.fisca_typing.specs.Nodes.{no_index, index};
 ghost use Rattle.fisca_symbols.specs.Known.{tables as known};

@@ -2,7 +2,7 @@
 
 ghost use Rattle.std.specs.Prelude.{◌≡◌, ◌∷◌, ◌<◌, ◌+◌, [], IfOk, IfErr, OnOk, map};
 ghost use Rattle.fisca_model.specs.Seen.{value_seen};
-ghost use Rattle.fisca_formula_semantics.specs.Meaning.{formula_means};
+ghost use Rattle.fisca_typing.specs.Meaning.{formula_means};
 ghost use Rattle.fisca_ir.specs.Views.{node};
 ghost use Rattle.fisca_ops.specs.Casts.{cast};
 ghost use Rattle.fisca_ops.specs.Ended.{IsMoving};

@@ -2,8 +2,8 @@
 
 ghost use Rattle.std.specs.Prelude.{◌≡◌, ◌∷◌, ◌<◌, ◌+◌, ◌*◌, MatchOption, ⊤, IfOk, IfErr, OnOk, drop};
 ghost use Rattle.fisca_model.specs.Seen.{value_seen};
-ghost use Rattle.fisca_formula_semantics.specs.Meaning.{scale_value};
-ghost use Rattle.fisca_formula_semantics.specs.Questions.{at_start};
+ghost use Rattle.fisca_typing.specs.Meaning.{scale_value};
+ghost use Rattle.fisca_typing.specs.Questions.{at_start};
 ghost use Rattle.fisca_params.specs.Lookup.{sum_in};
 ghost use Rattle.fisca_params.specs.Tree.{content_at};
 ghost use Rattle.fisca_ops.specs.Ended.{IsMoving};

@@ -3,7 +3,7 @@
 ghost use Rattle.std.specs.Bool.{OnTrue};
 ghost use Rattle.std.specs.Prelude.{◌≡◌, [], ◌∷◌, List, None, false, map, is_some, IfOk, IfSome};
 ghost use Rattle.fisca_model.specs.Values.{bool};
-ghost use Rattle.fisca_formula_semantics.specs.Meaning.{formula_means};
+ghost use Rattle.fisca_typing.specs.Meaning.{formula_means};
 ghost use Rattle.fisca_model.specs.Groups.{Groups};
 ghost use Rattle.fisca_ir.specs.Views.{node};
 ghost use Rattle.fisca_ir.specs.declared.node.Node.{Node as Held};

@@ -4,7 +4,7 @@ use Rattle.std.specs.Prelude.{Ok}
 use Rattle.fisca_num.specs.Number.{whole_number, lowest-whole}
 use Rattle.fisca_num.specs.Operations.{number_over, only_number_of}
 use Rattle.fisca_num.specs.Rational.{over}
-use Rattle.fisca_formula_semantics.specs.Questions.{twelve}
+use Rattle.fisca_typing.specs.Questions.{twelve}
 
 pub whole_over : (n : ℤ) (h : unsigned_abs n < 2 ^ 63) → number_over n (pos 1) ≡ Ok (whole_number n h)
 unfolding number_over

@@ -3,7 +3,7 @@ use Rattle.std.proofs.Common.{◌≡◌, ℕ, ℤ, pos, negsuc, [], ◌∷◌, �
 use Rattle.std.specs.Prelude.{true, false, Some, None, ◌==◌, if◌then◌else◌}
 use Rattle.fisca_key_semantics.specs.Dialogues.{Dialogue, gives, fails, stuck, computed, too_wide}
 use Rattle.fisca_model.specs.Values.{number, bool, member}
-use Rattle.fisca_formula_semantics.specs.Meaning.{total_over}
+use Rattle.fisca_typing.specs.Meaning.{total_over}
 use Rattle.fisca_model.specs.Groups.{Groups}
 use Rattle.fisca_num.specs.Number.{zero_number, one_number, whole_number}
 use Rattle.fisca_num.specs.Operations.{number_over}

@@ -3,7 +3,7 @@ use Rattle.std.specs.Prelude.{ℕ, Result, Ok, Err}
 use Rattle.fisca_model.specs.Seen.{key_seen}
 use Rattle.fisca_model.specs.Values.{Value}
 use Rattle.fisca_key_semantics.specs.Dialogues.{Dialogue, fails, asks, with_number}
-use Rattle.fisca_formula_semantics.specs.Questions.{ask_year}
+use Rattle.fisca_typing.specs.Questions.{ask_year}
 use Rattle.fisca_time.specs.Period.{Span}
 use Rattle.fisca_ops.specs.Ended.{fault_seen}
 use Rattle.fisca_ops.specs.declared.fault.OperationFault.{OperationFault}

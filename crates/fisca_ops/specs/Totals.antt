@@ -3,7 +3,7 @@ use Rattle.fisca_typing.specs.declared.operations.Arithmetic.TheVariants as arit
 use Rattle.fisca_typing.specs.declared.operations.Logic.TheVariants as logic
 use Rattle.fisca_typing.specs.declared.operations.Total.{Total}
 use Rattle.fisca_typing.specs.declared.operations.Total.TheVariants as total
-use Rattle.fisca_formula_semantics.specs.Answers.{arithmetic_of, logic_of}
+use Rattle.fisca_typing.specs.Answers.{arithmetic_of, logic_of}
 use Rattle.fisca_model.specs.Values.{Value}
 use Rattle.fisca_key_semantics.specs.Dialogues.{Dialogue}
 

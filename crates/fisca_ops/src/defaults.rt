@@ -2,7 +2,7 @@
 
 ghost use Rattle.std.specs.Prelude.{◌≡◌};
 ghost use Rattle.fisca_model.specs.Seen.{value_seen};
-ghost use Rattle.fisca_formula_semantics.specs.Questions as spec;
+ghost use Rattle.fisca_typing.specs.Questions as spec;
 
 use fisca_model::{Value, ValueType};
 use fisca_num::Fraction;

@@ -2,7 +2,7 @@
 
 ghost use Rattle.std.specs.Prelude.{◌≡◌};
 ghost use Rattle.fisca_key_semantics.specs.Dialogues as dialogues;
-ghost use Rattle.fisca_formula_semantics.specs.Meaning as meaning;
+ghost use Rattle.fisca_typing.specs.Meaning as meaning;
 ghost use Rattle.fisca_ops.specs.Ended.{fault_seen};
 
 use fisca_model::Key;

@@ -1,7 +1,7 @@
 //! Numbers of two, and how they compare.
 
 ghost use Rattle.std.specs.Prelude.{◌≡◌, pos};
-ghost use Rattle.fisca_formula_semantics.specs.Answers.{holds, number_by};
+ghost use Rattle.fisca_typing.specs.Answers.{holds, number_by};
 ghost use Rattle.fisca_key_semantics.specs.Dialogues.{computed};
 ghost use Rattle.fisca_num.specs.Operations.{number_over};
 ghost use Rattle.fisca_ops.specs.Ended.{ended};

@@ -2,7 +2,7 @@
 
 ghost use Rattle.std.specs.Prelude.{◌≡◌};
 ghost use Rattle.fisca_model.specs.Seen.{value_seen};
-ghost use Rattle.fisca_formula_semantics.specs.Answers.{arithmetic_of, comparison_of, logic_of, same_of, unary_of};
+ghost use Rattle.fisca_typing.specs.Answers.{arithmetic_of, comparison_of, logic_of, same_of, unary_of};
 ghost use Rattle.fisca_ops.specs.Ended.{IsMoving, ended};
 
 use crate::fault::OperationFault;

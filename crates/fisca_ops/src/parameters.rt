@@ -1,7 +1,7 @@
 //! Parameters and scales at a day.
 
 ghost use Rattle.std.specs.Prelude.{◌≡◌};
-ghost use Rattle.fisca_formula_semantics.specs.Meaning.{parameter_value, scale_value};
+ghost use Rattle.fisca_typing.specs.Meaning.{parameter_value, scale_value};
 ghost use Rattle.fisca_params.specs.Lookup.{sum_in, value_in};
 ghost use Rattle.fisca_params.specs.Tree.{content_at};
 ghost use Rattle.fisca_ops.specs.Ended.{ended};

@@ -2,7 +2,7 @@
 
 ghost use Rattle.std.specs.Prelude.{◌≡◌, ◌+◌, ◌<◌, ◌^◌, ℕ, [], ◌∷◌, drop, MatchOption};
 ghost use Rattle.fisca_key_semantics.specs.Dialogues.{Dialogue};
-ghost use Rattle.fisca_formula_semantics.specs.Questions as asking;
+ghost use Rattle.fisca_typing.specs.Questions as asking;
 ghost use Rattle.fisca_model.specs.Periods as model;
 ghost use Rattle.fisca_time.specs.Instant.{CivilDate};
 ghost use Rattle.fisca_time.specs.Period.{subs};

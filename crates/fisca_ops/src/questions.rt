@@ -3,8 +3,8 @@
 ghost use Rattle.std.specs.Prelude.{◌≡◌};
 ghost use Rattle.fisca_model.specs.Seen.{value_seen};
 ghost use Rattle.fisca_key_semantics.specs.Dialogues.{gives};
-ghost use Rattle.fisca_formula_semantics.specs.Questions.{ask_part, ask_plain};
-ghost use Rattle.fisca_formula_semantics.specs.Questions as asking;
+ghost use Rattle.fisca_typing.specs.Questions.{ask_part, ask_plain};
+ghost use Rattle.fisca_typing.specs.Questions as asking;
 ghost use Rattle.fisca_num.specs.Operations.{quotient_of};
 ghost use Rattle.fisca_ops.specs.Ended.{IsMoving, asked, ended};
 ghost use Rattle.fisca_ops.specs.Parts as spec;

@@ -1,6 +1,6 @@
 -- What is known of the rule set that files make: modules make it beside a tree of parameters.
 use Rattle.std.proofs.Common.{◌≡◌, List, Result, Ok, Err, ap}
-use Rattle.fisca_names.specs.declared.fault.BuildFault.{BuildFault}
+use Rattle.fisca_rules.specs.declared.build_fault.BuildFault.{BuildFault}
 use Rattle.fisca_params.specs.Steps.Files.{in_path_order}
 use Rattle.fisca_num.specs.Results.{and_then}
 use Rattle.fisca_params.specs.Source.{Source}

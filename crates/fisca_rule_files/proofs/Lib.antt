@@ -1,5 +1,5 @@
-mod Dates
 mod FirstModule
 pub mod ListedLines
 mod Telling
 pub mod Built
+mod DayTexts

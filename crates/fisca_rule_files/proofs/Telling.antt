@@ -1,6 +1,6 @@
 -- What a refusal that names a parameter file or a module tells.
 use Rattle.std.proofs.Common.{◌≡◌, ◌≤◌, inl, inr, ℕ, List, Some, Ok, Err, slice_get, string_bytes, refl, sym, ◌∙◌, subst}
-use Rattle.fisca_names.specs.declared.fault.BuildFault.{BuildFault}
+use Rattle.fisca_rules.specs.declared.build_fault.BuildFault.{BuildFault}
 use Rattle.fisca_num.specs.Results.{and_then}
 use Rattle.fisca_params.specs.Source.{Source}
 use Rattle.fisca_params.specs.Tree.{TreeNode}

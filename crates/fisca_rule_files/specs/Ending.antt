@@ -1,7 +1,7 @@
 -- How a command ends: its exit status, and what it tells.
 use Rattle.std.specs.Prelude.{◌≡◌, ◌≢◌, ◌⊎◌, ℕ, ◌==◌, ◌++◌, if◌then◌else◌, Bool, List, [], codes, Option, Some, None}
 use Rattle.fisca_folder.specs.Shown.{shown}
-use Rattle.fisca_rule_files.specs.Refusal.{status_of, line_of}
+use Rattle.fisca_rule_files.specs.Refusal.{PathsTold, status_of, line_of, of_file}
 use Rattle.fisca_rule_files.specs.declared.refusal.Refusal.{Refusal}
 use Rattle.fisca_rule_files.specs.declared.refusal.Refusal.TheVariants.{Memory}
 use Rattle.fisca_test_file.specs.declared.all.Verdict.{Verdict}
@@ -16,13 +16,13 @@ pub record TaskOutcome : Type 0 where
 abbrev pub done : TaskOutcome
 done = record { status = 0; told = None }
 
--- the status and the line of a refusal; `path` is that of the command's own file
-abbrev pub told_of : List ℕ → Refusal → TaskOutcome
-told_of path refusal = record { status = status_of refusal; told = Some (line_of path refusal) }
+-- the status and the line of a refusal, by how paths are told
+abbrev pub told_of : PathsTold → Refusal → TaskOutcome
+told_of paths refusal = record { status = status_of refusal; told = Some (line_of paths refusal) }
 
 -- a refusal is told or, where it is no failed write, perhaps that memory was refused
-abbrev pub IsTold : List ℕ → Refusal → TaskOutcome → Type 0
-IsTold path refusal outcome = (outcome ≡ told_of path refusal) ⊎ ((outcome ≡ told_of path Memory) × (status_of refusal ≢ 5))
+abbrev pub IsTold : PathsTold → Refusal → TaskOutcome → Type 0
+IsTold paths refusal outcome = (outcome ≡ told_of paths refusal) ⊎ ((outcome ≡ told_of paths Memory) × (status_of refusal ≢ 5))
 
 -- the status of a run that nothing stopped says whether a word stands in the place of a value
 abbrev pub run_status : Bool → ℕ
@@ -33,7 +33,7 @@ run_done lacks = record { status = run_status lacks; told = None }
 
 -- the last line of a run is told, or that there is no memory for it
 abbrev pub IsEndTold : RunEnd → Bool → TaskOutcome → Type 0
-IsEndTold end lacks outcome = (outcome ≡ record { status = run_status lacks; told = Some (end_text end) }) ⊎ (outcome ≡ told_of [] Memory)
+IsEndTold end lacks outcome = (outcome ≡ record { status = run_status lacks; told = Some (end_text end) }) ⊎ (outcome ≡ told_of (of_file []) Memory)
 
 -- the status says whether a test failed
 abbrev pub judged : Verdict → TaskOutcome
@@ -44,4 +44,4 @@ abbrev pub unread_text : List ℕ → List ℕ
 unread_text path = codes "fisca: " ++ (shown path ++ codes ": cannot read")
 
 abbrev pub IsUnreadTold : List ℕ → TaskOutcome → Type 0
-IsUnreadTold path outcome = (outcome ≡ record { status = 5; told = Some (unread_text path) }) ⊎ (outcome ≡ told_of path Memory)
+IsUnreadTold path outcome = (outcome ≡ record { status = 5; told = Some (unread_text path) }) ⊎ (outcome ≡ told_of (of_file path) Memory)

@@ -13,6 +13,7 @@ use Rattle.fisca_writer.specs.Run.{is_write as run_is_write}
 use Rattle.fisca_writer.specs.declared.fault.RunEnd.{RunEnd}
 use Rattle.fisca_writer.specs.declared.fault.RunFault.{RunFault}
 use Rattle.fisca_writer.specs.declared.fault.RunFault.TheVariants as run
+use Rattle.fisca_folder.specs.Layers.{Told, told_at}
 use Rattle.fisca_folder.specs.Shown.{shown}
 use Rattle.fisca_test_file.specs.Faults.{name_of as name_of_tests}
 use Rattle.fisca_rule_files.specs.declared.refusal.Refusal.{Refusal}
@@ -83,24 +84,36 @@ place_in path line = shown path ++ (codes ":" ++ (decimal line ++ codes ": "))
 abbrev pub position_in : ℕ → List ℕ
 position_in position = codes "position " ++ (decimal position ++ codes ": ")
 
--- where the fault of a file or of a run stands; `path` is that of the command's own file
-abbrev pub place_of : List ℕ → Refusal → List ℕ
-place_of path (Params rule_path line fault) = place_in (string_bytes rule_path) line
-place_of path (Formula rule_path line kind) = place_in (string_bytes rule_path) line
-place_of path (Yaml fault) = place_in path fault.line
-place_of path (RunFile fault) = place_in path fault.line
-place_of path (Tests fault) = place_in path fault.line
-place_of path (Axes fault) = []
-place_of path BadWord = []
-place_of path BadCondition = []
-place_of path (Run run.BadPosition) = []
-place_of path (Run (run.Eval position unanswered)) = position_in position
-place_of path (Run (run.Write position)) = []
-place_of path (Run (run.Memory position)) = []
-place_of path (Eval unanswered) = []
-place_of path Write = []
-place_of path Memory = []
-place_of path TooManyFiles = []
+-- how paths are told: that of the command's own file, if it has one, and those of rule files
+pub record PathsTold : Type 0 where
+  pub file : List ℕ
+  pub rules : List Told
+
+abbrev pub paths_of : List ℕ → List Told → PathsTold
+paths_of file rules = record { file = file; rules = rules }
+
+-- where the paths of rule files are told as they are
+abbrev pub of_file : List ℕ → PathsTold
+of_file file = paths_of file []
+
+-- where the fault of a file or of a run stands
+abbrev pub place_of : PathsTold → Refusal → List ℕ
+place_of paths (Params path line fault) = place_in (told_at paths.rules (string_bytes path)) line
+place_of paths (Formula path line kind) = place_in (told_at paths.rules (string_bytes path)) line
+place_of paths (Yaml fault) = place_in paths.file fault.line
+place_of paths (RunFile fault) = place_in paths.file fault.line
+place_of paths (Tests fault) = place_in paths.file fault.line
+place_of paths (Axes fault) = []
+place_of paths BadWord = []
+place_of paths BadCondition = []
+place_of paths (Run run.BadPosition) = []
+place_of paths (Run (run.Eval position unanswered)) = position_in position
+place_of paths (Run (run.Write position)) = []
+place_of paths (Run (run.Memory position)) = []
+place_of paths (Eval unanswered) = []
+place_of paths Write = []
+place_of paths Memory = []
+place_of paths TooManyFiles = []
 
 -- the text of a key, behind a space
 abbrev pub key_in : Unanswered → List ℕ
@@ -126,8 +139,8 @@ key_of Memory = []
 key_of TooManyFiles = []
 
 -- the line on standard error
-abbrev pub line_of : List ℕ → Refusal → List ℕ
-line_of path refusal = codes "fisca: " ++ (place_of path refusal ++ (reason_of refusal ++ key_of refusal))
+abbrev pub line_of : PathsTold → Refusal → List ℕ
+line_of paths refusal = codes "fisca: " ++ (place_of paths refusal ++ (reason_of refusal ++ key_of refusal))
 
 -- the refusal of a run over axes, whose rows are never faults
 abbrev pub of_axes : RunFault Infallible → Refusal

@@ -2,10 +2,11 @@
 
 ghost use Rattle.std.specs.Prelude.{◌≡◌, None, option_map, IfOk, string_bytes};
 ghost use Rattle.fisca_rule_files.specs.Ending.{done, judged, run_done, run_status, told_of, unread_text, IsEndTold, IsTold, IsUnreadTold};
+ghost use Rattle.fisca_rule_files.specs.Refusal.{paths_of};
 ghost use Rattle.fisca_writer.specs.LastLine.{end_text};
 
 use crate::refusal::Refusal;
-use fisca_folder::write_shown;
+use fisca_folder::{ToldPath, write_shown};
 use fisca_test_file::Verdict;
 use fisca_writer::{RunEnd, RunFault};
 use std::alloc::{AllocError, Global};
@@ -89,14 +90,15 @@ impl Ending {
     }
 
     /// The ending of a command that was refused: the refusal's status and line, or those for want of memory where the line
-    /// finds none. A failed write is told without memory. `path` names the command's own file, if it has one.
-    pub fn refused(alloc: Global, refusal: &Refusal, path: &str) -> Self
-        ensures { IsTold path.now refusal.now result }
+    /// finds none. A failed write is told without memory. `path` names the command's own file, if it has one, and `told_paths` says how the paths of rule files
+    /// are told.
+    pub fn refused(alloc: Global, refusal: &Refusal, path: &str, told_paths: &[ToldPath]) -> Self
+        ensures { IsTold (paths_of path.now told_paths.now) refusal.now result }
     {
         if let Refusal::Write | Refusal::Run(RunFault::Write { .. }) = refusal {
             return Ending::told(5, "fisca: write failed");
         }
-        match refusal.line(alloc, path) {
+        match refusal.line(alloc, path, told_paths) {
             Ok(line) => Ending {
                 status: refusal.status(),
                 told: Some(CowStr::Owned(line)),

@@ -11,10 +11,9 @@ ghost use Rattle.fisca_params.specs.Steps.Files.{in_path_order};
 use crate::Refusal;
 use fisca_ast::{FormulaFault, FormulaKind, Module};
 use fisca_folder::is_module;
-use fisca_names::BuildFault;
 use fisca_params::{ParamTree, SourceFile, in_path_order};
 use fisca_parser::read_module;
-use fisca_rules::RuleSet;
+use fisca_rules::{BuildFault, RuleSet};
 use std::alloc::{AllocError, Global};
 use std::collections::BTreeMap;
 

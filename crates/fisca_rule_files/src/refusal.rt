@@ -1,11 +1,11 @@
 //! Why a command was refused.
 
 ghost use Rattle.std.specs.Prelude.{◌≡◌, ◌++◌, IfOk, OnOk, string_bytes};
-ghost use Rattle.fisca_rule_files.specs.Refusal.{number_of, status_of, reason_of, place_in, place_of, position_in, key_in, key_of, line_of};
+ghost use Rattle.fisca_rule_files.specs.Refusal.{number_of, status_of, reason_of, place_in, place_of, position_in, key_in, key_of, line_of, paths_of};
 
 use fisca_ast::FormulaKind;
 use fisca_columns::RunFileFault;
-use fisca_folder::write_shown;
+use fisca_folder::{ToldPath, told_path, write_shown};
 use fisca_grid::AxesFault;
 use fisca_model::EvalFault;
 use fisca_params::ParamFault;
@@ -198,22 +198,32 @@ impl Refusal {
         }
     }
 
-    /// The line on standard error, without its line feed. `path` names the command's own file, of which `Yaml`, `RunFile` and `Tests` tell; other
-    /// refusals do not speak of it. Memory is its only error.
-    pub fn line(&self, alloc: Global, path: &str) -> Result<String, AllocError>
-        ensures { IfOk result (λ line. string_bytes line ≡ line_of path.now self.now) }
+    /// The line on standard error, without its line feed. `path` names the command's own file, of which `Yaml`, `RunFile` and `Tests` tell, and
+    /// `told_paths` says how the paths of rule files are told, as `Params` and `Formula` do; other refusals speak of no file. Memory is its only error.
+    pub fn line(
+        &self,
+        alloc: Global,
+        path: &str,
+        told_paths: &[ToldPath],
+    ) -> Result<String, AllocError>
+        ensures { IfOk result (λ line. string_bytes line ≡ line_of (paths_of path.now told_paths.now) self.now) }
     {
         let mut line = String::new(alloc);
         line.push_str("fisca: ")?;
-        self.write_place(path, &mut line)?;
+        self.write_place(path, told_paths, &mut line)?;
         line.push_str(self.reason())?;
         self.write_key(&mut line)?;
         Ok(line)
     }
 
     /// Appends where the fault of a file or of a run stands, and nothing for other refusals.
-    fn write_place(&self, path: &str, line: &mut String) -> Result<(), AllocError>
-        ensures { OnOk result (string_bytes line.new ≡ string_bytes line.old ++ place_of path.now self.now) }
+    fn write_place(
+        &self,
+        path: &str,
+        told_paths: &[ToldPath],
+        line: &mut String,
+    ) -> Result<(), AllocError>
+        ensures { OnOk result (string_bytes line.new ≡ string_bytes line.old ++ place_of (paths_of path.now told_paths.now) self.now) }
     {
         match self {
             Refusal::Params {
@@ -225,7 +235,7 @@ impl Refusal {
                 path: rule_path,
                 line: number,
                 ..
-            } => write_path(rule_path.as_str(), *number, line),
+            } => write_path(told_path(told_paths, rule_path.as_str()), *number, line),
             Refusal::Yaml(fault) => write_path(path, fault.line, line),
             Refusal::RunFile(fault) => write_path(path, fault.line, line),
             Refusal::Tests(fault) => write_path(path, fault.line, line),

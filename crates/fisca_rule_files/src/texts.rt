@@ -5,18 +5,18 @@ ghost use Rattle.fisca_declarations.specs.VariableForms.{written};
 ghost use Rattle.fisca_folder.specs.Shown.{shown};
 ghost use Rattle.fisca_rule_files.specs.Listing as spec;
 ghost use Rattle.fisca_rules.specs.Views.{dated, rule_set};
-ghost use Rattle.fisca_time.specs.PeriodText.{date_text};
 
+use crate::days::write_day;
 use fisca_declarations::Declaration;
 use fisca_folder::write_shown;
 use fisca_params::SourceFile;
 use fisca_rules::{DatedFormula, RuleSet};
 use fisca_symbols::{DeclaredType, SourceText};
-use fisca_time::{Instant, Unit};
+use fisca_time::Unit;
 use std::alloc::{AllocError, Global};
 
-/// A text of a module, in one line.
-pub(crate) fn text_of(alloc: Global, said: &str) -> Result<String, AllocError>
+/// A text of a module, in one line, as `write_shown` has it. `AllocError` only where no memory is left.
+pub fn text_of(alloc: Global, said: &str) -> Result<String, AllocError>
     ensures { IfOk result (λ text. string_bytes text ≡ shown said.now) }
 {
     let mut text = String::new(alloc);
@@ -24,8 +24,8 @@ pub(crate) fn text_of(alloc: Global, said: &str) -> Result<String, AllocError>
     Ok(text)
 }
 
-/// What is told of a variable, and nothing where nothing is told.
-pub(crate) fn text_told(alloc: Global, told: &Option<SourceText<'_>>) -> Result<String, AllocError>
+/// What is told of a variable in a text of a module, and nothing where nothing is told. `AllocError` only where no memory is left.
+pub fn text_told(alloc: Global, told: &Option<SourceText<'_>>) -> Result<String, AllocError>
     ensures { IfOk result (λ text. string_bytes text ≡ spec.text_told told.now) }
 {
     match told {
@@ -91,26 +91,13 @@ pub(crate) fn period_text(alloc: Global, unit: Unit) -> Result<String, AllocErro
     )
 }
 
-/// A day, as `2010-04-05`.
-fn date_text(alloc: Global, date: Instant) -> Result<String, AllocError>
-    ensures { IfOk result (λ text. string_bytes text ≡ date_text date) }
-{
-    let (year, month, day) = (date.year(), date.month(), date.day());
-    format!(in alloc; "{year:04}-{month:02}-{day:02}")
-}
-
 /// Appends the first days of formulas, each behind a space.
-fn write_starts(
-    alloc: Global,
-    formulas: &[DatedFormula],
-    text: &mut String,
-) -> Result<(), AllocError>
+fn write_starts(formulas: &[DatedFormula], text: &mut String) -> Result<(), AllocError>
     ensures { OnOk result (string_bytes text.new ≡ string_bytes text.old ++ spec.starts_text (map dated formulas.now)) }
 {
     for formula in formulas {
-        let date = date_text(alloc, formula.start)?;
         text.push(' ')?;
-        text.push_str(date.as_str())?;
+        write_day(formula.start, text)?;
     }
     Ok(())
 }
@@ -122,8 +109,9 @@ fn formulas_text(alloc: Global, formulas: &[DatedFormula]) -> Result<String, All
     match formulas {
         [] => String::from_str(alloc, "input"),
         [first, more @ ..] => {
-            let mut text = date_text(alloc, first.start)?;
-            write_starts(alloc, more, &mut text)?;
+            let mut text = String::new(alloc);
+            write_day(first.start, &mut text)?;
+            write_starts(more, &mut text)?;
             Ok(text)
         }
     }

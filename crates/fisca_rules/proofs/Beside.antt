@@ -5,11 +5,11 @@ use Rattle.std.proofs.lemmas.List.{length-append}
 use Rattle.fisca_ast.specs.Modules.{Item, Statement, entity, entities, choices, variable}
 use Rattle.fisca_declarations.specs.VariableForms.{Written}
 use Rattle.fisca_declarations.specs.declared.declared.Declared.{Declared}
-use Rattle.fisca_names.specs.Names.{Placed, placed_from, names_from}
+use Rattle.fisca_rules.specs.FirstPass.{Placed, placed_from, names_from}
 use Rattle.fisca_rules.specs.Build.{Found, Whole, none_yet, with_variable}
 use Rattle.fisca_rules.specs.Steps.Build.{declared_in, enums_in, found_from, second_pass, statement_found, tables_of, variable_in, with_person}
 use Rattle.fisca_symbols.specs.declared.variable.Variable.{Variable}
-use Rattle.fisca_rules.proofs.Members.{entity_keeps, kept, person_keeps, same_found, then_ok, told_ok}
+use Rattle.fisca_rules.proofs.FoundMembers.{entity_keeps, kept, person_keeps, same_found, then_ok, told_ok}
 
 abbrev AreBeside : List Variable × List Written → Type 0
 AreBeside p = length p.0 ≡ length p.1

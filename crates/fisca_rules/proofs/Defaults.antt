@@ -14,7 +14,7 @@ use Rattle.fisca_rules.specs.Build.{Found, Whole, with_variable, none_yet}
 use Rattle.fisca_rules.specs.Steps.Build.{enums_in, declared_in, found_from, statement_found, second_pass, variable_in, with_person, tables_of}
 use Rattle.fisca_ast.specs.Tree.{Tree}
 use Rattle.fisca_ast.specs.Words.{is}
-use Rattle.fisca_names.specs.Names.{Placed, placed_from, names_from, told_at}
+use Rattle.fisca_rules.specs.FirstPass.{Placed, placed_from, names_from, told_at}
 use Rattle.fisca_num.specs.Number.{Number}
 use Rattle.fisca_num.specs.Results.{and_then}
 use Rattle.fisca_params.specs.Tree.{TreeNode}
@@ -40,7 +40,7 @@ use Rattle.fisca_rules.specs.Rules.{DatedFormula, Rules, known}
 use Rattle.fisca_rules.specs.Steps.Rules.{all_formulas, formulas_by, formulas_of, rules_of, with_formulas}
 use Rattle.fisca_rules.specs.Safety.{is_number, is_whole, is_bool, is_date, is_text, is_member, is_default, AllDefaultsFit, DefaultsFit, AreUncomputed, DaysAndTextsHaveNoFormulas}
 use Rattle.fisca_rules.proofs.Beside.{declared_beside}
-use Rattle.fisca_rules.proofs.Members.{then_ok, told_ok, position_inside, entity_keeps, same_found, person_keeps, made, variable_made}
+use Rattle.fisca_rules.proofs.FoundMembers.{then_ok, told_ok, position_inside, entity_keeps, same_found, person_keeps, made, variable_made}
 
 -- Each type
 

@@ -5,8 +5,8 @@ use Rattle.std.specs.List.{list_any}
 use Rattle.std.specs.Str.{bytes_eq}
 use Rattle.fisca_attributes.specs.Steps.AttributeForms.{value_at}
 use Rattle.fisca_attributes.specs.Values.{bad_attribute}
-use Rattle.fisca_names.specs.declared.fault.BuildFault.{BuildFault}
-use Rattle.fisca_names.specs.Names.{told_at}
+use Rattle.fisca_rules.specs.declared.build_fault.BuildFault.{BuildFault}
+use Rattle.fisca_rules.specs.FirstPass.{told_at}
 use Rattle.fisca_num.specs.Results.{and_then}
 use Rattle.fisca_ast.specs.Modules.{Assigned, Item, attribute, formula}
 use Rattle.fisca_ast.specs.Tree.{Tree}

@@ -1,15 +1,20 @@
 pub mod Among
 mod Beside
-mod Built
+mod BuiltTables
+pub mod Clash
+pub mod Confused
 mod Defaults
 pub mod Each
 pub mod Fitting
+mod FoundMembers
 mod Lined
-mod Members
+pub mod Meet
 mod Named
+pub mod Repeated
 mod Safe
 pub mod Scans
 pub mod Search
+pub mod Some
 pub mod Walk
 pub mod Worked
 mod WorkedRules

@@ -3,10 +3,10 @@ use Rattle.std.proofs.Common.{arith, ◌≡◌, ap, subst, ℕ, List, [], ◌∷
 use Rattle.std.specs.Prelude.{Option, Some, None, Result, Ok, Err}
 use Rattle.fisca_declarations.specs.VariableForms.{Written}
 use Rattle.fisca_ast.specs.Tree.{Tree}
-use Rattle.fisca_formula_semantics.specs.Meaning.{formula_means}
+use Rattle.fisca_typing.specs.Meaning.{formula_means}
 use Rattle.fisca_model.specs.Groups.{Groups, Point}
-use Rattle.fisca_formula_semantics.specs.Safe.{IsSafe}
-use Rattle.fisca_formula_semantics.specs.Wellformed.{HasMembers, before_cast}
+use Rattle.fisca_typing.specs.Safe.{IsSafe}
+use Rattle.fisca_typing.specs.Wellformed.{HasMembers, before_cast}
 use Rattle.fisca_params.specs.Tree.{TreeNode}
 use Rattle.fisca_rules.specs.Rules.{DatedFormula, Rules, all_of, assigned_of, known}
 use Rattle.fisca_rules.specs.Steps.Rules.{all_formulas, dated_of, formulas_by, formulas_of, names_for, rules_of, told_in}
@@ -19,7 +19,7 @@ use Rattle.fisca_typing.specs.Names.{Names}
 use Rattle.fisca_model.specs.Tables.{Tables}
 use Rattle.fisca_model.specs.declared.value_type.ValueType.{ValueType}
 use Rattle.fisca_rules.proofs.Beside.{declared_beside}
-use Rattle.fisca_rules.proofs.Members.{then_ok, members_there_in}
+use Rattle.fisca_rules.proofs.FoundMembers.{then_ok, members_there_in}
 
 -- what is known of formulas that have a type
 abbrev pub TypedAreSafe : Type 0

@@ -1,6 +1,6 @@
 -- What modules declare, statement by statement and module by module.
 use Rattle.std.proofs.Common.{◌≡◌, ◌∙◌, sym, ap, refl, ℕ, suc, List, [], ◌∷◌, ◌++◌, append_assoc}
-use Rattle.fisca_names.specs.Names.{Placed, placed_from, placed_in}
+use Rattle.fisca_rules.specs.FirstPass.{Placed, placed_from, placed_in}
 use Rattle.fisca_ast.specs.Modules.{Statement}
 use Rattle.fisca_rules.specs.Build.{constant_of}
 use Rattle.fisca_rules.specs.Steps.Build.{constants_in, enum_of, enums_in}

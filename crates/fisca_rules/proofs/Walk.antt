@@ -1,11 +1,11 @@
 -- The walk over the statements, one after another.
 use Rattle.std.proofs.Common.{◌≡◌, ◌∙◌, sym, ap, refl, arith, ℕ, length, List, [], ◌∷◌, ◌++◌, Option, None, Result, Ok, Err}
-use Rattle.fisca_names.specs.Steps.Clashes.{second_name}
-use Rattle.fisca_names.specs.Names.{Placed, named_once, names_from}
-use Rattle.fisca_names.specs.Outcomes.{Tells}
-use Rattle.fisca_names.specs.Seen.{TellsOne}
-use Rattle.fisca_names.specs.declared.fault.BuildFault.{BuildFault}
-use Rattle.fisca_names.specs.declared.seen.Seen.{Seen}
+use Rattle.fisca_rules.specs.Steps.Clashes.{second_name}
+use Rattle.fisca_rules.specs.FirstPass.{Placed, named_once, names_from}
+use Rattle.fisca_rules.specs.Outcomes.{Tells}
+use Rattle.fisca_rules.specs.Seen.{TellsOne}
+use Rattle.fisca_rules.specs.declared.build_fault.BuildFault.{BuildFault}
+use Rattle.fisca_rules.specs.declared.seen.Seen.{Seen}
 use Rattle.fisca_num.specs.Results.{and_then}
 use Rattle.fisca_ast.specs.Modules.{Statement}
 use Rattle.fisca_symbols.specs.declared.entity.Entity.{Entity}

@@ -10,7 +10,7 @@ use Rattle.fisca_ast.specs.Modules.{Item, attribute, formula, Statement, entity,
 use Rattle.fisca_ast.specs.declared.fault.FormulaKind.{FormulaKind}
 use Rattle.fisca_ast.specs.declared.fault.FormulaKind.TheVariants as kind
 use Rattle.fisca_ast.specs.Steps.Contents.{said_within}
-use Rattle.fisca_names.specs.declared.fault.BuildFault.{BuildFault}
+use Rattle.fisca_rules.specs.declared.build_fault.BuildFault.{BuildFault}
 use Rattle.fisca_rules.specs.Build.{Whole}
 use Rattle.fisca_rules.specs.Steps.Build.{tables_of}
 use Rattle.fisca_attributes.specs.Steps.Values.{truth_of}

@@ -6,7 +6,7 @@ use Rattle.fisca_attributes.specs.Steps.Values.{truth_of}
 use Rattle.fisca_ast.specs.Tree.{Tree, name, text, applied, last, next, keyword}
 use Rattle.fisca_ast.specs.Steps.Words.{is_keyword}
 use Rattle.fisca_ast.specs.declared.tree.Suffix.TheVariants as suffix
-use Rattle.fisca_names.specs.declared.fault.BuildFault.{BuildFault}
+use Rattle.fisca_rules.specs.declared.build_fault.BuildFault.{BuildFault}
 use Rattle.fisca_rules.specs.Rules.{Rules}
 use Rattle.fisca_rules.specs.Steps.Rules.{dated_of, formulas_of, rules_of}
 use Rattle.fisca_rules.specs.Steps.Build.{tables_of}

@@ -7,8 +7,8 @@ use Rattle.fisca_ast.specs.Modules.{Item, attribute, formula, Statement, entity,
 use Rattle.fisca_symbols.specs.declared.choices.Choices.{Choices}
 use Rattle.fisca_symbols.specs.declared.entity.Entity.{Entity}
 use Rattle.fisca_symbols.specs.declared.variable.Variable.{Variable}
-use Rattle.fisca_names.specs.declared.fault.BuildFault.{BuildFault}
-use Rattle.fisca_names.specs.Names.{told_at}
+use Rattle.fisca_rules.specs.declared.build_fault.BuildFault.{BuildFault}
+use Rattle.fisca_rules.specs.FirstPass.{told_at}
 use Rattle.fisca_attributes.specs.Values.{is_among}
 use Rattle.fisca_declarations.specs.declared.declared.Declared.{Declared}
 use Rattle.fisca_declarations.specs.VariableForms.{Written}

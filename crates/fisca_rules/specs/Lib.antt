@@ -1,10 +1,15 @@
 pub mod Build
+pub mod Clashes
+pub mod FirstPass
 pub mod FoundViews
 pub mod Names
+pub mod Outcomes
 pub mod Rules
 pub mod Safety
 pub mod Scans
+pub mod Seen
 pub mod Starts
 pub mod Steps
+pub mod Titles
 pub mod Views
 pub mod Walk

@@ -1,9 +1,9 @@
 -- Rule sets whose formulas are never stuck, and whose defaults are of their types.
 use Rattle.std.specs.Prelude.{◌≡◌, ⊤, ℕ, List, [], ◌∷◌, length, nat_lt, slice_get, Bool, true, false, Some, None}
-use Rattle.fisca_formula_semantics.specs.Meaning.{formula_means}
+use Rattle.fisca_typing.specs.Meaning.{formula_means}
 use Rattle.fisca_model.specs.Groups.{Groups, Point}
-use Rattle.fisca_formula_semantics.specs.Safe.{IsSafe}
-use Rattle.fisca_formula_semantics.specs.Wellformed.{before_cast}
+use Rattle.fisca_typing.specs.Safe.{IsSafe}
+use Rattle.fisca_typing.specs.Wellformed.{before_cast}
 use Rattle.fisca_symbols.specs.KnownVariables.{value_type}
 use Rattle.fisca_symbols.specs.declared.variable.DeclaredType.{DeclaredType}
 use Rattle.fisca_symbols.specs.declared.variable.DeclaredType.TheVariants as type

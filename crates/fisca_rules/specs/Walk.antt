@@ -1,10 +1,10 @@
 -- The first two passes in one walk over the statements: names are judged, and what is declared is found, up to its first fault.
 use Rattle.std.specs.Prelude.{◌≡◌, ◌≢◌, List, Result, Ok, Err}
-use Rattle.fisca_names.specs.Names.{Placed, names_from}
-use Rattle.fisca_names.specs.Outcomes.{Tells}
-use Rattle.fisca_names.specs.Seen.{Holds}
-use Rattle.fisca_names.specs.declared.fault.BuildFault.{BuildFault}
-use Rattle.fisca_names.specs.declared.seen.Seen.{Seen}
+use Rattle.fisca_rules.specs.FirstPass.{Placed, names_from}
+use Rattle.fisca_rules.specs.Outcomes.{Tells}
+use Rattle.fisca_rules.specs.Seen.{Holds}
+use Rattle.fisca_rules.specs.declared.build_fault.BuildFault.{BuildFault}
+use Rattle.fisca_rules.specs.declared.seen.Seen.{Seen}
 use Rattle.fisca_num.specs.Results.{and_then}
 use Rattle.fisca_ast.specs.Modules.{Statement}
 use Rattle.fisca_ast.specs.declared.fault.FormulaKind.TheVariants.{Memory}

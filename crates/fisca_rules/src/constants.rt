@@ -1,7 +1,7 @@
 //! Constants of entities.
 
 ghost use Rattle.std.specs.Prelude.{◌≡◌, ◌++◌, IfOk, map};
-ghost use Rattle.fisca_names.specs.Names.{placed_from};
+ghost use Rattle.fisca_rules.specs.FirstPass.{placed_from};
 ghost use Rattle.fisca_ast.specs.ModuleViews.{statement as statement_view, statements as statements_view};
 ghost use Rattle.fisca_rules.specs.Build as spec;
 ghost use Rattle.fisca_rules.specs.Steps.Build as steps;

@@ -1,7 +1,7 @@
 //! Enums and their members.
 
 ghost use Rattle.std.specs.Prelude.{◌≡◌, [], ◌∷◌, ◌++◌, IfOk, length, map};
-ghost use Rattle.fisca_names.specs.Clashes.{is_order as names_order};
+ghost use Rattle.fisca_rules.specs.Clashes.{is_order as names_order};
 ghost use Rattle.fisca_ast.specs.Outcomes.{Gives};
 ghost use Rattle.fisca_ast.specs.ModuleViews.{statement as statement_view, statements as statements_view};
 ghost use Rattle.fisca_rules.specs.Steps.Build as spec;

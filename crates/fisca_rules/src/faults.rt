@@ -2,8 +2,8 @@
 
 ghost use Rattle.std.specs.Prelude.{◌≡◌, ◌≢◌};
 
+use crate::BuildFault;
 use fisca_ast::FormulaKind;
-use fisca_names::BuildFault;
 
 /// A fault of a line of a module; want of memory has no line.
 pub(crate) fn fault_at(place: usize, line: usize, kind: FormulaKind) -> BuildFault

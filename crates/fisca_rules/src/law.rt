@@ -7,7 +7,7 @@ ghost use Rattle.fisca_rules.specs.Steps.Rules.{rules_of};
 ghost use Rattle.fisca_rules.specs.Safety.{AreNeverStuck, DaysAndTextsHaveNoFormulas, DefaultsFit};
 ghost use Rattle.fisca_ast.specs.Modules.{Statement};
 
-use fisca_formula_semantics::never_stuck;
+use fisca_typing::never_stuck;
 
 /// No formula of an accepted rule set is ever stuck: as long as its questions are answered by values of the variables' types, it meets no
 /// operand of another type, no name that stands for nothing and no member that is not there, and gives a value of its type or tells a

@@ -1,7 +1,7 @@
 //! Variables: their lines from top to bottom, and then what they say together.
 
 ghost use Rattle.std.specs.Prelude.{◌≡◌, map};
-ghost use Rattle.fisca_names.specs.Names.{told_at};
+ghost use Rattle.fisca_rules.specs.FirstPass.{told_at};
 ghost use Rattle.fisca_ast.specs.ModuleViews.{item};
 ghost use Rattle.fisca_declarations.specs.Lines as lines;
 ghost use Rattle.fisca_declarations.specs.Steps.Lines as lines_steps;
@@ -9,14 +9,14 @@ ghost use Rattle.fisca_declarations.specs.VariableForms as forms;
 ghost use Rattle.fisca_rules.specs.Build as spec;
 ghost use Rattle.fisca_rules.specs.Steps.Build as steps;
 ghost use Rattle.fisca_rules.specs.Steps.Passes as passes;
-ghost use Rattle.fisca_names.specs.Outcomes.{Tells};
+ghost use Rattle.fisca_rules.specs.Outcomes.{Tells};
 
+use crate::BuildFault;
 use crate::faults::fault_at;
 use fisca_ast::{ClassLine, VariableClass};
 use fisca_declarations::{
     Attributes, Before, Declaration, Declared, TypeLines, behind_line, type_lines, variable_of,
 };
-use fisca_names::BuildFault;
 use fisca_symbols::{SourceText, Variable};
 use std::alloc::Global;
 

@@ -4,18 +4,18 @@ ghost use Rattle.std.specs.Prelude.{◌≡◌};
 ghost use Rattle.fisca_rules.specs.Build as spec;
 ghost use Rattle.fisca_rules.specs.Steps.Build as steps;
 ghost use Rattle.fisca_rules.specs.FoundViews.{found as found_view};
-ghost use Rattle.fisca_names.specs.Outcomes.{Tells};
+ghost use Rattle.fisca_rules.specs.Outcomes.{Tells};
 ghost use Rattle.fisca_attributes.specs.Steps.EntityForms.{entity_of as entity_written};
-ghost use Rattle.fisca_names.specs.Names.{told_at};
+ghost use Rattle.fisca_rules.specs.FirstPass.{told_at};
 ghost use Rattle.fisca_ast.specs.Outcomes.{Gives};
 ghost use Rattle.fisca_num.specs.Results.{and_then};
 ghost use Rattle.fisca_ast.specs.ModuleViews.{assigned};
 
+use crate::BuildFault;
 use crate::faults::fault_at;
 use crate::found::Found;
 use fisca_ast::{Assignment, FormulaKind};
 use fisca_attributes::entity_of;
-use fisca_names::BuildFault;
 use fisca_symbols::Entity;
 use std::alloc::Global;
 

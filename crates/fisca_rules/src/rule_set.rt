@@ -2,16 +2,15 @@
 ghost use Rattle.std.specs.Prelude.{◌≡◌, map};
 ghost use Rattle.fisca_rules.specs.Names.{entity_named, variable_named};
 ghost use Rattle.fisca_rules.specs.Steps.Rules as spec;
-ghost use Rattle.fisca_names.specs.Outcomes.{Tells};
+ghost use Rattle.fisca_rules.specs.Outcomes.{Tells};
 ghost use Rattle.fisca_rules.specs.Views.{rule_set};
 ghost use Rattle.fisca_ast.specs.ModuleViews.{statements};
 
 use crate::formulas::TypedFormulas;
-use crate::tables_found;
 use crate::typed::formulas_of_all;
+use crate::{BuildFault, tables_found};
 use fisca_ast::Module;
 use fisca_declarations::Declaration;
-use fisca_names::BuildFault;
 use fisca_params::ParamTree;
 use fisca_symbols::{Choices, Entity, Tables, Variable};
 use std::alloc::Global;

@@ -1,15 +1,15 @@
 //! Statements from top to bottom, module by module.
 
 ghost use Rattle.std.specs.Prelude.{List, [], ◌∷◌, ◌++◌, Result, map};
-ghost use Rattle.fisca_names.specs.Names.{Placed, names_from, placed_from, placed_in, told_at};
-ghost use Rattle.fisca_names.specs.declared.fault.BuildFault.{BuildFault};
+ghost use Rattle.fisca_rules.specs.FirstPass.{Placed, names_from, placed_from, placed_in, told_at};
+ghost use Rattle.fisca_rules.specs.declared.build_fault.BuildFault.{BuildFault};
 ghost use Rattle.fisca_ast.specs.ModuleViews.{assigned, item, statement as statement_view, statements as statements_view};
 ghost use Rattle.fisca_num.specs.Results.{and_then};
 ghost use Rattle.fisca_rules.specs.Build as spec;
 ghost use Rattle.fisca_rules.specs.Steps.Build as steps;
 ghost use Rattle.fisca_rules.specs.Walk as walk;
 ghost use Rattle.fisca_rules.specs.FoundViews.{found as found_view};
-ghost use Rattle.fisca_names.specs.Outcomes.{Tells};
+ghost use Rattle.fisca_rules.specs.Outcomes.{Tells};
 
 use crate::entities::entities_fit;
 use crate::enums::members_fit;
@@ -17,9 +17,9 @@ use crate::faults::fault_at;
 use crate::found::Found;
 use crate::lines::variable_in;
 use crate::persons::{entity_found, nothing_found, with_person};
+use crate::{BuildFault, Seen};
 use fisca_ast::{Assignment, EnumClass, FormulaKind, Module, Statement, VariableClass};
 use fisca_declarations::Declared;
-use fisca_names::{BuildFault, Seen};
 use std::alloc::Global;
 
 /// Whether a list of entities is right, or its fault.

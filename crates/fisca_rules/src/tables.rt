@@ -1,18 +1,18 @@
 //! The tables of a rule set.
 
 ghost use Rattle.std.specs.Prelude.{◌≡◌, map};
-ghost use Rattle.fisca_names.specs.Names.{placed_from};
+ghost use Rattle.fisca_rules.specs.FirstPass.{placed_from};
 ghost use Rattle.fisca_ast.specs.ModuleViews.{statements};
 ghost use Rattle.fisca_rules.specs.Steps.Build.{declared_by};
 ghost use Rattle.fisca_rules.specs.FoundViews.{whole};
-ghost use Rattle.fisca_names.specs.Outcomes.{Tells};
+ghost use Rattle.fisca_rules.specs.Outcomes.{Tells};
 
+use crate::BuildFault;
 use crate::constants::declared_in;
 use crate::found::Found;
 use crate::statements::whole_found;
 use fisca_ast::Module;
 use fisca_declarations::Declaration;
-use fisca_names::BuildFault;
 use fisca_symbols::{Entities, Enums, Variables};
 use std::alloc::Global;
 

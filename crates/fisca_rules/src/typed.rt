@@ -5,13 +5,14 @@ ghost use Rattle.fisca_check.specs.Formulas.{formula_view as seen, Tells as Tell
 ghost use Rattle.fisca_rules.specs.Rules as spec;
 ghost use Rattle.fisca_rules.specs.Steps.Rules as steps;
 ghost use Rattle.fisca_check.specs.Views.{names as names_of};
-ghost use Rattle.fisca_names.specs.Outcomes.{Tells};
+ghost use Rattle.fisca_rules.specs.Outcomes.{Tells};
 ghost use Rattle.fisca_rules.specs.Views.{dated};
 ghost use Rattle.fisca_ast.specs.ModuleViews.{formula_view};
 ghost use Rattle.fisca_symbols.specs.Known.{tables as known};
 ghost use Rattle.fisca_symbols.specs.KnownVariables.{value_type as known_type};
 ghost use Rattle.fisca_typing.specs.Formulas as typing;
 
+use crate::BuildFault;
 use crate::dated::DatedFormula;
 use crate::formulas::TypedFormulas;
 use fisca_ast::{ClassLine, Formula};
@@ -19,7 +20,6 @@ use fisca_check::{FormulaRefusal, FormulaScope, TypedFormula as Typed, formula_o
 use fisca_check_calls::Locals;
 use fisca_declarations::Declaration;
 use fisca_model::ValueType;
-use fisca_names::BuildFault;
 use fisca_symbols::{DeclaredType, Tables, Variable};
 use std::alloc::{AllocError, Global};
 

@@ -4,8 +4,8 @@ use Rattle.std.specs.Prelude.{Result, Ok, Err, not}
 use Rattle.fisca_inputs.specs.Typed.{is_just, is_typed}
 use Rattle.fisca_model.specs.Values.{Value, number, bool, member}
 use Rattle.fisca_key_semantics.specs.Dialogues.{Dialogue, gives, fails, stuck, asks, ◌>>=◌, with_number, with_member, computed, too_wide}
-use Rattle.fisca_formula_semantics.specs.Safe.{is_of, IsSafe}
-use Rattle.fisca_formula_semantics.specs.Wellformed.{before_cast}
+use Rattle.fisca_typing.specs.Safe.{is_of, IsSafe}
+use Rattle.fisca_typing.specs.Wellformed.{before_cast}
 use Rattle.fisca_num.specs.Number.{Number, one_number, trunc_of, zero_number}
 use Rattle.fisca_num.specs.Operations.{number_over}
 use Rattle.fisca_num.specs.declared.faults.NumFault.{NumFault}

@@ -10,12 +10,12 @@ use Rattle.fisca_inputs.specs.Typed.{is_typed, IsValueOf}
 use Rattle.fisca_model.specs.declared.value.Value.{Value as Input}
 use Rattle.fisca_model.specs.declared.value.Value.TheVariants as v
 use Rattle.fisca_model.specs.Values.{Key}
-use Rattle.fisca_formula_semantics.specs.Meaning.{formula_means}
+use Rattle.fisca_typing.specs.Meaning.{formula_means}
 use Rattle.fisca_model.specs.Groups.{Groups, Point}
 use Rattle.fisca_model.specs.Periods.{fits}
 use Rattle.fisca_model.specs.Tables.{type_in, variable_type}
-use Rattle.fisca_formula_semantics.specs.Safe.{IsSafe}
-use Rattle.fisca_formula_semantics.specs.Wellformed.{before_cast}
+use Rattle.fisca_typing.specs.Safe.{IsSafe}
+use Rattle.fisca_typing.specs.Wellformed.{before_cast}
 use Rattle.fisca_groups.specs.Grouped.{grouped}
 use Rattle.fisca_rules.specs.Rules.{DatedFormula, known_by}
 use Rattle.fisca_rules.specs.Safety.{IsNeverStuck, AllNeverStuck, EachNeverStuck, AreUncomputed, AllDefaultsFit, is_default}

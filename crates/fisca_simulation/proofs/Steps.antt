@@ -17,7 +17,7 @@ use Rattle.fisca_machine.specs.Context.{tables, groups}
 use Rattle.fisca_key_semantics.specs.Dialogues as meaning
 use Rattle.fisca_model.specs.Values.{Value}
 use Rattle.fisca_key_semantics.specs.Dialogues.{Dialogue, gives, fails, stuck, asks}
-use Rattle.fisca_formula_semantics.specs.Meaning.{formula_means}
+use Rattle.fisca_typing.specs.Meaning.{formula_means}
 use Rattle.fisca_model.specs.Tables.{variable_type}
 use Rattle.fisca_simulation.specs.Simulations.{start_point}
 use Rattle.fisca_simulation.specs.Sound.{GivesOnly, AreSound}

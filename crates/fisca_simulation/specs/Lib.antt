@@ -1,6 +1,11 @@
 pub mod Evaluators
+pub mod Followed
+pub mod Followers
 pub mod InForce
+pub mod Noted
+pub mod NotedFormulas
 pub mod PlainEvaluations
+pub mod Played
 pub mod Simulations
 pub mod Sound
 pub mod Steps

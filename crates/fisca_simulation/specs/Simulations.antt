@@ -9,7 +9,7 @@ use Rattle.fisca_model.specs.Seen.{key_of, value_seen}
 use Rattle.fisca_model.specs.declared.value.Value.{Value as Input}
 use Rattle.fisca_model.specs.Values.{Key}
 use Rattle.fisca_key_semantics.specs.Dialogues.{Dialogue, ◌>>=◌}
-use Rattle.fisca_formula_semantics.specs.Meaning.{formula_means}
+use Rattle.fisca_typing.specs.Meaning.{formula_means}
 use Rattle.fisca_model.specs.Groups.{Groups, Point}
 use Rattle.fisca_model.specs.Periods.{fits}
 use Rattle.fisca_groups.specs.Grouped.{grouped}

@@ -10,7 +10,7 @@ use Rattle.fisca_model.specs.declared.key.Key.{Key as InputKey}
 use Rattle.fisca_model.specs.Values.{Value, Key}
 use Rattle.fisca_key_semantics.specs.Dialogues.{Dialogue, gives, fails, stuck, asks}
 use Rattle.fisca_model.specs.Tables.{variable_type}
-use Rattle.fisca_formula_semantics.specs.Safe.{is_of}
+use Rattle.fisca_typing.specs.Safe.{is_of}
 use Rattle.fisca_rules.specs.Rules.{Rules, known_by}
 use Rattle.fisca_rules.specs.Safety.{AreNeverStuck, DaysAndTextsHaveNoFormulas, DefaultsFit}
 use Rattle.fisca_situations.specs.Situations.{Situation}

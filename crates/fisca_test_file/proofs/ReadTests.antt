@@ -14,7 +14,7 @@ use Rattle.fisca_yaml.specs.Node.{Node, null}
 use Rattle.fisca_test_file.specs.Faults.{situation_told}
 use Rattle.fisca_test_file.specs.Read.{IsRead}
 use Rattle.fisca_test_file.specs.Tests.{Test}
-use Rattle.fisca_test_file.specs.Steps.Tests.{first_line, margins_in, name_in, outputs_in, shape_checked, situation_in, test_by, test_of}
+use Rattle.fisca_test_file.specs.Steps.Tests.{first_line, margins_in, name_in, outputs_in, shape_checked, situation_in, test_by, test_of, tested_outputs}
 
 told_ok : {X : Type 0} (r : Result X SituationFault) (x : X) → situation_told r ≡ Ok x → r ≡ Ok x
 told_ok (Ok y) x h = let same : y ≡ x = cc in ap Ok same
@@ -31,8 +31,8 @@ situation_read c line n s h = record {
 same_situation : (c : Tables) (line : ℕ) (n : Node) (s : Situation) (t : Test) → test_by c line n s ≡ Ok t → s ≡ t.situation
 unfolding test_by
 same_situation c line n s t h =
-    let step = then_ok (outputs_in c s.members line n) (λ os. Ok (record { name = name_in n; situation = s; margins = margins_in n; outputs = os })) t h in
-    let same : record { name = name_in n; situation = s; margins = margins_in n; outputs = step.0 } ≡ t = cc in
+    let step = then_ok (outputs_in c s.members line n) (λ os. Ok (record { name = name_in n; situation = s; margins = margins_in n; outputs = tested_outputs c n os })) t h in
+    let same : record { name = name_in n; situation = s; margins = margins_in n; outputs = tested_outputs c n step.0 } ≡ t = cc in
     ap (λ (x : Test). x.situation) same
 
 pub test_read : (c : Tables) (line : ℕ) (n : Node) (t : Test) → test_of c line n ≡ Ok t → IsRead c t.situation

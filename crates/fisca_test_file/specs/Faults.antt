@@ -5,7 +5,7 @@ use Rattle.fisca_inputs.specs.declared.fault.SituationFault.{SituationFault}
 use Rattle.fisca_expected.specs.declared.fault.OutputFault.{OutputFault}
 use Rattle.fisca_test_file.specs.declared.fault.TestFault.{TestFault}
 use Rattle.fisca_test_file.specs.declared.fault.TestKind.{TestKind}
-use Rattle.fisca_test_file.specs.declared.fault.TestKind.TheVariants.{BadTest, Situation, BadOutput, Memory}
+use Rattle.fisca_test_file.specs.declared.fault.TestKind.TheVariants.{BadTest, Situation, BadOutput, Memory, UseReform}
 use Rattle.fisca_test_file.specs.Steps.Faults.{situation_fault, output_fault}
 
 abbrev pub number_of : TestKind → ℕ
@@ -13,6 +13,7 @@ number_of BadTest = 1
 number_of (Situation k) = 2
 number_of BadOutput = 3
 number_of Memory = 4
+number_of UseReform = 5
 
 -- of a situation the name of its own fault
 abbrev pub name_of : TestKind → List ℕ
@@ -20,6 +21,7 @@ name_of BadTest = codes "BadTest"
 name_of (Situation k) = situation_name k
 name_of BadOutput = codes "BadOutput"
 name_of Memory = codes "Memory"
+name_of UseReform = codes "UseReform"
 
 -- A fault of a situation
 

@@ -21,10 +21,12 @@ pub enum TestKind {
     BadOutput,
     /// 4: a growth was refused.
     Memory,
+    /// 5: the test names reforms or extensions, which stand in folders of their own: the program takes them by its option `--reform`.
+    UseReform,
 }
 
 impl TestKind {
-    /// The number of the kind, from 1 to 4.
+    /// The number of the kind, from 1 to 5.
     pub fn number(self) -> u8
         ensures { result ≡ spec.number_of self }
     {
@@ -33,6 +35,7 @@ impl TestKind {
             TestKind::Situation(_) => 2,
             TestKind::BadOutput => 3,
             TestKind::Memory => 4,
+            TestKind::UseReform => 5,
         }
     }
 
@@ -45,6 +48,7 @@ impl TestKind {
             TestKind::Situation(kind) => kind.name(),
             TestKind::BadOutput => "BadOutput",
             TestKind::Memory => "Memory",
+            TestKind::UseReform => "UseReform",
         }
     }
 }

@@ -5,7 +5,7 @@ ghost use Rattle.fisca_test_file.specs.Outcomes.{Answers};
 ghost use Rattle.fisca_test_file.specs.Steps.Tests as spec;
 ghost use Rattle.fisca_yaml.specs.Views.{node, entries_view};
 
-use crate::fault::{TestFault, bad_test};
+use crate::fault::{TestFault, TestKind, bad_test};
 use crate::margins::margin_in;
 use fisca_columns::{are_columns, period_in};
 use fisca_yaml::{Entry, Tree};
@@ -20,8 +20,21 @@ fn is_accepted(key: &str, tree: &Tree<'_>) -> bool
         "period" => period_in(tree).is_some(),
         "name" | "description" => tree.as_text().is_some(),
         "absolute_error_margin" | "relative_error_margin" => margin_in(tree).is_some(),
-        "keywords" => are_columns(tree),
+        "keywords" | "only_variables" | "ignore_variables" => are_columns(tree),
         _ => false,
+    }
+}
+
+/// Why a key is not accepted, which stands on this line.
+fn key_fault(key: &str, line: usize) -> TestFault
+    ensures { result ≡ record { line = line; kind = spec.kind_of_key key.now } }
+{
+    match key {
+        "reforms" | "extensions" => TestFault {
+            line,
+            kind: TestKind::UseReform,
+        },
+        _ => bad_test(line),
     }
 }
 
@@ -31,7 +44,7 @@ fn check_keys(entries: &[Entry<'_>]) -> Result<(), TestFault>
 {
     for entry in entries {
         if !is_accepted(entry.key.as_str(), &entry.value) {
-            return Err(bad_test(entry.line));
+            return Err(key_fault(entry.key.as_str(), entry.line));
         }
     }
     Ok(())

@@ -108,6 +108,15 @@ fn name_in<'t>(tree: &'t Tree<'_>) -> Option<&'t str>
     found.as_text()
 }
 
+/// The outputs of the variables that a test compares.
+fn tested_outputs(tables: &Tables<'_>, tree: &Tree<'_>, outputs: Outputs) -> Outputs
+    ensures { result ≡ spec.tested_outputs tables.now (node tree.now) outputs }
+{
+    let only = tree.get("only_variables");
+    let ignored = tree.get("ignore_variables");
+    outputs.tested(tables, only, ignored)
+}
+
 /// The test with this situation.
 #[tactic(auto, unfolding(crate::specs::Steps::Tests::test_by))]
 fn test_by<'t>(
@@ -124,7 +133,7 @@ fn test_by<'t>(
         name: name_in(tree),
         situation,
         margins: margins_in(tree),
-        outputs,
+        outputs: tested_outputs(tables, tree, outputs),
     })
 }
 

@@ -175,12 +175,12 @@ fn draft_of<F: KeyFault + Drop, A: Answers<Fault = F> + Drop, M: SimulationBuild
 }
 
 /// Reads and works out the tests that a file says: a test, or a list of tests. A test is a map of `output`, which it has to have, and perhaps `name`, `description`
-/// (a scalar each), `keywords` (one or a list of them), `period`, `input`, `absolute_error_margin` and `relative_error_margin` (numbers from 0 up). The
+/// (a scalar each), `keywords` (one or a list of them), `only_variables` and `ignore_variables` (the same: names of the variables whose outputs alone are compared, or are not), `period`, `input`, `absolute_error_margin` and `relative_error_margin` (numbers from 0 up). The
 /// values of `input` and `output` without a period are of `period`; without an `input` there is one person of whom nothing is said. Each test is worked out
 /// once it is read, and then dropped. A report of at most 1 MiB is handed over once all tests are worked out; for a longer one all tests are read for
 /// their faults first, and then each is read and worked out again, and its lines are handed over as they are made. How many tests passed and failed is answered.
 ///
-/// Else the first fault, test by test, and nothing is handed over. `BadTest` of the first key that is unknown or has anything else, at its line; of a test without
+/// Else the first fault, test by test, and nothing is handed over. `BadTest` of the first key that is unknown or has anything else, and `UseReform` of `reforms` or `extensions`, at its line; of a test without
 /// `output`, at its first line; and of what is no map, at the line of its scalar or its item (1 for a whole file). Then that of the situation, as
 /// `Situation::read` tells; then `BadOutput`, as `read_outputs` tells. `Memory`, at line 0, comes only where a growth was refused: nothing is handed over
 /// then, or a proper beginning of the report; so it is where `Write` tells that the sink failed. (OpenFisca's tests in YAML; the report and the order of

@@ -1,6 +1,6 @@
 //! The rule files of a folder, over folders that a test makes up.
 
-use fisca_folder::{FolderEntry, FolderFault, RuleFolder, read_rules};
+use fisca_folder::{FolderEntry, FolderFault, RuleFolder, read_layers, read_rules, told_path};
 use std::alloc::{AllocError, Global};
 use std::test::Fail;
 
@@ -15,6 +15,10 @@ struct Made {
 
 impl RuleFolder for Made {
     ghost says = { λ _ _. ⊥ };
+
+    fn name(&self) -> &str {
+        "rules"
+    }
 
     fn entries(&self, path: &str, most: usize) -> Result<Option<Vec<FolderEntry>>, AllocError> {
         for (folder, names) in self.folders {
@@ -106,6 +110,81 @@ fn rule_files_are_read_in_order_of_their_paths(rt: HostRuntime) -> Result<(), Fa
     Ok(())
 }
 
+/// The paths and texts of the files of a folder with those of others laid over, each path as it is told, or what is told and which folder it is of.
+fn laid(alloc: Global, rules: &Made, reforms: &[Made]) -> Result<String, AllocError> {
+    let mut text = String::new(alloc);
+    match read_layers(alloc, rules, reforms) {
+        Ok(laid) => {
+            for file in laid.files.as_slice() {
+                text.push_str(told_path(laid.told.as_slice(), file.path()))?;
+                text.push('=')?;
+                text.push_str(file.text())?;
+                text.push(' ')?;
+            }
+            Ok(text)
+        }
+        Err(told) => {
+            let line = told.fault.line_below(alloc, "reform/")?;
+            let folder = told.folder;
+            format!(in alloc; "{line} ({folder})")
+        }
+    }
+}
+
+#[test]
+fn the_files_of_reforms_are_laid_over_those_of_the_rules(rt: HostRuntime) -> Result<(), Fail> {
+    let alloc = rt.alloc();
+    let rules = Made {
+        alloc,
+        folders: &[
+            ("", &["variables/"]),
+            ("variables", &["a.py", "b.py", "c.py", "d.py"]),
+        ],
+        files: &[
+            ("variables/a.py", b""),
+            ("variables/b.py", b"1"),
+            ("variables/c.py", b"2"),
+            ("variables/d.py", b"3"),
+        ],
+    };
+    assert_eq!(rt;
+        laid(alloc, &rules, &[])?.as_str(),
+        "variables/a.py= variables/b.py=1 variables/c.py=2 variables/d.py=3 "
+    );
+    let mut reforms = Vec::new(alloc);
+    reforms.push(Made {
+        alloc,
+        folders: &[
+            ("", &["variables/"]),
+            ("variables", &["b.py", "c.py", "e.py"]),
+        ],
+        files: &[
+            ("variables/b.py", b""),
+            ("variables/c.py", b"4"),
+            ("variables/e.py", b"5"),
+        ],
+    })?;
+    reforms.push(Made {
+        alloc,
+        folders: &[("", &["variables/"]), ("variables", &["e.py"])],
+        files: &[("variables/e.py", b"6")],
+    })?;
+    assert_eq!(rt;
+        laid(alloc, &rules, reforms.as_slice())?.as_str(),
+        "rules/variables/a.py= rules/variables/d.py=3 rules/variables/c.py=4 rules/variables/e.py=6 "
+    );
+    reforms.push(Made {
+        alloc,
+        folders: &[("", &["variables/"]), ("variables", &["e.py"])],
+        files: &[("variables/e.py", b"\xff")],
+    })?;
+    assert_eq!(rt;
+        laid(alloc, &rules, reforms.as_slice())?.as_str(),
+        "fisca: reform/variables/e.py: cannot read (3)"
+    );
+    Ok(())
+}
+
 #[test]
 fn a_file_where_a_folder_is_meant_is_left_out(rt: HostRuntime) -> Result<(), Fail> {
     let folder = Made {
@@ -186,6 +265,10 @@ struct Endless {
 
 impl RuleFolder for Endless {
     ghost says = { λ _ _. ⊥ };
+
+    fn name(&self) -> &str {
+        "rules"
+    }
 
     fn entries(&self, _path: &str, most: usize) -> Result<Option<Vec<FolderEntry>>, AllocError> {
         let mut entries = Vec::new(self.alloc);

@@ -1,12 +1,17 @@
+pub mod Answers
 pub mod Asks
 pub mod Calls
 pub mod Formulas
+pub mod Meaning
 pub mod Names
 pub mod Nodes
 pub mod Operations
 pub mod Parameters
 pub mod Periods
+pub mod Questions
+pub mod Safe
 pub mod Sizes
 pub mod Things
 pub mod Types
 pub mod Typing
+pub mod Wellformed

@@ -1,6 +1,6 @@
 -- The steps of code behind `Running`:
 -- What a machine has still to do, told with what comes after it.
-use Rattle.fisca_formula_semantics.specs.Answers.{arithmetic_of, logic_of, comparison_of, same_of}
+use Rattle.fisca_typing.specs.Answers.{arithmetic_of, logic_of, comparison_of, same_of}
 use Rattle.fisca_model.specs.Values.{Value}
 use Rattle.fisca_key_semantics.specs.Dialogues.{Dialogue}
 use Rattle.fisca_machine.specs.declared.pending.Operation.{Operation}

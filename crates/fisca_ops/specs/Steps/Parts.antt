@@ -4,7 +4,7 @@ use Rattle.fisca_num.specs.Number.{Number}
 use Rattle.fisca_num.specs.Operations.{quotient_of}
 use Rattle.fisca_model.specs.Values.{number}
 use Rattle.fisca_key_semantics.specs.Dialogues.{Dialogue, gives, computed}
-use Rattle.fisca_formula_semantics.specs.Questions.{twelve}
+use Rattle.fisca_typing.specs.Questions.{twelve}
 use Rattle.fisca_ops.specs.declared.questions.Share.{Share}
 use Rattle.fisca_ops.specs.declared.questions.Share.TheVariants as share
 

@@ -12,9 +12,9 @@ use Rattle.fisca_ast.specs.Steps.Contents.{content}
 use Rattle.fisca_symbols.specs.declared.choices.Choices.{Choices}
 use Rattle.fisca_symbols.specs.declared.entity.Entity.{Entity}
 use Rattle.fisca_symbols.specs.declared.variable.Variable.{Variable}
-use Rattle.fisca_names.specs.declared.fault.BuildFault.{BuildFault}
-use Rattle.fisca_names.specs.Clashes.{is_order}
-use Rattle.fisca_names.specs.Names.{Placed, placed_from, fault_at, told_at, names_from}
+use Rattle.fisca_rules.specs.declared.build_fault.BuildFault.{BuildFault}
+use Rattle.fisca_rules.specs.Clashes.{is_order}
+use Rattle.fisca_rules.specs.FirstPass.{Placed, placed_from, fault_at, told_at, names_from}
 use Rattle.fisca_attributes.specs.Steps.EntityForms.{entity_of}
 use Rattle.fisca_attributes.specs.Values.{bad_attribute, items}
 use Rattle.fisca_declarations.specs.declared.declared.Declared.{Declared}

@@ -2,8 +2,8 @@
 use Rattle.std.specs.Prelude.{ℕ, List, [], ◌∷◌, Result, Ok}
 use Rattle.fisca_num.specs.Results.{and_then}
 use Rattle.fisca_ast.specs.Modules.{Item}
-use Rattle.fisca_names.specs.declared.fault.BuildFault.{BuildFault}
-use Rattle.fisca_names.specs.Names.{told_at}
+use Rattle.fisca_rules.specs.declared.build_fault.BuildFault.{BuildFault}
+use Rattle.fisca_rules.specs.FirstPass.{told_at}
 use Rattle.fisca_declarations.specs.declared.attributes.Attributes.{Attributes}
 use Rattle.fisca_declarations.specs.declared.declared.Declared.{Declared}
 use Rattle.fisca_declarations.specs.declared.types.TypeLines.{TypeLines}

@@ -10,8 +10,8 @@ use Rattle.fisca_model.specs.declared.value_type.ValueType.{ValueType}
 use Rattle.fisca_typing.specs.Formulas as typing
 use Rattle.fisca_typing.specs.Names.{Names}
 use Rattle.fisca_model.specs.Tables.{Tables}
-use Rattle.fisca_names.specs.declared.fault.BuildFault.{BuildFault}
-use Rattle.fisca_names.specs.Names.{fault_at}
+use Rattle.fisca_rules.specs.declared.build_fault.BuildFault.{BuildFault}
+use Rattle.fisca_rules.specs.FirstPass.{fault_at}
 use Rattle.fisca_rules.specs.Build.{Whole}
 use Rattle.fisca_rules.specs.Steps.Build.{tables_of}
 use Rattle.fisca_declarations.specs.VariableForms.{Written}

@@ -9,7 +9,9 @@ use Rattle.fisca_columns.specs.Steps.Calc.{are_columns as are_texts, default_in,
 use Rattle.fisca_groups.specs.declared.entity_members.EntityMembers.{EntityMembers}
 use Rattle.fisca_num.specs.Number.{Number}
 use Rattle.fisca_expected.specs.Outputs.{Output}
+use Rattle.std.specs.List.{filter}
 use Rattle.fisca_expected.specs.Steps.Reading.{outputs_of}
+use Rattle.fisca_expected.specs.Steps.Tested.{is_tested}
 use Rattle.fisca_num.specs.Results.{and_then}
 use Rattle.fisca_situations.specs.Situations.{Situation}
 use Rattle.fisca_situations.specs.Steps.Situations.{situation_of}
@@ -20,7 +22,8 @@ use Rattle.fisca_yaml.specs.Node.{Node, null, scalar, list, map, Items, no_items
 use Rattle.fisca_test_file.specs.Faults.{outputs_told, situation_told}
 use Rattle.fisca_test_file.specs.Steps.Faults.{fault_at}
 use Rattle.fisca_test_file.specs.declared.fault.TestFault.{TestFault}
-use Rattle.fisca_test_file.specs.declared.fault.TestKind.TheVariants.{BadTest}
+use Rattle.fisca_test_file.specs.declared.fault.TestKind.{TestKind}
+use Rattle.fisca_test_file.specs.declared.fault.TestKind.TheVariants.{BadTest, UseReform}
 use Rattle.fisca_test_file.specs.declared.margins.Margins.{Margins}
 use Rattle.fisca_test_file.specs.Tests.{Test}
 
@@ -49,12 +52,18 @@ is_accepted key n =
     else (if bytes_eq key (codes "absolute_error_margin") then is_margin n
     else (if bytes_eq key (codes "relative_error_margin") then is_margin n
     else (if bytes_eq key (codes "keywords") then are_texts n
-    else (bytes_eq key (codes "description") && is_text n)))))))
+    else (if bytes_eq key (codes "only_variables") then are_texts n
+    else (if bytes_eq key (codes "ignore_variables") then are_texts n
+    else (bytes_eq key (codes "description") && is_text n)))))))))
+
+-- reforms and extensions are folders here, which the program takes
+abbrev pub kind_of_key : List ℕ → TestKind
+kind_of_key key = if bytes_eq key (codes "reforms") then UseReform else (if bytes_eq key (codes "extensions") then UseReform else BadTest)
 
 -- the first key that is not accepted is told of its line
 abbrev pub keys_checked : Entries → Result (Unit {0}) TestFault
 keys_checked no_entries = Ok tt
-keys_checked (entry key line n es) = if is_accepted key n then keys_checked es else fault_at line BadTest
+keys_checked (entry key line n es) = if is_accepted key n then keys_checked es else fault_at line (kind_of_key key)
 
 -- the first line of a test; of a map without keys the one that is given
 abbrev pub first_line : ℕ → Node → ℕ
@@ -90,9 +99,13 @@ margin_at key n = option_and_then margin_in (get key n)
 abbrev pub margins_in : Node → Margins
 margins_in n = record { absolute = margin_at (codes "absolute_error_margin") n; relative = margin_at (codes "relative_error_margin") n }
 
+-- the values of the variables that are compared
+abbrev pub tested_outputs : Tables → Node → List Output → List Output
+tested_outputs c n os = filter (λ o. is_tested c (get (codes "only_variables") n) (get (codes "ignore_variables") n) o.0.variable) os
+
 unfoldable pub test_by : Tables → ℕ → Node → Situation → Result Test TestFault
 test_by c line n s =
-    and_then (outputs_in c s.members line n) (λ os. Ok (record { name = name_in n; situation = s; margins = margins_in n; outputs = os }))
+    and_then (outputs_in c s.members line n) (λ os. Ok (record { name = name_in n; situation = s; margins = margins_in n; outputs = tested_outputs c n os }))
 
 -- of an item on the line
 unfoldable pub test_of : Tables → ℕ → Node → Result Test TestFault

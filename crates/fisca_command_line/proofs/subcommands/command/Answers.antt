@@ -11,7 +11,8 @@ returns-clause-app c =
     let four = c.in_ok-subcommand-4.ensures.shape c.in_ok-run.ensures.local ∙ ap₂ with_subcommand three (ap (λ (a : App). a.top) c.in_ok-run.ensures.app) in
     let five = c.in_ok-subcommand-5.ensures.shape c.in_ok-size.ensures.local ∙ ap₂ with_subcommand four (ap (λ (a : App). a.top) c.in_ok-size.ensures.app) in
     let six = c.in_ok-subcommand-6.ensures.shape c.in_ok-list.ensures.local ∙ ap₂ with_subcommand five (ap (λ (a : App). a.top) c.in_ok-list.ensures.app) in
-    IfOk-weaker c.subcommand-7.result _ _ (λ command h. h.shape c.in_ok-axes.ensures.local ∙ ap₂ with_subcommand six (ap (λ (a : App). a.top) c.in_ok-axes.ensures.app)) c.subcommand-7.ensures
+    let seven = c.in_ok-subcommand-7.ensures.shape c.in_ok-explain.ensures.local ∙ ap₂ with_subcommand six (ap (λ (a : App). a.top) c.in_ok-explain.ensures.app) in
+    IfOk-weaker c.subcommand-8.result _ _ (λ command h. h.shape c.in_ok-axes.ensures.local ∙ ap₂ with_subcommand seven (ap (λ (a : App). a.top) c.in_ok-axes.ensures.app)) c.subcommand-8.ensures
 
 pub returns-clause-local : goal.returns-clause-local
 returns-clause-local c =
@@ -21,4 +22,5 @@ returns-clause-local c =
     let four = c.in_ok-subcommand-4.ensures.globals ∙ ap₂ ◌||◌ three c.in_ok-run.ensures.local in
     let five = c.in_ok-subcommand-5.ensures.globals ∙ ap₂ ◌||◌ four c.in_ok-size.ensures.local in
     let six = c.in_ok-subcommand-6.ensures.globals ∙ ap₂ ◌||◌ five c.in_ok-list.ensures.local in
-    IfOk-weaker c.subcommand-7.result _ _ (λ command h. h.globals ∙ ap₂ ◌||◌ six c.in_ok-axes.ensures.local) c.subcommand-7.ensures
+    let seven = c.in_ok-subcommand-7.ensures.globals ∙ ap₂ ◌||◌ six c.in_ok-explain.ensures.local in
+    IfOk-weaker c.subcommand-8.result _ _ (λ command h. h.globals ∙ ap₂ ◌||◌ seven c.in_ok-axes.ensures.local) c.subcommand-8.ensures

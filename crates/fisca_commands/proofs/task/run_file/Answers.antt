@@ -2,7 +2,7 @@ use Rattle.std.proofs.Common.{◌≡◌, ◌∙◌, false, Result, Ok, Err, refl
 use Rattle.fisca_writer.specs.Steps.Sink.{one_more}
 use Rattle.fisca_writer.specs.declared.fault.RunEnd.{RunEnd}
 use Rattle.fisca_evaluator.specs.declared.counts.Counts.{Counts}
-use Rattle.fisca_rule_files.specs.Refusal.{is_write}
+use Rattle.fisca_rule_files.specs.Refusal.{is_write, paths_of}
 use Rattle.fisca_rule_files.specs.declared.refusal.Refusal.{Refusal}
 use Rattle.fisca_commands.specs.Ends.{end_of}
 use Rattle.fisca_commands.proofs.Endings.{counted}
@@ -19,7 +19,7 @@ pub returns-clause-failures : goal.returns-clause-failures
 returns-clause-failures g c =
     let same : is_write c.run_rules-answer.result ≡ is_write c.without_counts-end.result = written_alike c.run_rules-answer.result ∙ ap is_write (sym c.without_counts-end.ensures) in
     let failed = c.run_rules-answer.ensures.failures ∙ ap (λ failed. cond failed (one_more (g.S.RowSink.failures c.args.sink.now)) (g.S.RowSink.failures c.args.sink.now)) same in
-    counted c.args.path.now c.run_rules-answer.new.lacks (is_table c.args.options.now.form) (g.S.RowSink.taken c.run_rules-answer.new.sink) (g.S.RowSink.taken c.end_run.new.sink) c.without_counts-end.result c.end_run.result
+    counted (paths_of c.args.path.now c.args.told_paths.now) c.run_rules-answer.new.lacks (is_table c.args.options.now.form) (g.S.RowSink.taken c.run_rules-answer.new.sink) (g.S.RowSink.taken c.end_run.new.sink) c.without_counts-end.result c.end_run.result
     (g.S.RowSink.failures c.args.sink.now) (g.S.RowSink.failures c.run_rules-answer.new.sink) (g.S.RowSink.failures c.end_run.new.sink)
     c.end_run.ensures.ending failed c.end_run.ensures.failures
 

@@ -1,5 +1,5 @@
 use Rattle.std.proofs.Common.{◌≡◌, drop}
-use Rattle.fisca_formula_semantics.specs.Questions.{moved_all}
+use Rattle.fisca_typing.specs.Questions.{moved_all}
 use Rattle.fisca_ops.proofs.periods.moved_all.Given as goal
 
 -- the steps that are left lead from here to where all lead from the first period

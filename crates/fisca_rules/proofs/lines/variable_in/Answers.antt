@@ -4,8 +4,8 @@ use Rattle.fisca_ast.specs.Modules.{Item}
 use Rattle.fisca_ast.specs.declared.fault.FormulaKind.TheVariants.{Memory}
 use Rattle.fisca_declarations.specs.VariableForms.{Written, both_written}
 use Rattle.fisca_declarations.specs.Steps.VariableForms.{variable_of}
-use Rattle.fisca_names.specs.Names.{told_at}
-use Rattle.fisca_names.specs.declared.fault.BuildFault.{BuildFault}
+use Rattle.fisca_rules.specs.FirstPass.{told_at}
+use Rattle.fisca_rules.specs.declared.build_fault.BuildFault.{BuildFault}
 use Rattle.fisca_rules.specs.Build.{items_said}
 use Rattle.fisca_rules.proofs.Fitting.{variable_said}
 use Rattle.fisca_symbols.specs.declared.variable.Variable.{Variable}

@@ -2,7 +2,7 @@ use Rattle.std.proofs.Common.{◌≡◌, [], ◌∷◌, ◌++◌, List, rules, s
 use Rattle.std.proofs.lemmas.Result.{err_from_is_err_and}
 use Rattle.std.specs.Prelude.{map}
 use Rattle.std.specs.Vec.Iter.{into_iter_items}
-use Rattle.fisca_names.specs.Names.{placed_in}
+use Rattle.fisca_rules.specs.FirstPass.{placed_in}
 use Rattle.fisca_ast.specs.ModuleViews.{statement}
 use Rattle.fisca_ast.specs.declared.module.Statement.{Statement}
 use Rattle.fisca_rules.specs.Walk.{Reached}

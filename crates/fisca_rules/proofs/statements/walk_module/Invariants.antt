@@ -1,7 +1,7 @@
 use Rattle.std.proofs.Common.{◌≡◌, ◌++◌, length, map, List, Result}
 use Rattle.std.specs.Vec.Iter.{into_iter_items, into_iter_len}
-use Rattle.fisca_names.specs.Names.{Placed, placed_in}
-use Rattle.fisca_names.specs.declared.fault.BuildFault.{BuildFault}
+use Rattle.fisca_rules.specs.FirstPass.{Placed, placed_in}
+use Rattle.fisca_rules.specs.declared.build_fault.BuildFault.{BuildFault}
 use Rattle.fisca_ast.specs.ModuleViews.{statement}
 use Rattle.fisca_rules.specs.Build.{Found}
 use Rattle.fisca_rules.specs.Walk.{Reached}

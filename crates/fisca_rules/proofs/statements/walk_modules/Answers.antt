@@ -2,7 +2,7 @@ use Rattle.std.proofs.Common.{◌≡◌, [], ◌∷◌, suc, List, add-one, ap, 
 use Rattle.std.proofs.lemmas.Result.{err_from_is_err_and}
 use Rattle.std.specs.Prelude.{map}
 use Rattle.std.specs.Vec.Iter.{into_iter_items}
-use Rattle.fisca_names.specs.Names.{names_from, placed_from}
+use Rattle.fisca_rules.specs.FirstPass.{names_from, placed_from}
 use Rattle.fisca_ast.specs.ModuleViews.{statements}
 use Rattle.fisca_ast.specs.declared.module.Module.{Module}
 use Rattle.fisca_rules.specs.Build.{none_yet}

@@ -1,6 +1,6 @@
 use Rattle.std.proofs.Common.{◌≡◌, ◌+◌, [], length, map}
 use Rattle.std.specs.Vec.Iter.{into_iter_items, into_iter_len}
-use Rattle.fisca_names.specs.Names.{names_from, placed_from}
+use Rattle.fisca_rules.specs.FirstPass.{names_from, placed_from}
 use Rattle.fisca_ast.specs.ModuleViews.{statements}
 use Rattle.fisca_rules.specs.Build.{none_yet}
 use Rattle.fisca_rules.specs.Steps.Build.{found_from}

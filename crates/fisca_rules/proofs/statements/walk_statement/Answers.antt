@@ -1,5 +1,5 @@
 use Rattle.std.proofs.Common.{subst}
-use Rattle.fisca_names.specs.Seen.{TellsOne}
+use Rattle.fisca_rules.specs.Seen.{TellsOne}
 use Rattle.fisca_ast.specs.ModuleViews.{statement}
 use Rattle.fisca_rules.proofs.Walk.{one_on}
 use Rattle.fisca_rules.proofs.statements.walk_statement.Goals as goal

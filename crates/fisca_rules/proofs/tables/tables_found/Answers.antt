@@ -1,6 +1,6 @@
 use Rattle.std.proofs.Common.{◌≡◌, map, rules}
 use Rattle.std.proofs.lemmas.Result.{err_from_is_err_and}
-use Rattle.fisca_names.specs.Names.{placed_from}
+use Rattle.fisca_rules.specs.FirstPass.{placed_from}
 use Rattle.fisca_ast.specs.ModuleViews.{statements}
 use Rattle.fisca_rules.specs.Steps.Build.{declared_in}
 use Rattle.std.specs.Prelude.{Err}

@@ -6,7 +6,7 @@ use Rattle.fisca_rules.specs.Views.{dated}
 use Rattle.fisca_symbols.specs.Known.{tables as known}
 use Rattle.fisca_ast.specs.ModuleViews.{statements}
 use Rattle.fisca_symbols.specs.declared.tables.Tables.{Tables}
-use Rattle.fisca_rules.proofs.Built.{built, formulas_fault, tables_fault}
+use Rattle.fisca_rules.proofs.BuiltTables.{built, formulas_fault, tables_fault}
 use Rattle.fisca_rules.proofs.rule_set.RuleSet.build.Goals as goal
 
 pub returns-in_err-entities : goal.returns-in_err-entities

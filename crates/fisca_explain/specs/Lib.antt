@@ -1,0 +1,12 @@
+pub mod Below
+pub mod Explained
+pub mod Needs
+pub mod LineTexts
+pub mod Says
+pub mod KeyLines
+pub mod Origins
+pub mod Ends
+pub mod Columns
+pub mod Followed
+pub mod Lines
+pub mod Walks

@@ -1,5 +1,0 @@
-pub mod Answers
-pub mod Meaning
-pub mod Questions
-pub mod Safe
-pub mod Wellformed

@@ -17,7 +17,7 @@ seam (x ∷ xs) y ys = seam xs y ys
 
 further : {X : Type 0} (xs : List X) (n : ℕ) → slice_get xs (length xs + n) ≡ None
 further [] n = refl
-further (x ∷ xs) n = further xs n
+further (x ∷ xs) n = let step : length (x ∷ xs) + n ≡ suc (length xs + n) = omega arith in ap (slice_get (x ∷ xs)) step ∙ further xs n
 
 -- past the members nothing is changed
 none_left : (ps : List Person) (ks : List EntityMembers) (n : ℕ) (es : List Entity) → owns_from ps ks (length ks + n) es ≡ Ok ks
@@ -84,7 +84,7 @@ same_from ps es place done (k ∷ ks) (e ∷ rest) p h =
 
 -- from the first entity on
 pub all_kinds : (ps : List Person) (es : List Entity) (ks : List EntityMembers) → kinds_from ps es 0 [] ks ≡ owns_from ps ks 0 es
-all_kinds ps es ks = same_from ps es 0 [] ks es refl (λ i. refl)
+all_kinds ps es ks = same_from ps es 0 [] ks es refl (λ i. (let same : 0 + i ≡ i = omega arith in ap (slice_get es) same))
 
 -- one entity more
 pub kinds_step : (ps : List Person) (es : List Entity) (place next at : ℕ) (done news : List EntityMembers) (left more : List (Option EntityMembers)) (given : Option EntityMembers)

@@ -1,5 +1,5 @@
 -- The members of one entity: as they are told, or each person in a group of its own.
-use Rattle.std.specs.Prelude.{List, map, Option, option_map}
+use Rattle.std.specs.Prelude.{map, Option, option_map}
 use Rattle.fisca_groups.specs.declared.entity_members.EntityMembers.{EntityMembers}
 use Rattle.fisca_groups.specs.declared.home.Home.{Home}
 use Rattle.fisca_members.specs.declared.kind.Kind.{Kind}

@@ -110,8 +110,42 @@ fn section_behind(
     Ok(groups)
 }
 
+/// The groups of a section are read behind what is given of an entity with these roles.
+fn section_given(
+    alloc: Global,
+    roles: &Roles<'_>,
+    persons: &Persons<'_>,
+    given: &mut Option<EntityMembers>,
+    section: &Section<'_, '_>,
+) -> Result<(), MembersFault>
+    ensures { Leaves (given_or persons.now given.new) (groups_of (known_roles roles.now) persons.now (given_or persons.now given.old) (section_view section.now)) result }
+{
+    let before = given.take();
+    let groups = section_behind(alloc, roles, persons, before, section)?;
+    *given = Some(groups);
+    Ok(())
+}
+
+/// The groups of a section of a kind with these roles are read.
+#[tactic(auto, using(crate::proofs::Drafted::none_there))]
+fn section_at(
+    alloc: Global,
+    roles: &Roles<'_>,
+    persons: &Persons<'_>,
+    members: &mut Draft,
+    section: &Section<'_, '_>,
+) -> Result<(), MembersFault>
+    ensures { Leaves (drafted persons.now members.new) (spec.changed_at (drafted persons.now members.old) section.now.named.entity (λ k. groups_of (known_roles roles.now) persons.now k (section_view section.now))) result }
+{
+    let place = section.named.entity;
+    if place >= members.items.len() {
+        return Ok(());
+    }
+    let given = &mut members.items[place];
+    section_given(alloc, roles, persons, given, section)
+}
+
 /// The groups of a section are read; persons are read before.
-#[tactic(auto, using(crate::proofs::Drafted::changed_there, crate::proofs::Drafted::fault_there, crate::proofs::Drafted::none_there))]
 fn section_read(
     alloc: Global,
     entities: &[Entity<'_>],
@@ -121,17 +155,13 @@ fn section_read(
 ) -> Result<(), MembersFault>
     ensures { Leaves (drafted persons.now members.new) (spec.section_read (known entities.now) persons.now (drafted persons.now members.old) (section_view section.now)) result }
 {
-    let place = section.named.entity;
-    let Some(entity) = entities.get(place) else {
+    let Some(entity) = entities.get(section.named.entity) else {
         return Ok(());
     };
-    if entity.is_person || place >= members.items.len() {
+    if entity.is_person {
         return Ok(());
     }
-    let given = members.items[place].take();
-    let groups = section_behind(alloc, &entity.roles, persons, given, section)?;
-    members.items[place] = Some(groups);
-    Ok(())
+    section_at(alloc, &entity.roles, persons, members, section)
 }
 
 /// The groups of sections, from top to bottom.

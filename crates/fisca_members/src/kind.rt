@@ -123,7 +123,6 @@ impl Kind {
     }
 
     /// The persons of a group, in order, where these have groups of their own.
-    #[tactic(auto, using(crate::proofs::Retold::holders_in))]
     pub(crate) fn persons<'k>(&'k self, owners: &'k Told, group: u32) -> &'k [u32]
         ensures { result.now ≡ holders_from group 0 (kind_in owners.now self.now).homes }
     {

@@ -5,6 +5,7 @@ ghost use Rattle.fisca_symbols.specs.KnownEntities.{entities as known};
 ghost use Rattle.fisca_yaml.specs.Views.{node};
 ghost use Rattle.fisca_groups.specs.Grouped.{grouped};
 ghost use Rattle.fisca_groups.specs.Lookup as lookup;
+ghost use Rattle.fisca_members.specs.Owned.{kind_in};
 ghost use Rattle.fisca_members.specs.Steps.Drafts.{drafted};
 ghost use Rattle.fisca_members.specs.Steps.Members as spec;
 ghost use Rattle.fisca_members.specs.Outcomes.{Tells};
@@ -53,6 +54,18 @@ fn copies_of(alloc: Global, kinds: &[Kind]) -> Result<Vec<Kind>, AllocError>
         copies.push(copy).map_err(AllocError::from)?;
     }
     Ok(copies)
+}
+
+/// How many members these have, where they have groups of their own.
+fn counts_of(alloc: Global, owners: &Told, kinds: &[Kind]) -> Result<Vec<u32>, AllocError>
+    ensures { IfOk result (λ c. c.items ≡ lookup.counts_of (map (kind_in owners.now) kinds.now)) }
+{
+    let mut counts = Vec::with_capacity(alloc, kinds.len())?;
+    for kind in kinds {
+        let count = kind.names(owners).len() as u32;
+        counts.push(count).map_err(AllocError::from)?;
+    }
+    Ok(counts)
 }
 
 impl Members {
@@ -122,13 +135,7 @@ impl Members {
     pub fn counts(&self, alloc: Global) -> Result<Vec<u32>, AllocError>
         ensures { IfOk result (λ c. c.items ≡ lookup.counts_of self.now) }
     {
-        let mut counts = Vec::with_capacity(alloc, self.kinds.len())?;
-        for kind in self.kinds.as_slice() {
-            counts
-                .push(kind.names(&self.owners).len() as u32)
-                .map_err(AllocError::from)?;
-        }
-        Ok(counts)
+        counts_of(alloc, &self.owners, self.kinds.as_slice())
     }
 }
 

@@ -2,7 +2,7 @@
 use Rattle.std.proofs.Common.{◌≡◌, ℕ, zero, suc, ◌+◌, ◌-◌, ◌*◌, ◌<◌, pos, List, [], ◌∷◌, drop, length, map, Bool, true, false, cond, Option, Some, None, is_some, slice_get, refl, sym, ap, ◌∙◌, subst, arith, if◌then◌else◌, ◌&&◌, ◌||◌, option_map, inl, inr}
 use Rattle.std.specs.Prelude.{◌⊎◌, ◌==◌, Ok, Err, Result}
 use Rattle.std.specs.Cmp.{unsigned_ties}
-use Rattle.std.specs.List.{AllByRecursion, list_any, range_with_len}
+use Rattle.std.specs.List.{list_any, range_with_len}
 use Rattle.std.specs.Map.{lookup}
 use Rattle.std.specs.Option.{unwrap_or}
 use Rattle.std.specs.Ordering.{eq_by_cmp, int_eq, is_eq, nat_cmp, ordering_then}

@@ -6,7 +6,6 @@ ghost use Rattle.std.specs.Option.{unwrap_or};
 ghost use Rattle.fisca_inputs.specs.Entries as entries;
 ghost use Rattle.fisca_inputs.specs.Steps.Runs.{AreFilled, AreThere, IsFilled};
 ghost use Rattle.fisca_inputs.specs.Steps.Sharing as steps;
-ghost use Rattle.fisca_model.specs.declared.key.Key as declared;
 
 use crate::given::Given;
 use crate::hashed::Numbers;

@@ -1,4 +1,4 @@
-use Rattle.std.proofs.Common.{◌≡◌, ◌≢◌, ◌<◌, ◌≤◌, ℕ, drop, refl, subst, sym, arith, rules}
+use Rattle.std.proofs.Common.{◌≡◌, ◌≢◌, drop, refl, subst, sym, arith, rules}
 use Rattle.std.specs.Prelude.{Err}
 use Rattle.fisca_inputs.specs.Steps.Entries.{put_free, put_all}
 use Rattle.fisca_inputs.specs.Steps.Runs.{IsFilled}

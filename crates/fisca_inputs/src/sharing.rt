@@ -144,7 +144,8 @@ impl Inputs {
         Ok(())
     }
 
-    /// Puts the value of a given input for each of its parts that has none. Of many parts it is noted that all have values then.
+    /// Puts the value of a given input for each of its parts that has none. Of many parts, some of which had one, it is noted that all have
+    /// values then: so inputs that do not overlap cost no more.
     fn dispatch(
         &mut self,
         runs: &mut Numbers,
@@ -160,8 +161,11 @@ impl Inputs {
         if count < LONG {
             return self.put_all(given, unit, count, &given.value);
         }
+        let full = self.count().saturating_add(count as usize);
         self.put_long(runs, given, unit, count)?;
-        note_parts(runs, given, unit, count)?;
+        if self.count() < full {
+            note_parts(runs, given, unit, count)?;
+        }
         Ok(())
     }
 

@@ -8,7 +8,7 @@ use Rattle.fisca_inputs.proofs.inputs.Inputs.put_givens.Goals as goal
 pub loop-rank-preserved : goal.loop-rank-preserved
 loop-rank-preserved c =
     let rules = map rule_of c.args.variables.now in
-    let g = c.in-Some.given.now in
+    let g = c.in-Some.given.now.now in
     let old = c.loop-rank.self in
     let new = c.put_by_variable.new.self in
     let put = c.in_ok-put_by_variable.ensures in

@@ -12,6 +12,15 @@ export function scalars(text) {
   return found;
 }
 
+// leaves what ends at an entry at this column, and enters that: an item where it has no key
+function enter(open, column, key) {
+  const isItem = key === null;
+  while (open.length && (open.at(-1).column > column || (!isItem && open.at(-1).column === column))) open.pop();
+  const last = open.at(-1);
+  if (isItem && last?.isItem && last.column === column) last.key += 1;
+  else open.push({ column, key: key ?? 0, isItem });
+}
+
 const pathOf = open => open.map(it => it.key);
 
 // the entries that a line begins, and what stands behind the last of them
@@ -22,12 +31,7 @@ function blockLine(line, at, open, found) {
   for (;;) {
     const rest = cut.slice(column), dash = rest.match(/^- +|^-$/), key = dash ? null : rest.match(/^("[^"]*"|'[^']*'|[^\s#[\]{},"'][^#[\]{}]*?): +|^("[^"]*"|'[^']*'|[^\s#[\]{},"'][^#[\]{}]*?):$/);
     if (!dash && !key) break;
-    while (open.length && (open.at(-1).column > column || (open.at(-1).column === column && open.at(-1).isItem === !!dash && !dash) || (open.at(-1).column === column && open.at(-1).isItem && dash))) {
-      const last = open.pop();
-      if (dash && last.isItem && last.column === column) { open.push({ ...last, key: last.key + 1 }); break; }
-    }
-    if (dash) { if (!(open.at(-1)?.isItem && open.at(-1).column === column)) open.push({ column, key: 0, isItem: true }); }
-    else open.push({ column, key: plain(key[1] ?? key[2]), isItem: false });
+    enter(open, column, dash ? null : plain(key[1] ?? key[2]));
     column += (dash ?? key)[0].length;
     if (column >= cut.length) return;
   }
@@ -53,7 +57,10 @@ function flow(line, from, at, path, found) {
   let i = from + 1;
   for (let n = 0; i < line.length; n++) {
     while (/[\s,]/.test(line[i] ?? '')) i++;
-    if (line[i] === closes || i >= line.length) return i + 1;
+    if (line[i] === closes || i >= line.length) {
+      if (!n) found.push({ path, from: at + from, to: at + i + 1, text: line.slice(from, i + 1), isEmpty: true });
+      return i + 1;
+    }
     const key = closes === '}' ? line.slice(i).match(/^("[^"]*"|'[^']*'|[^,{}[\]"']+?):(?: +|$)/) : null;
     const before = i;
     i = flow(line, key ? i + key[0].length : i, at, [...path, key ? plain(key[1]) : n], found);

@@ -3,7 +3,7 @@ import { RuleWorker } from './rules.js';
 import { goesOn, refusal, shown, table, tests, values, variables } from './lines.js';
 import { archive, dropped, isRule, kindOf, opened, ruleFiles, save } from './folder.js';
 import { packed, unpacked } from './link.js';
-import { plot, series } from './plot.js';
+import { legend, plot, series } from './plot.js';
 import { ask, officeTexts, sentence } from './questions.js';
 import { changed, columns, inputs, runOver } from './situation.js';
 import { example } from './example.js';
@@ -80,13 +80,20 @@ function place() {
   text.setAttribute('aria-invalid', here ? 'true' : 'false');
 }
 
+// what the language's document says of the word: of rule files, of values, or of the other files
+function explanationsOf({ path, word }) {
+  const fits = heading => (path ? heading !== 'Faults of values' && isRule(path) === (heading === 'Words of rule files') : heading === 'Faults of values');
+  const all = explanations[word] ?? [], some = all.filter(([heading]) => fits(heading));
+  return (some.length ? some : all).map(([, text]) => text.replaceAll('`', '').replaceAll('**', ''));
+}
+
 function explain() {
   const here = known.refusal, word = $('word');
   if (!here) return word.replaceChildren();
   const title = made('strong', '', here.path ? `${here.path}, line ${here.line}: ${here.word} ${here.rest}` : `${here.word} ${here.rest}`);
   const go = made('button', '', 'Go to the line');
   go.onclick = () => show(here.path, here.line);
-  const said = (explanations[here.word] ?? []).map(([, text]) => made('p', '', text));
+  const said = explanationsOf(here).map(it => made('p', '', it));
   word.replaceChildren(title, ...(here.path && state.texts.has(here.path) ? [' ', go] : []), ...said);
 }
 
@@ -142,6 +149,7 @@ function drawValues(calc, before) {
   const head = made('tr');
   head.append(...['', 'of', 'in', state.before ? 'now' : 'value', ...(state.before ? ['before'] : [])].map(it => Object.assign(made('th', '', it), { scope: 'col' })));
   const grid = made('table');
+  if (!rows.length) return $('values').replaceChildren(...told(calc));
   grid.append(head, ...rows);
   if (!isCalculator) return $('values').replaceChildren(grid, ...told(calc));
   const results = all.filter(it => office.results[it.variable]), details = made('details');
@@ -167,7 +175,7 @@ function drawTests(test) {
     const item = made('li', it.passed ? 'ok' : 'failed', it.name);
     item.append(...it.why.map(line => made('small', '', line)));
     return item;
-  }), ...told(test));
+  }), ...(test?.told && refusal(test.told)?.path === own('test') ? told(test) : []));
 }
 
 // ---- runs
@@ -229,21 +237,25 @@ function drawPlot(now, before, { text, all }) {
     select.onchange = () => change(select.value);
     return select;
   };
+  const office = officeTexts(state.texts.get(OFFICE));
   if (state.column >= ys.length) state.column = 0;
   if (state.axis >= axes.length) state.axis = 0;
   const redraw = () => drawPlot(now, before, { text, all });
   $('choice').replaceChildren(choose(ys.map((name, i) => [i, label(name)]), state.column, 'What is drawn', value => { state.column = +value; redraw(); }), 'over',
-    all.length ? choose(all.map(it => [String(it.path), `${it.member} ${known.variables.get(it.variable).label} ${it.period ?? ''}`]), state.over, 'Over which input', value => { state.over = value; drawRun(); })
+    all.length ? choose(all.map(it => [String(it.path), `${office.members[it.member] ?? it.member}: ${known.variables.get(it.variable).label} ${it.period ?? ''}`]), state.over, 'Over which input', value => { state.over = value; drawRun(); })
       : choose(axes.map((axis, i) => [i, label(now.names[axis])]), state.axis, 'Over which axis', value => { state.axis = +value; redraw(); }));
   const x = axes[state.axis], y = 1 + count + state.column;
   if (x === undefined || !ys.length) return $('plot').replaceChildren(...told(now));
-  $('plot').replaceChildren(plot(series(now, x, y, axes), before ? series(before, x, y, axes) : new Map(), { x: label(now.names[x]), y: label(now.names[y]) }), ...told(now));
+  const lines = series(now, x, y, axes), old = before ? series(before, x, y, axes) : new Map();
+  $('plot').replaceChildren(plot(lines, old, { x: label(now.names[x]), y: label(now.names[y]) }), legend(lines, old), ...told(now));
 }
 
 // ---- the calculator
 
 function drawSituation() {
   const office = officeTexts(state.texts.get(OFFICE)), text = state.texts.get(own('calc')) ?? '';
+  $('values-title').textContent = office.result ?? 'Result';
+  $('questions-title').textContent = office.asked ?? 'Questions';
   if (office.title) document.querySelector('h1').textContent = document.title = office.title;
   $('state').textContent = known.refusal ? $('state').textContent : office.introduction ?? '';
   $('footer').textContent = office.footer ?? '';

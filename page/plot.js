@@ -47,8 +47,17 @@ export function plot(now, before, labels) {
   const line = (many, i, style) => svg.append(element('polyline', { points: many.map(it => `${x(it[0]).toFixed(1)},${y(it[1]).toFixed(1)}`).join(' '), class: `hue${i % HUES} ${style}` }));
   [...before.values()].forEach((many, i) => line(many, i, 'before'));
   [...now.values()].forEach((many, i) => line(many, i, 'now'));
-  [...now.keys()].forEach((key, i) => key && svg.append(element('text', { x: LEFT + 10, y: TOP + 10 + 15 * i, class: `hue${i % HUES} key` }, key)));
   return svg;
+}
+
+/** The names of the lines of a plot, in their colours, as a list; nothing where there is one line. */
+export function legend(now, before) {
+  const list = document.createElement('ul');
+  list.className = 'legend';
+  const item = (text, style) => list.append(Object.assign(document.createElement('li'), { className: style, textContent: text }));
+  if (now.size > 1) [...now.keys()].forEach((key, i) => item(key, `hue${i % HUES}`));
+  if (before.size) item('dashes: before', '');
+  return list;
 }
 
 function edges(numbers) {

@@ -67,6 +67,24 @@ def unknown(code, part):
     raise ValueError(f"bin/lowered.py: an instruction that it does not know: {code:#x} {part}")
 
 
+def short(data, at):
+    """An access to memory with its offset in as few bytes as it takes: the linker leaves ten, of which 32 bits have no use."""
+    align, place = number(data, at + 1)
+    offset, _ = number(data, place)
+    if offset >= 1 << 32:
+        raise ValueError("bin/lowered.py: an offset of more than 32 bits")
+    return bytes([data[at]]) + packed(align) + packed(offset)
+
+
+def constant(value):
+    """A constant of 32 bits: its sign is the highest bit of its last byte."""
+    out = bytearray(packed(value))
+    if out[-1] & 64:
+        out[-1] |= 128
+        out.append(0)
+    return b"\x41" + bytes(out)
+
+
 def limits(data, at):
     """Limits with 32-bit addresses in the place of those at a place, and the place behind."""
     flags = data[at]
@@ -103,10 +121,12 @@ class Scratch:
 def lowered_one(data, at, end, scratch):
     """An instruction with its address cut."""
     code, text = data[at], data[at:end]
-    if code in LOADS or code == 0x11:
-        return WRAP + text
+    if code in LOADS:
+        return WRAP + short(data, at)
     if code in STORES:
-        return scratch.cut_below(STORED[code]) + text
+        return scratch.cut_below(STORED[code]) + short(data, at)
+    if code == 0x11:
+        return WRAP + text
     if code == 0x3F:
         return text + EXTEND
     if code == 0x40:
@@ -143,9 +163,8 @@ def segments(data, has_memory_bytes):
         flags, at = number(data, at)
         if flags != 0 or data[at] != 0x42:
             raise ValueError("bin/lowered.py: a segment of another form")
-        end = behind(data, at + 1, 1)
-        # a constant of 64 bits has the bytes of one of 32
-        out += [data[start:at], b"\x41", data[at + 1:end]]
+        place, end = number(data, at + 1)
+        out += [data[start:at], constant(place)]
         size, at = number(data, end + 1)
         end_of_items = at + size if has_memory_bytes else behind(data, at, size)
         out.append(data[end:end_of_items])

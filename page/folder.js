@@ -1,7 +1,7 @@
 // The folder of a rule set: texts by their paths, opened, dropped in and saved.
 
 const LONGEST = 1 << 20;
-const isText = path => /\.(py|ya?ml)$/.test(path) && !/(^|\/)\./.test(path);
+export const isText = path => /\.(py|ya?ml)$/.test(path) && !/(^|\/)\./.test(path);
 
 /** Which files the commands read of a folder, in the order of their paths. */
 export const ruleFiles = texts => [...texts].filter(([path]) => isRule(path)).sort(([a], [b]) => (a < b ? -1 : 1));
@@ -14,10 +14,11 @@ export function kindOf(text) {
   return 'calc';
 }
 
-/** The texts of files, each with a path; what stands above `entities.py` is left out of the paths. */
+/** The texts of files, each with a path; what stands above `entities.py` is left out of the paths, or above the rule files of a reform. */
 async function texts(files) {
   const kept = files.filter(([path, file]) => isText(path) && file.size <= LONGEST);
-  const top = kept.map(([path]) => path.match(/^(.*\/)?entities\.py$/)).filter(found => found).map(found => found[1] ?? '').sort((a, b) => a.length - b.length)[0] ?? '';
+  const above = form => kept.map(([path]) => path.match(form)).filter(found => found).map(found => found[1] ?? '').sort((a, b) => a.length - b.length)[0];
+  const top = above(/^(.*\/)?entities\.py$/) ?? above(/^(.*?\/)??(?:variables|parameters)\//) ?? '';
   const found = new Map();
   for (const [path, file] of kept) if (path.startsWith(top)) found.set(path.slice(top.length), await file.text());
   return found;

@@ -1,5 +1,6 @@
 // Plots of a run: a column over an axis, one line for each value of a second one; of two rule sets side by side, the one before in dashes.
-import { number } from './lines.js';
+import { made } from './elements.js';
+import { number, shown } from './lines.js';
 
 const WIDTH = 640, HEIGHT = 300, LEFT = 64, BOTTOM = 40, TOP = 14, RIGHT = 14;
 const HUES = 6;
@@ -13,13 +14,13 @@ export function ticks(from, to) {
   return found;
 }
 
-/** The lines of a plot: the points of each value of the other axes, by the text of these. */
-export function series({ names, rows }, x, y, axes) {
-  const found = new Map();
+/** The lines of a plot: the points of each value of the other axes, by the text of these; each point with its texts. */
+export function series({ names, rows }, x, y, axes, labelOf) {
+  const found = new Map(), others = axes.filter(axis => axis !== x);
   for (const row of rows) {
-    const key = axes.filter(axis => axis !== x).map(axis => `${names[axis]} ${row[axis]}`).join(', ');
+    const key = others.map(axis => `${labelOf(names[axis])}: ${row[axis]}`).join(', ');
     if (!found.has(key)) found.set(key, []);
-    if (!Number.isNaN(number(row[y]))) found.get(key).push([number(row[x]), number(row[y])]);
+    if (!Number.isNaN(number(row[y]))) found.get(key).push([number(row[x]), number(row[y]), row[x], row[y]]);
   }
   return found;
 }
@@ -52,12 +53,29 @@ export function plot(now, before, labels) {
 
 /** The names of the lines of a plot, in their colours, as a list; nothing where there is one line. */
 export function legend(now, before) {
-  const list = document.createElement('ul');
-  list.className = 'legend';
-  const item = (text, style) => list.append(Object.assign(document.createElement('li'), { className: style, textContent: text }));
+  const list = made('ul', { className: 'legend' });
+  const item = (textContent, className) => list.append(made('li', { className, textContent }));
   if (now.size > 1) [...now.keys()].forEach((key, i) => item(key, `hue${i % HUES}`));
   if (before.size) item('dashes: before', '');
   return list;
+}
+
+/** The points of a plot as a table, for those who do not see it; made when it is opened. */
+export function points(now, before, names, title) {
+  const details = made('details', { className: 'points' }, made('summary', { textContent: title }));
+  details.ontoggle = () => { if (details.open && details.children.length === 1) details.append(tableOf(now, before, names)); };
+  return details;
+}
+
+function tableOf(now, before, names) {
+  const row = (kind, texts) => made('tr', {}, ...texts.map(textContent => made(kind, { textContent })));
+  const body = [];
+  for (const [key, all] of now) {
+    const old = new Map((before.get(key) ?? []).map(it => [it[2], it[3]]));
+    for (const [, , x, y] of all) body.push(row('td', [...(key ? [key] : []), shown(x), shown(y), ...(before.size ? [shown(old.get(x) ?? '')] : [])]));
+  }
+  const head = row('th', [...([...now.keys()][0] ? [''] : []), names.x, names.y, ...(before.size ? ['before'] : [])]);
+  return made('table', {}, head, ...body);
 }
 
 function edges(numbers) {

@@ -6,7 +6,8 @@ use Rattle.fisca_command_line.specs.CommandLine.{fisca_app}
 use Rattle.fisca_command_line.specs.Work.{IsWorkOf}
 use Rattle.fisca_command_line.specs.declared.task.Task.{Task}
 use Rattle.fisca_command_line.specs.declared.task.Work.TheVariants as work
-use Rattle.fisca_commands.specs.Ending.{IsTaskEnding, TaskOutcome}
+use Rattle.fisca_rule_files.specs.Ending.{TaskOutcome}
+use Rattle.fisca_commands.specs.Ending.{IsTaskEnding}
 use Rattle.fisca_web.specs.Message.{first_parts, files_of, part_of}
 use Rattle.fisca_web.specs.declared.reply.Reply.{Reply}
 
@@ -17,11 +18,11 @@ pub record Says (written : List ℕ) (outcome : TaskOutcome) (room : List ℕ) (
   pub told : reply.told ≡ length (unwrap_or outcome.told [])
   pub bytes : take (reply.written + reply.told) room ≡ written ++ unwrap_or outcome.told []
 
--- a page is told how a task ended over these files and this text, and what it wrote
+-- a page is told how a task ended over these files, whose paths are told as they are, and this text, and what it wrote
 pub record IsTaskReply (task : Task) (files : List Source) (text room : List ℕ) (reply : Reply) : Type 0 where
   pub written : List ℕ
   pub outcome : TaskOutcome
-  pub ending : IsTaskEnding task files text (Some []) (Some written) outcome
+  pub ending : IsTaskEnding task files [] text (Some []) (Some written) outcome
   pub says : Says written outcome room reply
 
 -- the words of the message ask for a task, and the page is told how it ended over the files and the text of the message

@@ -21,7 +21,8 @@ use std::alloc::Global;
 /// Runs the task of a message, and says whether it did.
 ///
 /// The parts of the message stand in `bytes`, each up to where `ends` says: so many words of a command line, of which the first is the program's own
-/// name, the text of the file that they name, no one's where they name none, and then the path and the text of each rule file, in any order.
+/// name, the text of the file that they name, no one's where they name none, and then the path and the text of each rule file, in any order. Where the
+/// words name reforms, the files are those that are left when these are laid over the rule set. Each path is told as it is.
 ///
 /// Where it did, what the task wrote stands at the beginning of `out`, behind it the line for standard error, and `reply` has the length of both and
 /// the exit status: they are what [`run_task`] promises of this task, these files and this text. Where it did not, [`Outcome`] tells why, as a number in
@@ -67,7 +68,7 @@ fn answer_task(
     ensures { result ≡ true → IsTaskReply task.now files.now text.now out.new reply.new }
 {
     let mut sink = MemorySink::new(alloc);
-    let ending = run_task(alloc, task, files, text, &mut sink);
+    let ending = run_task(alloc, task, files, &[], text, &mut sink);
     let written = sink.bytes().len();
     let line = line_of(&ending);
     if hand_over(&mut sink, line.as_bytes()).is_err() {

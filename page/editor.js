@@ -2,7 +2,7 @@
 import { $, button, made } from './elements.js';
 import { explanations } from './words.js';
 import { drawFiles } from './files.js';
-import { isRule } from './folder.js';
+import { isRule, kindOf } from './folder.js';
 import { edited, known, state } from './state.js';
 
 // the height of a line, and what stands above the first one
@@ -35,11 +35,17 @@ export function mark() {
   text.setAttribute('aria-invalid', here ? 'true' : 'false');
 }
 
-// what the language's document says of the word: of rule files, of values, or of the other files
+// the lists that may have the word of a refusal, the likeliest first: of a rule file, of another file, or of no file
+function listsOf(path) {
+  if (!path) return ['values', 'runs', 'explain', 'rules', 'axes'];
+  if (isRule(path)) return path.endsWith('.py') ? ['rules'] : ['yaml', 'rules'];
+  return [{ calc: 'calc', test: 'tests', run: 'runs' }[kindOf(state.texts.get(path) ?? '')], 'situations', 'yaml', 'rules'];
+}
+
+// what the word means and what to do, as `fisca help WORD` tells it
 function explanationsOf({ path, word }) {
-  const fits = heading => (path ? heading !== 'Faults of values' && isRule(path) === (heading === 'Words of rule files') : heading === 'Faults of values');
-  const all = explanations[word] ?? [], some = all.filter(([heading]) => fits(heading));
-  return (some.length ? some : all).map(([, text]) => text.replaceAll('`', '').replaceAll('**', '').replace(/\[([^\]]*)\]\([^)]*\)/g, '$1'));
+  const all = explanations[word] ?? {}, list = listsOf(path).find(it => all[it]);
+  return list ? all[list] : Object.values(all).flat();
 }
 
 /** Explains the word of the refusal, if there is one. */

@@ -29,11 +29,11 @@ export class Rules {
       const parts = message([...words, text, ...files.flat()]);
       let answer = this.asked(parts, words.length, 1 << 20);
       if (answer.size) answer = this.asked(parts, words.length, answer.size);
+      if (answer.status === 6) this.instance = null;
       return answer;
     } catch (fault) {
       this.instance = null;
-      const status = fault instanceof RangeError ? 6 : 7;
-      return { status, out: '', told: status === 6 ? OUT_OF_MEMORY : `fisca: ${fault.message}` };
+      return faultOf(fault);
     }
   }
 
@@ -60,6 +60,12 @@ export class Rules {
       taken.forEach(give_back);
     }
   }
+}
+
+// what is told where the module trapped, where the stack of the browser did not suffice, or where it gave no memory
+function faultOf(fault) {
+  const isStack = /stack|recursion/i.test(fault.message), isMemory = !isStack && fault instanceof RangeError;
+  return isMemory ? { status: 6, out: '', told: OUT_OF_MEMORY } : { status: 7, out: '', told: `fisca: the module stopped: ${fault.message}` };
 }
 
 /** What a page is told, as a program tells it. */

@@ -22,6 +22,7 @@ pub enum Outcome {
 }
 
 /// What a page is told beside the bytes: four numbers of eight bytes.
+#[derive(Debug, Drop)]
 #[repr(C)]
 pub struct Reply {
     /// The number of the outcome.

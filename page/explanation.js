@@ -73,7 +73,7 @@ export function opener(list) {
   const toggle = button('Open all', () => {
     const isOpen = inner.every(it => it.open);
     for (const it of all) it.open = !isOpen || !inner.includes(it);
-    toggle.textContent = isOpen ? 'Open all' : 'Close';
+    toggle.textContent = isOpen ? 'Open all' : 'Close all';
   });
   return [toggle];
 }

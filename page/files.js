@@ -9,7 +9,9 @@ const sorted = () => [...state.texts.keys()].sort((a, b) => isRule(a) - isRule(b
 
 export function drawFiles() {
   $('files').replaceChildren(...sorted().map(path => {
-    const item = button(path, () => { show(path); edited(); }, known.refusal?.path === path ? 'bad' : '');
+    const item = button('', () => { show(path); edited(); }, known.refusal?.path === path ? 'bad' : '');
+    // a path breaks behind its folders
+    item.append(...path.split(/(?<=\/)/).flatMap(part => [part, made('wbr')]));
     if (path === state.open) item.setAttribute('aria-current', 'true');
     return made('li', {}, item);
   }));

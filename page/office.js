@@ -20,9 +20,10 @@ export function officeTexts(text) {
   return found;
 }
 
-/** A value in words: of a truth value yes or no, of a number as the language writes it, with its unit. */
+/** A value in words: of a truth value yes or no, of a share (unit `/1`) a percentage, of another number as the language writes it, with its unit. */
 export function inWords(value, variable, office) {
   if (value === 'true' || value === 'false') return value === 'true' ? office.words.yes : office.words.no;
+  if (variable?.unit === '/1' && !Number.isNaN(number(value))) return percent(number(value), office.language);
   const unit = variable?.unit ? ` ${office.units[variable.unit] ?? variable.unit}` : '';
   return `${numeral(value, office.language)}${unit}`;
 }
@@ -35,6 +36,15 @@ function numeral(value, language) {
     return new Intl.NumberFormat(language, { minimumFractionDigits: value.includes('/') ? 2 : 0, maximumFractionDigits: 20 }).format(text);
   } catch {
     return text;
+  }
+}
+
+// a share of one
+function percent(share, language) {
+  try {
+    return new Intl.NumberFormat(language, { style: 'percent', maximumFractionDigits: 4 }).format(share);
+  } catch {
+    return `${100 * share} %`;
   }
 }
 

@@ -38,7 +38,7 @@ function leading(text, word) {
 export function drawWhy(now, before) {
   $('why').hidden = !now;
   if (!now) return $('why').replaceChildren();
-  const close = button('Close', () => { state.why = ''; edited(); });
+  const close = button('Hide', () => { state.why = ''; edited(); });
   const old = before ? [made('h3', { textContent: 'Before' }), ...explanation(before, $('why'))] : [];
   $('why').replaceChildren(made('h3', { textContent: `How ${state.why} comes about` }), close, ...explanation(now, $('why')), ...old);
 }

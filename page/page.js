@@ -52,9 +52,8 @@ async function answer() {
     drawResult(calc);
     drawReasons(why);
   } else {
-    const time = `${(performance.now() - start).toFixed(0)} ms`;
     $('state').className = check.status ? 'bad' : '';
-    $('state').textContent = check.status ? check.told : `${check.out.trim()} (${time})`;
+    $('state').textContent = check.status ? check.told : check.out.trim();
     drawFiles();
     mark();
     explain();
@@ -62,7 +61,9 @@ async function answer() {
     drawWhy(why, whyBefore);
     drawTests(test);
   }
-  document.body.dataset.answered = String(performance.now() - start);
+  const time = performance.now() - start;
+  $('time').textContent = isCalculator ? '' : `${time.toFixed(0)} ms`;
+  document.body.dataset.answered = String(time);
   drawRun(isCalculator);
 }
 
@@ -89,6 +90,8 @@ async function link() {
 async function start() {
   known.rules = new RuleWorker(await WebAssembly.compileStreaming(fetch('fisca.wasm')));
   document.body.classList.toggle('calculator', isCalculator);
+  // the result is told to a screen reader as it changes; to an author too much would change
+  if (isCalculator) $('values').setAttribute('aria-live', 'polite');
   addEventListener('edited', work);
   startEditor();
   startFiles();

@@ -8,7 +8,8 @@ import { Rules } from './worker.js';
 import { isRule } from './folder.js';
 import { laidOver } from './reform.js';
 
-const module_ = new WebAssembly.Module(readFileSync(process.env.FISCA_WASM ?? join(dirname(fileURLToPath(import.meta.url)), 'fisca.wasm')));
+const MODULE = join(dirname(fileURLToPath(import.meta.url)), '..', 'dist', 'page', 'fisca.wasm');
+const module_ = new WebAssembly.Module(readFileSync(process.env.FISCA_WASM ?? MODULE));
 // the options that take a word
 const TAKE = new Set(['--from', '--to', '--part', '--rows', '--decimals', '--format', '--keep', '--reform', '--depth']);
 

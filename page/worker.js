@@ -57,7 +57,7 @@ export class Rules {
       if (OUTCOMES[outcome] === 'no room') return { size: written + told };
       return answer(OUTCOMES[outcome], status, new Uint8Array(memory.buffer, out_at, size), written, told);
     } finally {
-      taken.forEach(give_back);
+      for (const at of taken) give_back(at);
     }
   }
 }

@@ -61,7 +61,10 @@ export async function open() {
   const page = (method, params) => send(method, params, sessionId);
   await page('Page.enable');
   await page('Target.setAutoAttach', { autoAttach: true, waitForDebuggerOnStart: false, flatten: true });
-  const close = () => { process_.kill(); setTimeout(() => rmSync(folder, { recursive: true, force: true, maxRetries: 3 }), 300); };
+  const close = () => {
+    process_.once('exit', () => rmSync(folder, { recursive: true, force: true, maxRetries: 5 }));
+    process_.kill();
+  };
   return { page, ...found, close, ...acts(page) };
 }
 

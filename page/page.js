@@ -37,16 +37,18 @@ function questions() {
     rules.task(['check', '.'], '', files), rules.task(['list', '.'], '', files), calc && rules.task(['calc', '.', calc], text, files),
     calc && state.before && rules.task(['calc', '.', calc], text, state.before), own('test') && !isCalculator && rules.task(['test', '.', own('test')], textOf('test'), files),
     explained(files), state.before && explained(state.before),
+    // a run is read whole, and none of its positions is worked out
+    own('run') && !isCalculator && rules.task(['run', '.', own('run'), '--to', '0'], textOf('run'), files),
   ];
 }
 
 async function answer() {
   const start = performance.now(), slow = setTimeout(() => { $('stop').hidden = false; }, 500);
-  const [check, list, calc, before, test, why, whyBefore] = await Promise.all(questions());
+  const [check, list, calc, before, test, why, whyBefore, run] = await Promise.all(questions());
   clearTimeout(slow);
   $('stop').hidden = true;
   if (!list.status) known.variables = variables(list.out);
-  known.refusal = [check, calc, test].map(it => (it && it.status > 1 ? refusal(it.told) : null)).find(it => it) ?? null;
+  known.refusal = [check, calc, test, run].map(it => (it && it.status > 1 ? refusal(it.told) : null)).find(it => it) ?? null;
   if (isCalculator) {
     drawQuestions();
     drawResult(calc);

@@ -2,7 +2,7 @@
 import { made } from './elements.js';
 import { number, shown } from './lines.js';
 
-const WIDTH = 640, HEIGHT = 300, LEFT = 64, BOTTOM = 40, TOP = 14, RIGHT = 14;
+const WIDTH = 640, HEIGHT = 300, LEFT = 64, BOTTOM = 40, TOP = 14, RIGHT = 24;
 const HUES = 6;
 
 /** Round values from one to another, some five. */

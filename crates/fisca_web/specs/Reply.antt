@@ -14,8 +14,8 @@ use Rattle.fisca_web.specs.declared.reply.Reply.{Reply}
 -- the bytes of a room say what was written, and behind it the line for standard error, if there is one
 pub record Says (written : List ℕ) (outcome : TaskOutcome) (room : List ℕ) (reply : Reply) : Type 0 where
   pub status : reply.status ≡ outcome.status
-  pub written : reply.written ≡ length written
-  pub told : reply.told ≡ length (unwrap_or outcome.told [])
+  pub count : reply.written ≡ length written
+  pub line : reply.told ≡ length (unwrap_or outcome.told [])
   pub bytes : take (reply.written + reply.told) room ≡ written ++ unwrap_or outcome.told []
 
 -- a page is told how a task ended over these files, whose paths are told as they are, and this text, and what it wrote
@@ -29,4 +29,4 @@ pub record IsTaskReply (task : Task) (files : List Source) (text room : List ℕ
 pub record IsReply (bytes ends : List ℕ) (words : ℕ) (room : List ℕ) (reply : Reply) : Type 0 where
   pub task : Task
   pub asked : IsWorkOf (subcommand_of fisca_app (first_parts bytes ends words)) (work.Task task)
-  pub reply : IsTaskReply task (files_of bytes ends words) (part_of bytes ends words) room reply
+  pub answered : IsTaskReply task (files_of bytes ends words) (part_of bytes ends words) room reply

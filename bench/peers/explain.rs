@@ -12,9 +12,9 @@ enum Cell<'a> {
     /// A text.
     Text(&'a str),
     /// A whole number.
-    Whole(i128),
+    Whole(i64),
     /// A number with decimal places: its digits, and how many of them are places.
-    Decimal(i128, usize),
+    Decimal(i64, usize),
     /// A month.
     Month(u16, u8),
     /// A day.
@@ -51,7 +51,7 @@ impl<'a> Cell<'a> {
             Cell::Text(text) => line.push_str(text),
             Cell::Whole(number) => write!(line, "{number}").unwrap(),
             Cell::Decimal(digits, places) => {
-                let unit = 10_i128.pow(places as u32);
+                let unit = 10_i64.pow(places as u32);
                 let sign = if digits < 0 { "-" } else { "" };
                 write!(line, "{sign}{}.{:0places$}", digits.abs() / unit, digits.abs() % unit).unwrap();
             }

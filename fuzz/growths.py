@@ -87,12 +87,14 @@ WRONG = [
 
 
 class Call(NamedTuple):
-    """A call: the command, the files of its rule set, the text of its own file, and further words of axes."""
+    """A call: the command, the files of its rule set, the text of its own file, further words of axes, and whether its
+    own file is named twice."""
 
     command: str
     rules: dict
     text: str = ""
     words: tuple = ()
+    twice: bool = False
 
 
 def household():
@@ -130,6 +132,7 @@ def calls():
         "explain": Call("explain", files, COLUMNS),
         "explain of scales": Call("explain", graded(files), PAY),
         "test": Call("test", files, TESTS),
+        "test of a file twice": Call("test", files, TESTS, twice=True),
         "size": Call("size", files, RUN),
         "list": Call("list", files),
         "check": Call("check", files),
@@ -160,7 +163,8 @@ def words_of(fuzz, call):
     folder, path = fuzz.room / "rules", fuzz.room / "file.yaml"
     common.put(folder, call.rules)
     path.write_text(call.text)
-    return [call.command, folder] if call.command in ("check", "list") else [call.command, folder, path]
+    own = [] if call.command in ("check", "list") else [path] * (2 if call.twice else 1)
+    return [call.command, folder, *own]
 
 
 def rest_of(fuzz, words, out):

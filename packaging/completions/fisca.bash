@@ -30,7 +30,7 @@ _fisca() {
       [=:]*) ((at++)) ;; # bash cuts words there: the next one belongs to the one before
       -*)
         case "$command $word" in
-          'check --reform' | 'calc --reform' | 'calc --decimals' | 'calc --format' | 'test --reform' | 'run --reform' | 'run --from' | 'run --to' | 'run --part' | 'run --rows' | 'run --decimals' | 'run --format' | 'size --reform' | 'list --reform' | 'list --format' | 'explain --reform' | 'explain --depth' | 'explain --format' | 'axes --keep' | 'axes --from' | 'axes --to' | 'axes --part' | 'axes --rows' | 'axes --decimals' | 'axes --format')
+          'check --reform' | 'calc --reform' | 'calc --decimals' | 'calc --format' | 'test --name' | 'test --reform' | 'run --reform' | 'run --from' | 'run --to' | 'run --part' | 'run --rows' | 'run --decimals' | 'run --format' | 'size --reform' | 'list --reform' | 'list --format' | 'explain --reform' | 'explain --depth' | 'explain --format' | 'axes --keep' | 'axes --from' | 'axes --to' | 'axes --part' | 'axes --rows' | 'axes --decimals' | 'axes --format')
             [[ ${COMP_WORDS[at + 1]} != = ]] || ((at++))
             ((++at < COMP_CWORD)) || wanted=$word
             ;;
@@ -41,6 +41,7 @@ _fisca() {
   done
   [[ $typed != [=:]* ]] || typed=
   if [[ $typed == -* && $wanted != -* ]]; then wanted=-; fi
+  [[ $command != test || $wanted == -* ]] || ((wanted = wanted < 1 ? wanted : 1))
   case "$command $wanted" in
     ' 0' | 'help 0')
       _fisca_words <<'END'
@@ -85,6 +86,7 @@ END
       ;;
     'test -')
       _fisca_words <<'END'
+--name    Run the tests whose names have TEXT
 --reform  Lay the files of a reform's folder over those of the rule set
 -h        Print help
 --help    Print help

@@ -8,7 +8,7 @@ function __fisca_at --argument-names command place
     set -l found ''
     set -l at 0
     set -l is_value no
-    set -l valued 'check --reform' 'calc --reform' 'calc --decimals' 'calc --format' 'test --reform' 'run --reform' 'run --from' 'run --to' 'run --part' 'run --rows' 'run --decimals' 'run --format' 'size --reform' 'list --reform' 'list --format' 'explain --reform' 'explain --depth' 'explain --format' 'axes --keep' 'axes --from' 'axes --to' 'axes --part' 'axes --rows' 'axes --decimals' 'axes --format'
+    set -l valued 'check --reform' 'calc --reform' 'calc --decimals' 'calc --format' 'test --name' 'test --reform' 'run --reform' 'run --from' 'run --to' 'run --part' 'run --rows' 'run --decimals' 'run --format' 'size --reform' 'list --reform' 'list --format' 'explain --reform' 'explain --depth' 'explain --format' 'axes --keep' 'axes --from' 'axes --to' 'axes --part' 'axes --rows' 'axes --decimals' 'axes --format'
     for word in $words
         if test $is_value = yes
             set is_value no
@@ -20,6 +20,7 @@ function __fisca_at --argument-names command place
             set at (math $at + 1)
         end
     end
+    test "$found" = test -a $at -gt 1; and set at 1
     test "$found" = "$command"; and test -z "$place" -o "$at" = "$place"
 end
 
@@ -64,6 +65,7 @@ complete -c fisca -n '__fisca_at calc' -l decimals -x -d 'Round numbers to N pla
 complete -c fisca -n '__fisca_at calc' -l format -x -d 'Write lines as tsv, csv or jsonl'
 complete -c fisca -n '__fisca_at calc' -l lines -d 'Take each line of FILE as a file of its own'
 complete -c fisca -n '__fisca_at calc' -s h -l help -d 'Print help'
+complete -c fisca -n '__fisca_at test' -l name -x -d 'Run the tests whose names have TEXT'
 complete -c fisca -n '__fisca_at test' -l reform -x -a '(__fish_complete_directories)' -d 'Lay the files of a reform\'s folder over those of the rule set'
 complete -c fisca -n '__fisca_at test' -s h -l help -d 'Print help'
 complete -c fisca -n '__fisca_at run' -l reform -x -a '(__fish_complete_directories)' -d 'Lay the files of a reform\'s folder over those of the rule set'

@@ -20,6 +20,7 @@ if TYPE_CHECKING:
     import pandas
 
 COUNTS = re.compile(r"entities (\d+), variables (\d+), parameters (\d+)\n")
+VERDICTS = re.compile(r"passed \d+, failed \d+")
 
 
 class Counts(NamedTuple):
@@ -32,11 +33,12 @@ class Counts(NamedTuple):
 
 class Verdict(NamedTuple):
     """Whether a test passed. Each detail is a line of the program on a value that is not as expected; there is none
-    of a test that passed."""
+    of a test that passed. `path` is that of its file, where there are several or a folder."""
 
     name: str
     passed: bool
     details: Tuple[str, ...]
+    path: Optional[str] = None
 
 
 class Rules:
@@ -238,13 +240,19 @@ class Rules:
         frame.attrs["more"] = found.more
         return frame
 
-    def test(self, said: Said) -> List[Verdict]:
-        """The verdicts on the tests of a file of `fisca test`, or on a list of tests, in their order.
+    def test(self, said: Said, *more: PathLike, name: Optional[str] = None) -> List[Verdict]:
+        """The verdicts on the tests of a file of `fisca test`, or on a list of tests, in their order, and behind them
+        on those of `more` files. Of a folder they are those of the files below it whose names end in `.yaml` or `.yml`.
 
-        A test that fails is no error. A value that cannot be worked out fails its test, and its detail says why.
-        ValueError where names with line breaks look as other tests do.
+        With `name` only the tests are run whose names have that text. A test that fails is no error. A value that
+        cannot be worked out fails its test, and its detail says why. ValueError where names with line breaks look as
+        other tests do.
         """
-        return verdicts_of(output_of(self._words("test"), file_of(said), good=(0, 1)))
+        named = [] if name is None else [f"--name={name}"]
+        words, behind = self._words("test", *named), [file_of(it).word for it in more]
+        text = output_of(words, file_of(said), good=(0, 1), behind=behind)
+        is_folder = isinstance(said, (str, os.PathLike)) and os.path.isdir(said)
+        return verdicts_of_files(text) if more or is_folder else verdicts_of(text)
 
 
 def places_of(decimals: Optional[int]) -> List[str]:
@@ -275,9 +283,38 @@ def float_of(text: str) -> Any:
     return float(text) if NUMBER.fullmatch(text) else value_of(text)
 
 
+def verdicts_of_files(text: str) -> List[Verdict]:
+    """The verdicts of the reports on several files, each below its path and with its counts as its last line, and behind
+    them the counts of all. ValueError where line breaks in names hide where a report ends."""
+    *lines, last = text.split("\n")[:-1] or [""]
+    found: List[Verdict] = []
+    while lines:
+        path, *lines = lines
+        for at in [it for it, line in enumerate(lines) if VERDICTS.fullmatch(line)]:
+            try:
+                verdicts = verdicts_of_report(lines[: at + 1])
+            except ValueError:
+                # a name with a line break, behind which the report goes on
+                continue
+            found += [it._replace(path=path) for it in verdicts]
+            lines = lines[at + 1 :]
+            break
+        else:
+            raise ValueError(f"no counts of the tests of {path}: a name has a line break")
+    passed = sum(it.passed for it in found)
+    if last != f"passed {passed}, failed {len(found) - passed}":
+        raise ValueError(f"'{last}', and not {len(found)} tests: a name has a line break")
+    return found
+
+
 def verdicts_of(text: str) -> List[Verdict]:
     """The verdicts of a report. ValueError where line breaks in names hide how many there are."""
-    *lines, last = text.split("\n")[:-1] or [""]
+    return verdicts_of_report(text.split("\n")[:-1] or [""])
+
+
+def verdicts_of_report(report: List[str]) -> List[Verdict]:
+    """The verdicts of the lines of a report. ValueError where line breaks in names hide how many there are."""
+    *lines, last = report
     found: List[Tuple[List[str], List[str]]] = []
     for line in lines:
         if re.match("ok |failed ", line) or not found:

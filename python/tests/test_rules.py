@@ -236,6 +236,30 @@ def test_names_of_tests_with_line_breaks(small):
         small.test([{**test, "name": "a\nok b"}])
 
 
+def test_tests_of_several_files_and_folders(small, tmp_path):
+    (tmp_path / "deep").mkdir()
+    first, second, other = tmp_path / "b.yaml", tmp_path / "deep" / "a.yml", tmp_path / "a.txt"
+    first.write_text("- {name: one, period: 2017-01, output: {salary: 0}}\n- {name: two, period: 2017-01, output: {salary: 1}}\n")
+    second.write_text("name: three\nperiod: 2017-01\noutput:\n  salary: 0\n")
+    other.write_text("no tests")
+    for found in (small.test(tmp_path), small.test(first, second)):
+        assert [(it.name, it.passed, it.path) for it in found] == [
+            ("one", True, str(first)),
+            ("two", False, str(first)),
+            ("three", True, str(second)),
+        ]
+    assert [it.path for it in small.test(first)] == [None, None]
+    assert small.test(tmp_path / "deep", name="t") == [("three", True, (), str(second))]
+
+
+def test_tests_by_name(small):
+    tests = [{"name": name, "period": "2017-01", "output": {"salary": 0}} for name in ("one", "two", "one more")]
+    unread = {"name": "other", "input": "none"}
+    assert [it.name for it in small.test([*tests, unread], name="one")] == ["one", "one more"]
+    assert small.test(tests, name="None") == []
+    assert [it.name for it in small.test(tests, name="")] == ["one", "two", "one more"]
+
+
 def test_a_folder_that_looks_like_an_option(small, tmp_path, monkeypatch):
     monkeypatch.chdir(tmp_path)
     (tmp_path / "small").rename(tmp_path / "--help")

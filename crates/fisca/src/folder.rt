@@ -43,10 +43,7 @@ impl<R: Files + AllocGlobal + Clone + Drop> RuleFolder for DiskFolder<'_, R> {
 
     fn entries(&self, path: &str, most: usize) -> Result<Option<Vec<FolderEntry>>, AllocError> {
         let whole = self.whole(path)?;
-        match retried(|| list(self.rt, whole.as_str(), most)) {
-            Ok(entries) => Ok(Some(entries)),
-            Err(error) => none_for(error.kind()),
-        }
+        entries_at(self.rt, whole.as_str(), most)
     }
 
     fn bytes(&self, path: &str, most: u64) -> Result<Option<Vec<u8>>, AllocError> {
@@ -68,6 +65,26 @@ fn retried<T, C: Fn() -> io::Result<T>>(call: C) -> io::Result<T>
         }
     }
     Err(io::Error::from(ErrorKind::TimedOut))
+}
+
+/// The first `most` entries of a folder at a path of this machine; `None` where it cannot be listed. Memory is its only error.
+pub fn entries_at<R: Files + AllocGlobal + Clone + Drop>(
+    rt: &R,
+    path: &str,
+    most: usize,
+) -> Result<Option<Vec<FolderEntry>>, AllocError> {
+    match retried(|| list(rt, path, most)) {
+        Ok(entries) => Ok(Some(entries)),
+        Err(error) => none_for(error.kind()),
+    }
+}
+
+/// Whether a path of this machine leads to a folder; `-` names standard input.
+pub fn is_folder<R: Files>(rt: &R, path: &str) -> bool {
+    match retried(|| fs::metadata(rt, path)) {
+        Ok(found) => path != "-" && found.is_dir(),
+        Err(_) => false,
+    }
 }
 
 /// The first `most` entries of a folder at a path of this machine.

@@ -5,11 +5,13 @@ mod folder;
 mod lines;
 mod output;
 mod terminal;
+mod tests;
 
 use clap::error::ErrorKind;
-use fisca_command_line::{LinesTask, RuleFolders, Task, Work, read_task};
-use fisca_commands::{Ending, LineSource, calc_lines, run_task};
+use fisca_command_line::{LinesTask, RuleFolders, Task, TestsTask, Work, read_task};
+use fisca_commands::{Ending, LineSource, calc_lines, run_task, run_test, run_tests};
 use fisca_folder::{FolderFault, LONGEST, LaidFiles, LayerFault, read_layers, text_of_file};
+use fisca_params::SourceFile;
 use fisca_words::Place;
 use fisca_writer::StreamSink;
 use folder::{DiskFolder, open_regular, read_named};
@@ -20,6 +22,7 @@ use std::io::{BufReader, BufWriter, Input, IsTerminal, Write};
 use std::process::ExitCode;
 use std::{env, io};
 use terminal::{OwnFile, Texts, help_on, shown_below};
+use tests::read_tests;
 
 /// The status of a command line that `clap` refused.
 const USAGE: u8 = 2;
@@ -64,6 +67,7 @@ fn run_words(rt: &HostRuntime, words: &[String]) -> u8 {
     match read_task(rt.alloc(), words) {
         Ok(Work::Task(task)) => run_task_of(rt, &task),
         Ok(Work::Lines(lines)) => run_lines(rt, &lines),
+        Ok(Work::Tests(tests)) => run_files(rt, &tests),
         Err(error) => print_text(rt, &error),
     }
 }
@@ -98,7 +102,6 @@ fn run_task_of(rt: &HostRuntime, task: &Task<'_>) -> u8 {
     match task {
         Task::Check { rules } | Task::List { rules, .. } => run_in(rt, task, rules, None),
         Task::Calc { rules, file, .. }
-        | Task::Test { rules, file }
         | Task::Run { rules, file, .. }
         | Task::Size { rules, file }
         | Task::Explain { rules, file, .. } => run_in(rt, task, rules, Some(*file)),
@@ -108,6 +111,7 @@ fn run_task_of(rt: &HostRuntime, task: &Task<'_>) -> u8 {
             Texts {
                 files: &[],
                 told: &[],
+                tests: &[],
                 own: own_file(task, ""),
             },
         ),
@@ -136,6 +140,7 @@ fn run_under<'x>(
             Texts {
                 files: laid.files.as_slice(),
                 told: laid.told.as_slice(),
+                tests: &[],
                 own: own_file(task, text.as_str()),
             },
         ),
@@ -148,7 +153,6 @@ fn own_file<'a>(task: &'a Task<'_>, text: &'a str) -> OwnFile<'a> {
     let (path, place) = match task {
         Task::Check { .. } | Task::List { .. } => ("", Place::Rules),
         Task::Calc { file, .. } => (*file, Place::Calc),
-        Task::Test { file, .. } => (*file, Place::Test),
         Task::Run { file, .. } | Task::Size { file, .. } => (*file, Place::Run),
         Task::Explain { file, .. } => (*file, Place::Explain),
         Task::Axes { .. } => ("", Place::Axes),
@@ -234,6 +238,83 @@ fn run_lines_of<L: LineSource>(
     finish(rt, sink, &ending)
 }
 
+/// Works out the tests of files and folders, and answers the exit status.
+fn run_files(rt: &HostRuntime, task: &TestsTask<'_>) -> u8 {
+    match read_folders(rt, &task.rules) {
+        Ok(laid) => run_files_under(rt, task, &laid),
+        Err(fault) => tell_layer(rt, &task.rules, &fault),
+    }
+}
+
+/// Works out the tests of files and folders over the files of a rule set, and answers the exit status.
+fn run_files_under(rt: &HostRuntime, task: &TestsTask<'_>, laid: &LaidFiles) -> u8 {
+    let paths = task.paths.as_slice();
+    match read_tests(rt, paths) {
+        Ok(tests) => run_files_over(rt, task, laid, tests.as_slice()),
+        Err(fault) => match paths.get(fault.folder) {
+            Some(path) => tell_fault(rt, path.as_str(), &fault.fault),
+            None => tell_fault(rt, "", &fault.fault),
+        },
+    }
+}
+
+/// Works out the tests of these files over the files of a rule set, and answers the exit status.
+fn run_files_over(
+    rt: &HostRuntime,
+    task: &TestsTask<'_>,
+    laid: &LaidFiles,
+    tests: &[SourceFile],
+) -> u8 {
+    let Ok(writer) = BufWriter::new(rt.alloc(), Output::new(rt)) else {
+        return tell(rt, OUT_OF_MEMORY, NO_MEMORY);
+    };
+    let mut sink = StreamSink::new(writer);
+    let ending = run_each(rt, task, laid, tests, &mut sink);
+    let status = finish(rt, sink, &ending);
+    let own = OwnFile {
+        path: "",
+        text: "",
+        place: Place::Test,
+    };
+    explain_ending(
+        rt,
+        status,
+        &ending,
+        Texts {
+            files: laid.files.as_slice(),
+            told: laid.told.as_slice(),
+            tests,
+            own,
+        },
+    );
+    status
+}
+
+/// Works out the tests of these files: of one that is named as a file as of a file, else as of several.
+fn run_each<W: Write + Drop>(
+    rt: &HostRuntime,
+    task: &TestsTask<'_>,
+    laid: &LaidFiles,
+    tests: &[SourceFile],
+    sink: &mut StreamSink<W>,
+) -> Ending {
+    let (files, told) = (laid.files.as_slice(), laid.told.as_slice());
+    if let ([path], [file]) = (task.paths.as_slice(), tests)
+        && file.path() == path.as_str()
+    {
+        return run_test(
+            rt.alloc(),
+            files,
+            told,
+            file.path(),
+            file.text(),
+            task.name,
+            sink,
+        );
+    }
+    run_tests(rt.alloc(), files, told, tests, task.name, sink)
+}
+
 /// Runs a task over these texts, and answers the exit status.
 fn run_over(rt: &HostRuntime, task: &Task<'_>, texts: Texts<'_>) -> u8 {
     let Ok(writer) = BufWriter::new(rt.alloc(), Output::new(rt)) else {
@@ -249,12 +330,17 @@ fn run_over(rt: &HostRuntime, task: &Task<'_>, texts: Texts<'_>) -> u8 {
         &mut sink,
     );
     let status = finish(rt, sink, &ending);
+    explain_ending(rt, status, &ending, texts);
+    status
+}
+
+/// Shows on a terminal what the line of an ending means that was told with this status.
+fn explain_ending(rt: &HostRuntime, status: u8, ending: &Ending, texts: Texts<'_>) {
     if let Some(line) = ending.line()
         && status == ending.status()
     {
         explain(rt, line, Some(texts));
     }
-    status
 }
 
 /// Hands over what still waits in a buffer, tells how the command ended, and answers the exit status.

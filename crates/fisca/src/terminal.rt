@@ -27,6 +27,8 @@ pub struct Texts<'a> {
     pub files: &'a [SourceFile],
     /// How their paths are told.
     pub told: &'a [ToldPath],
+    /// The files of tests, by their paths.
+    pub tests: &'a [SourceFile],
     /// The command's own file; its path is empty where it has none.
     pub own: OwnFile<'a>,
 }
@@ -37,6 +39,11 @@ impl<'a> Texts<'a> {
         for file in self.files {
             if told_path(self.told, file.path()) == path {
                 return Some((file.text(), Place::Rules));
+            }
+        }
+        for file in self.tests {
+            if file.path() == path {
+                return Some((file.text(), Place::Test));
             }
         }
         if self.own.path == path {

@@ -1,5 +1,5 @@
 -- Files make one rule set, and a text says one file under it; what is accepted is refused for want of memory alone.
-use Rattle.std.proofs.Common.{◌≡◌, ℕ, Bool, true, false, List, Some, Result, Ok, Err, sym, ap, subst, ◌∙◌, inl, inr, arith}
+use Rattle.std.proofs.Common.{◌≡◌, ℕ, Bool, true, false, List, Option, Some, Result, Ok, Err, sym, ap, subst, ◌∙◌, inl, inr, arith}
 use Rattle.fisca_columns.specs.Calc.{Calc, calc_of}
 use Rattle.fisca_commands.specs.Calc.{IsAsked, RefusesText}
 use Rattle.fisca_commands.specs.Forms.{is_asked}
@@ -22,6 +22,7 @@ use Rattle.fisca_rule_files.specs.declared.refusal.Refusal.TheVariants.{Memory}
 use Rattle.fisca_rules.specs.Rules.{Rules}
 use Rattle.fisca_rules.specs.Views.{rule_set}
 use Rattle.fisca_rules.specs.declared.rule_set.RuleSet.{RuleSet}
+use Rattle.fisca_run.specs.Named.{named}
 use Rattle.fisca_run_file.specs.RunFiles.{RunFile, run_file_of}
 use Rattle.fisca_test_file.specs.Steps.Tests.{tests_of}
 use Rattle.fisca_test_file.specs.Tests.{Test}
@@ -57,10 +58,10 @@ module _ (a b : RuleSet) (alike : AreAlike a b) (text : List ℕ) where
       let tree : one.0 ≡ two.0 = some_same one.0 two.0 (sym one.1 ∙ two.1) in
       ok_same x y (sym one.2 ∙ (same_calc a b alike one.0 ∙ (ap (calc_of b.tables) tree ∙ two.2)))
 
-  pub tests_once : (ts us : List Test) → SaysTests a text ts → SaysTests b text us → ts ≡ us
-  tests_once ts us one two =
+  pub tests_once : (name : Option (List ℕ)) (ts us : List Test) → SaysTests a text name ts → SaysTests b text name us → ts ≡ us
+  tests_once name ts us one two =
       let tree : one.0 ≡ two.0 = some_same one.0 two.0 (sym one.1 ∙ two.1) in
-      ok_same ts us (sym one.2 ∙ (same_tests a b alike one.0 ∙ (ap (tests_of b.tables) tree ∙ two.2)))
+      ok_same ts us (sym one.2 ∙ (same_tests a b alike (named name one.0) ∙ (ap (λ n. tests_of b.tables (named name n)) tree ∙ two.2)))
 
 named_if_once : (is : Bool) (n : Node) (xs ys : List (List ℕ)) → IsNamedIf is n xs → IsNamedIf is n ys → xs ≡ ys
 named_if_once true n xs ys one two = ok_same xs ys (sym one ∙ two)
@@ -126,9 +127,10 @@ module _ (a b : RuleSet) (alike : AreAlike a b) (text : List ℕ) (refusal : Ref
   test_tree ts m n same read (inl e) = e
   test_tree ts m n same read (inr told) = absurd (ok_err ts told.0 (sym (same_tests a b alike m ∙ (ap (tests_of b.tables) same ∙ read)) ∙ told.3))
 
-  pub memory_of_tests_text : (ts : List Test) → SaysTests b text ts → RefusesTests a text refusal → refusal ≡ Memory
-  memory_of_tests_text ts says (inl yaml) = memory_of_yaml text says.0 refusal says.1 yaml
-  memory_of_tests_text ts says (inr told) = test_tree ts told.0 says.0 (some_same told.0 says.0 (sym told.1 ∙ says.1)) says.2 told.2
+  pub memory_of_tests_text : (name : Option (List ℕ)) (ts : List Test) → SaysTests b text name ts → RefusesTests a text name refusal → refusal ≡ Memory
+  memory_of_tests_text name ts says (inl yaml) = memory_of_yaml text says.0 refusal says.1 yaml
+  memory_of_tests_text name ts says (inr told) =
+      test_tree ts (named name told.0) (named name says.0) (ap (named name) (some_same told.0 says.0 (sym told.1 ∙ says.1))) says.2 told.2
 
 pub memory_of_run : (files : List Source) (text : List ℕ) (rules : RuleSet) (f : RunFile) (refusal : Refusal) → IsAccepted files (rule_set rules) → SaysRun rules text f
     → RefusesRunning files text refusal → refusal ≡ Memory

@@ -71,8 +71,8 @@ pub fn accepted_lines_are_told()
 
 /// Law: so it is of `test_rules` and a file of tests.
 pub fn accepted_tests_are_told()
-    ensures { (files : List Source) (text : List ℕ) (t : Testing) → IsTesting files text t → (old new : Option (List ℕ)) (answer : Result Verdict Refusal)
-        → IsTest files text old new answer → IsTested t old new answer ⊎ ((answer ≡ Err Memory) × Keeps old new) }
+    ensures { (files : List Source) (text : List ℕ) (name : Option (List ℕ)) (t : Testing) → IsTesting files text name t → (old new : Option (List ℕ)) (answer : Result Verdict Refusal)
+        → IsTest files text name old new answer → IsTested t old new answer ⊎ ((answer ≡ Err Memory) × Keeps old new) }
 {}
 
 /// Law: what a run writes is a function of the texts and the options alone: its rows, their number and the names of their cells.
@@ -87,6 +87,6 @@ pub fn texts_determine_runs()
 pub fn texts_determine_lines_and_reports()
     ensures calc { (files : List Source) (text : List ℕ) (c d : Calculation) → IsCalculation files text c → IsCalculation files text d → (form : Option Form) (lead : Option ℕ)
         → lines_of d form lead ≡ lines_of c form lead }
-    ensures test { (files : List Source) (text : List ℕ) (t u : Testing) → IsTesting files text t → IsTesting files text u
+    ensures test { (files : List Source) (text : List ℕ) (name : Option (List ℕ)) (t u : Testing) → IsTesting files text name t → IsTesting files text name u
         → report_text (test_context_in u.rules) u.tests ≡ report_text (test_context_in t.rules) t.tests }
 {}

@@ -107,7 +107,13 @@ fn call<S: RowSink>(
             PLAIN,
             sink,
         ).err()),
-        [text] if command == "test" => Ok(test_rules(alloc, files, text.as_str(), sink).err()),
+        [text] if command == "test" => Ok(test_rules(
+            alloc,
+            files,
+            text.as_str(),
+            None,
+            sink,
+        ).err()),
         [] if command == "check" => Ok(check_rules(alloc, files, sink).err()),
         _ => Err(malformed()),
     }

@@ -58,25 +58,29 @@ axes_app = with_form (with_range (with_rule (with_rule (new_app (codes "axes")) 
 abbrev pub check_app : App
 check_app = with_rule (with_rule (new_app (codes "check")) (required_rule (codes "RULES"))) reform_rule
 
+-- the files and folders of tests: TESTS..
+abbrev pub tests_rule : Rule
+tests_rule = record (required_rule (codes "TESTS")) { action = Some Append; range = Some (record { start_inclusive = 1; end_inclusive = usize_max }) }
+
 -- a command over a rule set and a file: RULES FILE [--reform DIR]..
-abbrev pub with_files : Text → App → App
-with_files file app = with_rule (with_rule (with_rule app (required_rule (codes "RULES"))) (required_rule file)) reform_rule
+abbrev pub with_files : App → App
+with_files app = with_rule (with_rule (with_rule app (required_rule (codes "RULES"))) (required_rule (codes "FILE"))) reform_rule
 
 -- RULES FILE [--reform DIR].., the options of a form, and [--lines]
 abbrev pub calc_app : App
-calc_app = with_rule (with_form (with_files (codes "FILE") (new_app (codes "calc")))) (flag_rule (codes "lines"))
+calc_app = with_rule (with_form (with_files (new_app (codes "calc")))) (flag_rule (codes "lines"))
 
--- RULES TESTS [--reform DIR]..
+-- RULES TESTS.. [--name TEXT] [--reform DIR]..
 abbrev pub test_app : App
-test_app = with_files (codes "TESTS") (new_app (codes "test"))
+test_app = with_rule (with_rule (with_rule (with_rule (new_app (codes "test")) (required_rule (codes "RULES"))) tests_rule) (option_rule (codes "name"))) reform_rule
 
 -- RULES FILE [--reform DIR].., the options of a range and of a form, and [--keep-going]
 abbrev pub run_app : App
-run_app = with_rule (with_form (with_range (with_files (codes "FILE") (new_app (codes "run"))))) (flag_rule (codes "keep-going"))
+run_app = with_rule (with_form (with_range (with_files (new_app (codes "run"))))) (flag_rule (codes "keep-going"))
 
 -- RULES FILE [--reform DIR]..
 abbrev pub size_app : App
-size_app = with_files (codes "FILE") (new_app (codes "size"))
+size_app = with_files (new_app (codes "size"))
 
 -- RULES [--reform DIR].. and the options of a table
 abbrev pub list_app : App
@@ -85,7 +89,7 @@ list_app = with_table (with_rule (with_rule (new_app (codes "list")) (required_r
 -- RULES FILE COLUMN.. [--reform DIR].., [--depth N] and [--format FORM]
 abbrev pub explain_app : App
 explain_app =
-    with_rule (with_rule (with_rule (with_files (codes "FILE") (new_app (codes "explain"))) column_rule) (number_rule (codes "depth"))) (option_rule (codes "format"))
+    with_rule (with_rule (with_rule (with_files (new_app (codes "explain"))) column_rule) (number_rule (codes "depth"))) (option_rule (codes "format"))
 
 -- the program without its commands
 abbrev pub top_app : App

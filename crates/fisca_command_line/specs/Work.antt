@@ -6,6 +6,7 @@ use Rattle.fisca_command_line.specs.declared.task.Task.TheVariants as task
 use Rattle.fisca_command_line.specs.Asked.{explain_format_at, text_of, texts_of, is_set, AreOptions, IsForm, IsOptionalNumber}
 use Rattle.fisca_command_line.specs.declared.task.LinesTask.{LinesTask}
 use Rattle.fisca_command_line.specs.declared.task.RuleFolders.{RuleFolders}
+use Rattle.fisca_command_line.specs.declared.task.TestsTask.{TestsTask}
 use Rattle.fisca_command_line.specs.declared.task.Work.{Work}
 use Rattle.fisca_command_line.specs.declared.task.Work.TheVariants as work
 
@@ -31,11 +32,6 @@ IsCheckTask rows _ = ⊥
 abbrev pub IsCalcTask : List Row → Task → Type 0
 IsCalcTask rows (task.Calc rules file form) = AreFolders rows rules × (file.now ≡ text_of (codes "FILE") rows) × IsForm rows form
 IsCalcTask rows _ = ⊥
-
--- the task that the matches of `test` say
-abbrev pub IsTestTask : List Row → Task → Type 0
-IsTestTask rows (task.Test rules file) = AreFolders rows rules × (file.now ≡ text_of (codes "TESTS") rows)
-IsTestTask rows _ = ⊥
 
 -- the task that the matches of `run` say
 abbrev pub IsRunTask : List Row → Task → Type 0
@@ -66,15 +62,28 @@ IsExplainTask rows _ = ⊥
 abbrev pub IsLinesTask : List Row → LinesTask → Type 0
 IsLinesTask rows task = AreFolders rows task.rules × (task.file.now ≡ text_of (codes "FILE") rows) × IsForm rows task.form
 
+-- the task over files and folders of tests that the matches of `test` say
+abbrev pub IsTestsTask : List Row → TestsTask → Type 0
+IsTestsTask rows task =
+    AreFolders rows task.rules × (map (λ path. string_bytes path) task.paths.items ≡ texts_of (codes "TESTS") rows) × (option_map (λ text. text.now) task.name ≡ first_of (codes "name") rows)
+
 -- the work is a task of this kind
 abbrev pub IsTask : (Task → Type 0) → Work → Type 0
 IsTask kind (work.Task task) = kind task
 IsTask kind (work.Lines lines) = ⊥
+IsTask kind (work.Tests tests) = ⊥
+
+-- the work that the matches of `test` say
+abbrev pub IsTestsWork : List Row → Work → Type 0
+IsTestsWork rows (work.Task task) = ⊥
+IsTestsWork rows (work.Lines lines) = ⊥
+IsTestsWork rows (work.Tests tests) = IsTestsTask rows tests
 
 -- the work that the matches of `calc` say: over lines where the flag is set
 abbrev pub IsCalcWork : List Row → Work → Type 0
 IsCalcWork rows (work.Task task) = (is_set (first_of (codes "lines") rows) ≡ false) × IsCalcTask rows task
 IsCalcWork rows (work.Lines lines) = (is_set (first_of (codes "lines") rows) ≡ true) × IsLinesTask rows lines
+IsCalcWork rows (work.Tests tests) = ⊥
 
 -- the work of the command with this name and these matches
 abbrev pub IsWorkOf : Option (Text × List Row) → Work → Type 0
@@ -82,7 +91,7 @@ IsWorkOf None w = ⊥
 IsWorkOf (Some command) w =
     ((command.0 ≡ codes "check") × IsTask (IsCheckTask command.1) w)
     ⊎ (((command.0 ≡ codes "calc") × IsCalcWork command.1 w)
-    ⊎ (((command.0 ≡ codes "test") × IsTask (IsTestTask command.1) w)
+    ⊎ (((command.0 ≡ codes "test") × IsTestsWork command.1 w)
     ⊎ (((command.0 ≡ codes "run") × IsTask (IsRunTask command.1) w)
     ⊎ (((command.0 ≡ codes "size") × IsTask (IsSizeTask command.1) w)
     ⊎ (((command.0 ≡ codes "list") × IsTask (IsListTask command.1) w)

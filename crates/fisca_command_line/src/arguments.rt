@@ -4,14 +4,14 @@ ghost use Rattle.std.specs.Prelude.{◌≡◌, false, IfOk, codes};
 ghost use Rattle.clap.specs.declared.builder.command.Command.TheViews.{out-Command};
 ghost use Rattle.clap.specs.Walk.{rule_of};
 ghost use Rattle.clap.specs.Simple.{app_of};
-ghost use Rattle.fisca_command_line.specs.CommandLine.{axis_rule, column_rule, flag_rule, number_rule, option_rule, places_rule, reform_rule, required_rule, with_files, with_form, with_range, with_table};
+ghost use Rattle.fisca_command_line.specs.CommandLine.{axis_rule, column_rule, flag_rule, number_rule, option_rule, places_rule, reform_rule, required_rule, tests_rule, with_files, with_form, with_range, with_table};
 
 use crate::help::{
     AXIS_HELP, AXIS_LONG, COLUMN_HELP, COLUMN_LONG, DECIMALS_HELP, DECIMALS_LONG, DEPTH_HELP,
     DEPTH_LONG, EXPLAIN_FORMAT_HELP, EXPLAIN_FORMAT_LONG, FORMAT_HELP, FORMAT_LONG, FROM_HELP,
     FROM_LONG, HEADER_HELP, HEADER_LONG, KEEP_GOING_HELP, KEEP_GOING_LONG, KEEP_HELP, KEEP_LONG,
-    LINES_HELP, LINES_LONG, PART_HELP, PART_LONG, REFORM_HELP, REFORM_LONG, ROWS_HELP, RULES_HELP,
-    TO_HELP, TO_LONG,
+    LINES_HELP, LINES_LONG, NAME_HELP, NAME_LONG, PART_HELP, PART_LONG, REFORM_HELP, REFORM_LONG,
+    ROWS_HELP, RULES_HELP, TESTS_HELP, TESTS_LONG, TO_HELP, TO_LONG,
 };
 use clap::builder::ValueParser;
 use clap::{Arg, ArgAction, Command, value_parser};
@@ -50,21 +50,43 @@ pub fn reform_option<'a>(alloc: Global) -> Arg<'a>
         .long_help(REFORM_LONG)
 }
 
-/// A command with a rule set, the file of this name, and the reforms.
+/// A command with a rule set, a file, and the reforms.
 pub fn with_files<'a>(
     alloc: Global,
     command: Command<'a>,
-    file: &'a str,
     help: &'a str,
 ) -> Result<Command<'a>, AllocError>
     requires { (out-Command command).has_globals ≡ false }
-    ensures app { IfOk result (λ made. app_of made ≡ with_files file.entry.now (app_of command.entry)) }
+    ensures app { IfOk result (λ made. app_of made ≡ with_files (app_of command.entry)) }
     ensures local { IfOk result (λ made. (out-Command made).has_globals ≡ false) }
 {
     let rules = required(alloc, "RULES", RULES_HELP);
-    let own = required(alloc, file, help);
+    let own = required(alloc, "FILE", help);
     let reform = reform_option(alloc);
     command.arg(rules)?.arg(own)?.arg(reform)
+}
+
+/// The files and folders of tests.
+pub fn tests_argument<'a>(alloc: Global) -> Arg<'a>
+    ensures rule { rule_of result ≡ tests_rule }
+    ensures local { result.global ≡ false }
+{
+    required(alloc, "TESTS", TESTS_HELP)
+        .action(ArgAction::Append)
+        .num_args(1..)
+        .long_help(TESTS_LONG)
+}
+
+/// The option `--name`.
+pub fn name_option<'a>(alloc: Global) -> Arg<'a>
+    ensures rule { rule_of result ≡ option_rule (codes "name") }
+    ensures local { result.global ≡ false }
+{
+    Arg::new(alloc, "name")
+        .long("name")
+        .value_name("TEXT")
+        .help(NAME_HELP)
+        .long_help(NAME_LONG)
 }
 
 /// The axes of `axes`.

@@ -86,10 +86,10 @@ Exit status:
 pub const TEST_ABOUT: &str = "Run tests of rules";
 
 pub const TEST_LONG: &str =
-    "Run the tests of a file, and tell of each whether it passed: ok NAME, or failed NAME and below it a
-line for each value that is not as expected. The last line is: passed P, failed F.
+    "Run the tests of files and folders, and tell of each whether it passed: ok NAME, or failed NAME and
+below it a line for each value that is not as expected. The last line is: passed P, failed F.
 
-It reads the rule files of the folder as 'fisca check' does, and then the file, a test or a list of
+It reads the rule files of the folder as 'fisca check' does, and then each file, a test or a list of
 tests. Each is a map of these keys, of which only output has to be there:
 
 name, description, keywords   what the test is about; one without a name is told by its number
@@ -102,7 +102,8 @@ absolute_error_margin         how far a number may be off
 relative_error_margin         how far, as a share of the expected number
 
 Where there are both margins, both hold. What is refused is told by one line on standard error,
-such as fisca: PATH:LINE: FAULT, and no test is run before all are read.";
+such as fisca: PATH:LINE: FAULT, and no test of a file is run before all of it are read. The first
+file that is refused ends the run.";
 
 pub const TEST_EXAMPLE: &str = "Example:
   fisca test examples/housing examples/housing/tests.yaml";
@@ -122,7 +123,7 @@ Exit status:
   0  done
   1  a test failed
   2  the command line is wrong
-  3  a rule file or the file of the tests is refused
+  3  a rule file or a file of tests is refused
   5  a file could not be read, or the output could not be written
   6  out of memory";
 
@@ -281,7 +282,19 @@ text   for readers
 jsonl  an object of JSON in each line, with the keys depth, kind (key, parameter or scale), name,
        member, period, base, value, fault, source, since, file, line, unit, label and reference";
 
-pub const TESTS_HELP: &str = "The file of the tests, or - for standard input";
+pub const TESTS_HELP: &str = "Files of tests, or folders of them, or - for standard input";
+
+pub const TESTS_LONG: &str = "Files of tests, or folders of them, or - for standard input
+
+In a folder the files whose names end in .yaml or .yml are taken, in eight levels of folders, in order
+of their paths. Of a folder, and of several files, the path of each file stands above its report, and
+the last line has the count of all.";
+
+pub const NAME_HELP: &str = "Run the tests whose names have TEXT";
+
+pub const NAME_LONG: &str = "Run the tests whose names have TEXT
+
+The others are as if they did not stand in their file.";
 
 pub const RUN_FILE_HELP: &str =
     "The file that says the grid and what is worked out, or - for standard input";

@@ -10,4 +10,4 @@ mod subcommands;
 mod task;
 
 pub use options::{RunOptions, TableForm};
-pub use task::{LinesTask, RuleFolders, Task, Work, read_task};
+pub use task::{LinesTask, RuleFolders, Task, TestsTask, Work, read_task};

@@ -7,8 +7,8 @@ ghost use Rattle.fisca_command_line.specs.CommandLine.{axes_app, calc_app, check
 
 use crate::arguments::{
     axis_argument, column_argument, depth_option, explain_format_option, keep_going_option,
-    keep_option, lines_option, reform_option, required, with_files, with_form, with_range,
-    with_table,
+    keep_option, lines_option, name_option, reform_option, required, tests_argument, with_files,
+    with_form, with_range, with_table,
 };
 use crate::help::{
     ABOUT, AXES_ABOUT, AXES_EXAMPLE, AXES_EXAMPLES, AXES_LONG, CALC_ABOUT, CALC_EXAMPLE, CALC_LONG,
@@ -16,7 +16,6 @@ use crate::help::{
     EXPLAIN_LONG, EXPLAIN_MORE, FILE_HELP, LIST_ABOUT, LIST_EXAMPLE, LIST_LONG, LIST_MORE,
     RULES_HELP, RUN_ABOUT, RUN_EXAMPLE, RUN_FILE_HELP, RUN_LONG, RUN_MORE, SIZE_ABOUT,
     SIZE_EXAMPLE, SIZE_LONG, SIZE_MORE, STATUSES, TEST_ABOUT, TEST_EXAMPLE, TEST_LONG, TEST_MORE,
-    TESTS_HELP,
 };
 use clap::Command;
 use std::alloc::{AllocError, Global};
@@ -84,7 +83,7 @@ pub fn calc_command<'a>(alloc: Global) -> Result<Command<'a>, AllocError>
     ensures local { IfOk result (λ command. (out-Command command).has_globals ≡ false) }
 {
     let lines = lines_option(alloc);
-    let command = with_files(alloc, calc_page(alloc), "FILE", FILE_HELP)?;
+    let command = with_files(alloc, calc_page(alloc), FILE_HELP)?;
     with_form(alloc, command)?.arg(lines)
 }
 
@@ -105,7 +104,14 @@ fn test_command<'a>(alloc: Global) -> Result<Command<'a>, AllocError>
     ensures app { IfOk result (λ command. app_of command ≡ test_app) }
     ensures local { IfOk result (λ command. (out-Command command).has_globals ≡ false) }
 {
-    with_files(alloc, test_page(alloc), "TESTS", TESTS_HELP)
+    let rules = required(alloc, "RULES", RULES_HELP);
+    let (tests, name) = (tests_argument(alloc), name_option(alloc));
+    let reform = reform_option(alloc);
+    test_page(alloc)
+        .arg(rules)?
+        .arg(tests)?
+        .arg(name)?
+        .arg(reform)
 }
 
 /// The command `run` with its help, and no arguments yet.
@@ -126,7 +132,7 @@ pub fn run_command<'a>(alloc: Global) -> Result<Command<'a>, AllocError>
     ensures local { IfOk result (λ command. (out-Command command).has_globals ≡ false) }
 {
     let going = keep_going_option(alloc);
-    let command = with_files(alloc, run_page(alloc), "FILE", RUN_FILE_HELP)?;
+    let command = with_files(alloc, run_page(alloc), RUN_FILE_HELP)?;
     let command = with_range(alloc, command)?;
     with_form(alloc, command)?.arg(going)
 }
@@ -148,7 +154,7 @@ fn size_command<'a>(alloc: Global) -> Result<Command<'a>, AllocError>
     ensures app { IfOk result (λ command. app_of command ≡ size_app) }
     ensures local { IfOk result (λ command. (out-Command command).has_globals ≡ false) }
 {
-    with_files(alloc, size_page(alloc), "FILE", RUN_FILE_HELP)
+    with_files(alloc, size_page(alloc), RUN_FILE_HELP)
 }
 
 /// The command `list` with its help, and no arguments yet.
@@ -193,7 +199,7 @@ pub fn explain_command<'a>(alloc: Global) -> Result<Command<'a>, AllocError>
     let columns = column_argument(alloc);
     let depth = depth_option(alloc);
     let format = explain_format_option(alloc);
-    let command = with_files(alloc, explain_page(alloc), "FILE", FILE_HELP)?;
+    let command = with_files(alloc, explain_page(alloc), FILE_HELP)?;
     command.arg(columns)?.arg(depth)?.arg(format)
 }
 

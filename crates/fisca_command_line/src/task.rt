@@ -7,7 +7,7 @@ ghost use Rattle.clap.specs.Simple.{subcommand_of};
 ghost use Rattle.clap.specs.Kinds.{FailsBy};
 ghost use Rattle.fisca_command_line.specs.CommandLine.{fisca_app};
 ghost use Rattle.fisca_command_line.specs.Misuse.{explain_misuse, misuse_kinds, options_misuse, usage_fault};
-ghost use Rattle.fisca_command_line.specs.Work.{AreFolders, IsAxesTask, IsCalcTask, IsCalcWork, IsCheckTask, IsExplainTask, IsLinesTask, IsListTask, IsRunTask, IsSizeTask, IsTask, IsTestTask, IsWorkOf};
+ghost use Rattle.fisca_command_line.specs.Work.{AreFolders, IsAxesTask, IsCalcTask, IsCalcWork, IsCheckTask, IsExplainTask, IsLinesTask, IsListTask, IsRunTask, IsSizeTask, IsTask, IsTestsTask, IsWorkOf};
 
 use crate::asked::{
     depth_in, explain_format_in, explain_misuse_in, flag, form_in, misuse_in, options, text_at,
@@ -33,11 +33,6 @@ pub enum Task<'a> {
         rules: RuleFolders<'a>,
         file: &'a str,
         form: TableForm,
-    },
-    /// `test`: work out the tests of a file under the rule files of folders.
-    Test {
-        rules: RuleFolders<'a>,
-        file: &'a str,
     },
     /// `run`: write the lines of a run file under the rule files of folders.
     Run {
@@ -78,6 +73,8 @@ pub enum Work<'a> {
     Task(Task<'a>),
     /// A task over each line of a file.
     Lines(LinesTask<'a>),
+    /// `test`.
+    Tests(TestsTask<'a>),
 }
 
 /// The folders of a rule set: its own, and those of the reforms that are laid over it, in order.
@@ -87,6 +84,17 @@ pub struct RuleFolders<'a> {
     pub rules: &'a str,
     /// The folders of the reforms.
     pub reforms: Vec<String>,
+}
+
+/// `test`: work out the tests of files and folders under the rule files of folders.
+#[derive(Debug, Drop)]
+pub struct TestsTask<'a> {
+    /// The folders of the rule files.
+    pub rules: RuleFolders<'a>,
+    /// The files and folders of the tests.
+    pub paths: Vec<String>,
+    /// What the names of the tests that are run have, if not all are.
+    pub name: Option<&'a str>,
 }
 
 /// `calc --lines`: work out the columns of many files, one in each line of a file, under the rule files of a folder.
@@ -151,13 +159,14 @@ fn calc_task<'a>(alloc: Global, matches: &ArgMatches<'a>) -> Result<Task<'a>, Al
     })
 }
 
-/// The task of `test`.
-fn test_task<'a>(alloc: Global, matches: &ArgMatches<'a>) -> Result<Task<'a>, AllocError>
-    ensures { IfOk result (λ task. IsTestTask (rows_of (found_of matches.now)) task) }
+/// The task over tests of `test`.
+fn tests_task<'a>(alloc: Global, matches: &ArgMatches<'a>) -> Result<TestsTask<'a>, AllocError>
+    ensures { IfOk result (λ task. IsTestsTask (rows_of (found_of matches.now)) task) }
 {
-    Ok(Task::Test {
+    Ok(TestsTask {
         rules: folders(alloc, matches)?,
-        file: text_at(matches, "TESTS"),
+        paths: copies(alloc, matches.get_strs("TESTS").unwrap_or(&[]))?,
+        name: text_in(matches, "name"),
     })
 }
 
@@ -297,7 +306,7 @@ pub fn read_task<'a>(alloc: Global, words: &'a [String]) -> Result<Work<'a>, Err
     match matches.subcommand() {
         Some(("check", inner)) => Ok(Work::Task(check_task(alloc, inner)?)),
         Some(("calc", inner)) => used_calc(alloc, inner),
-        Some(("test", inner)) => Ok(Work::Task(test_task(alloc, inner)?)),
+        Some(("test", inner)) => Ok(Work::Tests(tests_task(alloc, inner)?)),
         Some(("run", inner)) => used_run(alloc, inner),
         Some(("size", inner)) => Ok(Work::Task(size_task(alloc, inner)?)),
         Some(("list", inner)) => used_list(alloc, inner),

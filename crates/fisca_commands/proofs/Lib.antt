@@ -27,4 +27,5 @@ mod Stepping
 mod Still
 mod Telling
 mod Tested
+mod TestsPassed
 pub mod NamedKeys

@@ -1,11 +1,11 @@
 -- What is known of the tests of a file once it is read: each is worked out in a situation whose inputs are of their types.
-use Rattle.std.proofs.Common.{◌≡◌, ◌≢◌, ◌∙◌, ℕ, List, Some, Ok, Err, inl, inr, refl, sym}
+use Rattle.std.proofs.Common.{◌≡◌, ◌≢◌, ◌∙◌, ℕ, List, Ok, Err, inl, inr, refl, sym}
 use Rattle.fisca_simulation.specs.Told.{IsReady}
 use Rattle.fisca_params.specs.Source.{Source}
 use Rattle.fisca_params.specs.Tree.{TreeNode}
 use Rattle.fisca_rule_files.proofs.Built.{built}
 use Rattle.fisca_rule_files.specs.RuleFiles.{IsAccepted}
-use Rattle.std.specs.Prelude.{◌⊎◌, Option, Result}
+use Rattle.std.specs.Prelude.{◌⊎◌, Option}
 use Rattle.std.specs.Io.KnownBytes.{Keeps}
 use Rattle.fisca_rules.specs.Rules.{Rules}
 use Rattle.fisca_rules.specs.Steps.Rules.{rules_of}
@@ -20,15 +20,13 @@ use Rattle.fisca_test_file.specs.Read.{IsRead}
 use Rattle.fisca_yaml.specs.Node.{Node}
 use Rattle.fisca_test_file.specs.Handing.{IsPartOf, IsReported}
 use Rattle.fisca_test_file.specs.Steps.Tests.{tests_of}
-use Rattle.fisca_test_file.specs.Tests.{Test}
 use Rattle.fisca_test_file.specs.declared.fault.TestFault.{TestFault}
 use Rattle.fisca_test_file.specs.declared.fault.TestKind.TheVariants as kind
 use Rattle.fisca_test_file.specs.declared.report_fault.ReportFault.TheVariants as report
-use Rattle.fisca_yaml.specs.Grouping.{document}
 use Rattle.fisca_test_file.specs.declared.all.Verdict.{Verdict}
 use Rattle.fisca_rule_files.specs.declared.refusal.Refusal.{Refusal}
 use Rattle.fisca_rule_files.specs.declared.refusal.Refusal.TheVariants.{Tests, Write, Memory}
-use Rattle.fisca_commands.specs.Test.{IsTest, IsTreeTested, test_context_in, simulation_in}
+use Rattle.fisca_commands.specs.Test.{IsTreeTested, test_context_in, simulation_in}
 
 -- what an evaluator needs is known of each test that was read
 pub ready : (files : List Source) (rules : RuleSet)
@@ -68,9 +66,3 @@ module _ (rules : RuleSet) (n : Node) (old new : Option (List ℕ)) where
 
   pub fault_tested : (fault : TestFault) → fault.kind ≢ kind.Memory → IsReported (test_context_in rules) (tests_of rules.tables n) old new (Err (report.Tests fault)) → IsTreeTested rules n old new (Err (Tests fault))
   fault_tested fault other is = fault_told fault other (is.0.0 other) is.1
-
--- what was answered for the tree is answered for the text
-pub tree_tested : (files : List Source) (text : List ℕ) (rules : RuleSet) (n : Node) (old new : Option (List ℕ)) (answer : Result Verdict Refusal)
-    → IsAccepted files (rule_set rules) → document text ≡ Some n → IsTreeTested rules n old new answer → IsTest files text old new answer
-tree_tested files text rules n old new answer accepted tree (inl is) = inl (is.0, is.1, inr (rules, accepted, inr (n, tree, is.2)), is.3)
-tree_tested files text rules n old new answer accepted tree (inr is) = inr (record { rules = rules; tests = is.0 }, (accepted, (n, tree, is.1)), is.2)

@@ -96,11 +96,6 @@ RefusesCalculation files text refusal = RefusesFiles files refusal ⊎ ((rules :
 abbrev pub calc_names : List (List ℕ)
 calc_names = codes "variable" ∷ codes "member" ∷ codes "period" ∷ codes "value" ∷ []
 
--- these behind a first one, if it is given
-abbrev pub named_first : Option (List ℕ) → List (List ℕ) → List (List ℕ)
-named_first None names = names
-named_first (Some first) names = first ∷ names
-
 -- the line of the names is not written whole, where it is asked for, or it is, and then the lines of the columns; or memory was refused before
 abbrev pub IsCalculatedIn : Calculation → TableForm → Option (List ℕ) → Option (List ℕ) → Result Unit Refusal → Type 0
 IsCalculatedIn c form old new answer =

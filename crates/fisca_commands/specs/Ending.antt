@@ -83,15 +83,14 @@ abbrev pub IsJudged : PathsTold → Result Verdict Refusal → TaskOutcome → T
 IsJudged paths (Ok verdict) outcome = outcome ≡ judged verdict
 IsJudged paths (Err refusal) outcome = IsTold paths refusal outcome
 
--- how `test` ends over a file
-abbrev pub IsTestEnding : List Source → PathsTold → List ℕ → Option (List ℕ) → Option (List ℕ) → TaskOutcome → Type 0
-IsTestEnding files paths text old new outcome = (answer : Result Verdict Refusal) × IsTest files text old new answer × IsJudged paths answer outcome
+-- how `test` ends over one file
+abbrev pub IsTestEnding : List Source → PathsTold → List ℕ → Option (List ℕ) → Option (List ℕ) → Option (List ℕ) → TaskOutcome → Type 0
+IsTestEnding files paths text name old new outcome = (answer : Result Verdict Refusal) × IsTest files text name old new answer × IsJudged paths answer outcome
 
 -- how a task ends over the files of its folders, whose paths are told so, and the text of its own file, where a sink held `old` and then holds `new`
 abbrev pub IsTaskEnding : Task → List Source → List Told → List ℕ → Option (List ℕ) → Option (List ℕ) → TaskOutcome → Type 0
 IsTaskEnding (task.Check rules) files told text old new outcome = IsCheckEnding files (paths_of [] told) old new outcome
 IsTaskEnding (task.Calc rules file form) files told text old new outcome = IsCalcEnding files (paths_of file.now told) text form old new outcome
-IsTaskEnding (task.Test rules file) files told text old new outcome = IsTestEnding files (paths_of file.now told) text old new outcome
 IsTaskEnding (task.Run rules file options) files told text old new outcome = IsGridEnding files (paths_of file.now told) text options old new outcome
 IsTaskEnding (task.Size rules file) files told text old new outcome = IsSizeEnding files (paths_of file.now told) text old new outcome
 IsTaskEnding (task.List rules form) files told text old new outcome = IsListEnding files (paths_of [] told) form old new outcome

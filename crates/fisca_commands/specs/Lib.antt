@@ -9,6 +9,7 @@ pub mod Forms
 pub mod Headline
 pub mod Kept
 pub mod Listed
+pub mod ManyTests
 pub mod Remembered
 pub mod Run
 pub mod Runs

@@ -1,7 +1,6 @@
 -- What `fisca list` answers and writes.
-use Rattle.std.specs.Prelude.{◌≡◌, ◌⊎◌, ℕ, List, Option, None, Result, Ok, Err}
+use Rattle.std.specs.Prelude.{◌≡◌, ◌⊎◌, ℕ, List, Option, Result, Ok, Err}
 use Rattle.std.specs.Io.KnownBytes.{Appends, Keeps}
-use Rattle.fisca_forms.specs.LineForms.{Form}
 use Rattle.fisca_rule_files.specs.Listing.{list_names, listing}
 use Rattle.fisca_params.specs.Source.{Source}
 use Rattle.fisca_params.specs.Steps.Files.{in_path_order}

@@ -1,12 +1,12 @@
 -- What `fisca size` answers and writes.
-use Rattle.std.specs.Prelude.{◌≡◌, ◌⊎◌, ℕ, ◌++◌, List, codes, Option, Result, Ok, Err}
-use Rattle.std.specs.Fmt.{decimal}
+use Rattle.std.specs.Prelude.{◌≡◌, ◌⊎◌, ℕ, List, Option, Result, Ok, Err}
 use Rattle.std.specs.Io.KnownBytes.{Appends, Keeps}
 use Rattle.fisca_writer.specs.Run.{AppendsPart}
 use Rattle.fisca_params.specs.Source.{Source}
 use Rattle.fisca_rule_files.specs.declared.refusal.Refusal.{Refusal}
 use Rattle.fisca_rule_files.specs.declared.refusal.Refusal.TheVariants.{Write}
 use Rattle.fisca_rules.specs.declared.rule_set.RuleSet.{RuleSet}
+use Rattle.fisca_run.specs.Counted.{size_line}
 use Rattle.fisca_run_file.specs.RunFiles.{RunFile}
 use Rattle.fisca_rule_files.specs.RuleFiles.{IsAccepted}
 use Rattle.fisca_rules.specs.Views.{rule_set}
@@ -16,10 +16,6 @@ use Rattle.fisca_commands.specs.Runs.{positions}
 -- the text says a run file with so many positions under the rule set
 abbrev pub IsSizeIn : RuleSet → List ℕ → ℕ → Type 0
 IsSizeIn rules text size = (f : RunFile) × SaysRun rules text f × (size ≡ positions f)
-
--- a number and a line feed
-abbrev pub size_line : ℕ → List ℕ
-size_line size = decimal size ++ codes "\n"
 
 -- the line is written, or the sink failed in it
 abbrev pub IsSizeTold : RunFile → Option (List ℕ) → Option (List ℕ) → Result Unit Refusal → Type 0

@@ -1,1 +1,2 @@
 pub mod CalcLines
+pub mod ManyTests

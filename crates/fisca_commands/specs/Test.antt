@@ -11,6 +11,7 @@ use Rattle.fisca_rule_files.specs.declared.refusal.Refusal.TheVariants.{Tests, W
 use Rattle.fisca_rule_files.specs.RuleFiles.{IsAccepted, RefusesFiles}
 use Rattle.fisca_rules.specs.Views.{rule_set}
 use Rattle.fisca_rules.specs.declared.rule_set.RuleSet.{RuleSet}
+use Rattle.fisca_run.specs.Named.{named}
 use Rattle.fisca_situations.specs.Situations.{Situation}
 use Rattle.fisca_simulation.specs.Simulations.{Simulation}
 use Rattle.fisca_symbols.specs.Known.{tables as known}
@@ -30,13 +31,13 @@ pub record Testing : Type 0 where
   pub rules : RuleSet
   pub tests : List Test
 
--- the text is YAML, and a file that says these tests under the rule set
-abbrev pub SaysTests : RuleSet → List ℕ → List Test → Type 0
-SaysTests rules text tests = (n : Node) × (document text ≡ Some n) × (tests_of rules.tables n ≡ Ok tests)
+-- the text is YAML, and a file that says these tests of the name under the rule set
+abbrev pub SaysTests : RuleSet → List ℕ → Option (List ℕ) → List Test → Type 0
+SaysTests rules text name tests = (n : Node) × (document text ≡ Some n) × (tests_of rules.tables (named name n) ≡ Ok tests)
 
--- the files make the rule set, and the text says the tests under it
-abbrev pub IsTesting : List Source → List ℕ → Testing → Type 0
-IsTesting files text t = IsAccepted files (rule_set t.rules) × SaysTests t.rules text t.tests
+-- the files make the rule set, and the text says the tests of the name under it
+abbrev pub IsTesting : List Source → List ℕ → Option (List ℕ) → Testing → Type 0
+IsTesting files text name t = IsAccepted files (rule_set t.rules) × SaysTests t.rules text name t.tests
 
 -- where the values of a test are worked out; no variable is neutralised
 abbrev pub simulation_in : RuleSet → Situation → Simulation
@@ -63,17 +64,18 @@ IsTreeTested rules n old new answer =
     ((refusal : Refusal) × (answer ≡ Err refusal) × RefusesTree rules n refusal × Keeps old new)
     ⊎ ((ts : List Test) × (tests_of rules.tables n ≡ Ok ts) × IsTested (record { rules = rules; tests = ts }) old new answer)
 
--- the text is refused under a rule set: it is no YAML, else no file of tests; or memory was refused
-abbrev pub RefusesTests : RuleSet → List ℕ → Refusal → Type 0
-RefusesTests rules text refusal = IsYamlRefused text refusal ⊎ ((n : Node) × (document text ≡ Some n) × RefusesTree rules n refusal)
+-- the text is refused under a rule set: it is no YAML, else no file of tests of the name; or memory was refused
+abbrev pub RefusesTests : RuleSet → List ℕ → Option (List ℕ) → Refusal → Type 0
+RefusesTests rules text name refusal = IsYamlRefused text refusal ⊎ ((n : Node) × (document text ≡ Some n) × RefusesTree rules (named name n) refusal)
 
 -- the first reason for which nothing is worked out is told: the files are refused, else the text
-abbrev pub RefusesTesting : List Source → List ℕ → Refusal → Type 0
-RefusesTesting files text refusal = RefusesFiles files refusal ⊎ ((rules : RuleSet) × IsAccepted files (rule_set rules) × RefusesTests rules text refusal)
+abbrev pub RefusesTesting : List Source → List ℕ → Option (List ℕ) → Refusal → Type 0
+RefusesTesting files text name refusal =
+    RefusesFiles files refusal ⊎ ((rules : RuleSet) × IsAccepted files (rule_set rules) × RefusesTests rules text name refusal)
 
--- what `test` answers for these files and this text, and what a sink that held `old` then holds: they are refused and nothing is written, or
--- the tests are worked out in order
-abbrev pub IsTest : List Source → List ℕ → Option (List ℕ) → Option (List ℕ) → Result Verdict Refusal → Type 0
-IsTest files text old new answer =
-    ((refusal : Refusal) × (answer ≡ Err refusal) × RefusesTesting files text refusal × Keeps old new)
-    ⊎ ((t : Testing) × IsTesting files text t × IsTested t old new answer)
+-- what `test` answers for these files, this text and the text that names have, if there is one, and what a sink that held `old` then holds: they are
+-- refused and nothing is written, or the tests of the name are worked out in order
+abbrev pub IsTest : List Source → List ℕ → Option (List ℕ) → Option (List ℕ) → Option (List ℕ) → Result Verdict Refusal → Type 0
+IsTest files text name old new answer =
+    ((refusal : Refusal) × (answer ≡ Err refusal) × RefusesTesting files text name refusal × Keeps old new)
+    ⊎ ((t : Testing) × IsTesting files text name t × IsTested t old new answer)

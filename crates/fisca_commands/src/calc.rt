@@ -1,16 +1,17 @@
 //! `fisca calc`: the values of the columns of a file.
 
-ghost use Rattle.std.specs.Prelude.{◌≡◌, [], Some, IfOk, IfErr, map, option_map, string_bytes};
+ghost use Rattle.std.specs.Prelude.{◌≡◌, Some, IfOk, IfErr, map, option_map, string_bytes};
 ghost use Rattle.fisca_columns.specs.Views.{calc};
 ghost use Rattle.fisca_simulation.specs.Told.{IsReady};
 ghost use Rattle.fisca_writer.specs.Sink.{CountsFailure};
 ghost use Rattle.fisca_situations.specs.Steps.Views.{situation as situation_view};
 ghost use Rattle.fisca_yaml.specs.Grouping.{document};
 ghost use Rattle.fisca_yaml.specs.Views.{node};
-ghost use Rattle.fisca_commands.specs.Calc.{IsAsked, IsCalc, IsCalculated, IsKeyTold, RefusesText, calc_names, named_first, simulation_of};
+ghost use Rattle.fisca_commands.specs.Calc.{IsAsked, IsCalc, IsCalculated, IsKeyTold, RefusesText, calc_names, simulation_of};
 ghost use Rattle.fisca_commands.specs.Forms.{shown_form};
 ghost use Rattle.fisca_commands.specs.Yaml.{IsYamlRefused};
 ghost use Rattle.fisca_rule_files.specs.Refusal.{is_write};
+ghost use Rattle.fisca_run.specs.Cells.{named_first};
 
 use super::forms::begin_table;
 use super::unanswered::unanswered;
@@ -23,6 +24,7 @@ use fisca_model::EvalFault;
 use fisca_params::SourceFile;
 use fisca_rule_files::{Refusal, rules_of};
 use fisca_rules::RuleSet;
+use fisca_run::first_name;
 use fisca_simulation::rule_sets_are_safe;
 use fisca_situations::Situation;
 use fisca_writer::{RowSink, RunFault};
@@ -103,20 +105,6 @@ pub(crate) fn write_values<S: RowSink>(
         Err(RunFault::Write { .. }) => Err(Refusal::Write),
         Err(RunFault::Memory { .. }) => Err(Refusal::Memory),
         Err(RunFault::BadPosition) => unreachable!(),
-    }
-}
-
-/// The name of a first cell, if it is given.
-fn first_name(alloc: Global, first: Option<&str>) -> Result<Vec<String>, AllocError>
-    ensures { IfOk result (λ names. map (λ name. string_bytes name) names.items ≡ named_first (option_map (λ t. t.now) first.entry) []) }
-{
-    let mut names = Vec::new(alloc);
-    match first {
-        None => Ok(names),
-        Some(first) => {
-            names.push(String::from_str(alloc, first)?)?;
-            Ok(names)
-        }
     }
 }
 

@@ -1,12 +1,9 @@
 //! `fisca size`: the number of positions of a run file.
 
-ghost use Rattle.std.specs.Prelude.{◌≡◌, ◌++◌, codes, IfOk, IfErr, OnOk, OnErr, is_err};
-ghost use Rattle.std.specs.Fmt.{decimal};
-ghost use Rattle.std.specs.Io.KnownBytes.{Appends};
-ghost use Rattle.fisca_writer.specs.Run.{AppendsPart};
+ghost use Rattle.std.specs.Prelude.{IfOk, IfErr};
 ghost use Rattle.fisca_writer.specs.Sink.{CountsFailure};
 ghost use Rattle.fisca_commands.specs.Run.{RefusesRunText};
-ghost use Rattle.fisca_commands.specs.Size.{IsSize, IsSizeIn, size_line};
+ghost use Rattle.fisca_commands.specs.Size.{IsSize, IsSizeIn};
 ghost use Rattle.fisca_rule_files.specs.Refusal.{is_write};
 
 use super::calc::read_tree;
@@ -14,7 +11,8 @@ use super::run::read_run;
 use fisca_params::SourceFile;
 use fisca_rule_files::{Refusal, rules_of};
 use fisca_rules::RuleSet;
-use fisca_writer::{RowSink, SinkFault, hand_over};
+use fisca_run::write_size;
+use fisca_writer::RowSink;
 use std::alloc::Global;
 
 /// The number of positions of the run file that a text says under a rule set.
@@ -25,16 +23,6 @@ fn read_size(alloc: Global, rules: &RuleSet<'_>, text: &str) -> Result<u64, Refu
     let tree = read_tree(alloc, text)?;
     let run = read_run(alloc, rules, &tree)?;
     Ok(run.request.axes.size())
-}
-
-/// Writes a number and a line feed.
-fn write_size<S: RowSink>(size: u64, sink: &mut S) -> Result<(), SinkFault>
-    ensures all { OnOk result (Appends (S.taken sink.old) (S.taken sink.new) (size_line size)) }
-    ensures part { OnErr result (AppendsPart (size_line size) (S.taken sink.old) (S.taken sink.new)) }
-    ensures failures { CountsFailure (is_err result) (S.failures sink.old) (S.failures sink.new) }
-{
-    hand_over(sink, itoa::Buffer::new().format(size).as_bytes())?;
-    hand_over(sink, b"\n")
 }
 
 /// Writes the number of positions of the grid of a run file under a rule set, and a line feed. Nothing is worked out.

@@ -30,8 +30,6 @@ use std::alloc::Global;
 ///
 /// - `check`: what [`check_rules`] writes of the files.
 /// - `calc`: what [`calc_rules`] writes of the files and the text. A refusal of the text is told with the path of its file.
-/// - `test`: what [`test_rules`] writes of the files and the text; the status is 1 where a test failed. A refusal of the text is told with the path
-///   of its file.
 /// - `run`: the lines of [`run_rules`], and after a run that nothing stopped its last line, as by [`write_end`]; where the lines are a table, by
 ///   their first line or their form, the last line is told on standard error. The status is 4 where the run
 ///   was to keep going and a word stands in the place of a value. A refusal of the text is told with
@@ -61,7 +59,6 @@ pub fn run_task<S: RowSink>(
             file,
             form,
         } => run_calc(alloc, files, told_paths, file, text, *form, sink),
-        Task::Test { rules: _, file } => run_test(alloc, files, told_paths, file, text, sink),
         Task::Run {
             rules: _,
             file,
@@ -122,24 +119,27 @@ fn run_calc<S: RowSink>(
     ending_of(alloc, answer, path, told_paths)
 }
 
-/// Works out the tests of a file of this text, and answers how that ended.
-fn run_test<S: RowSink>(
+/// Works out the tests of a file of this path and this text, those whose names have the text `name`, if there is one, and answers how that ended: what
+/// [`test_rules`] writes of the files and the text, with the status 1 where a test failed. A refusal of the text is told with the path of its file. This
+/// project's own rule.
+pub fn run_test<S: RowSink>(
     alloc: Global,
     files: &[SourceFile],
     told_paths: &[ToldPath],
     path: &str,
     text: &str,
+    name: Option<&str>,
     sink: &mut S,
 ) -> Ending
-    ensures ending { IsTestEnding files.now (paths_of path.now told_paths.now) text.now (S.taken sink.old) (S.taken sink.new) result }
+    ensures ending { IsTestEnding files.now (paths_of path.now told_paths.now) text.now (option_map (λ text. text.now) name.entry) (S.taken sink.old) (S.taken sink.new) result }
     ensures failures { CountsFailure (result.status == 5) (S.failures sink.old) (S.failures sink.new) }
 {
-    let answer = test_rules(alloc, files, text, sink);
+    let answer = test_rules(alloc, files, text, name, sink);
     judged_of(alloc, answer, path, told_paths)
 }
 
 /// How tests end.
-fn judged_of(
+pub(crate) fn judged_of(
     alloc: Global,
     answer: Result<Verdict, Refusal>,
     path: &str,

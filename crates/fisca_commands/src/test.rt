@@ -1,13 +1,11 @@
 //! `fisca test`: the verdicts of the tests of a file.
 
-ghost use Rattle.std.specs.Prelude.{◌≡◌, ℕ, Ok};
-ghost use Rattle.fisca_commands.specs.Test.{IsTest, IsTreeTested, simulation_in};
-ghost use Rattle.fisca_simulation.specs.Told.{IsReady};
+ghost use Rattle.std.specs.Prelude.{option_map};
+ghost use Rattle.fisca_commands.specs.ManyTests.{IsTextTested};
+ghost use Rattle.fisca_commands.specs.Steps.ManyTests.{AreTestsReady};
+ghost use Rattle.fisca_commands.specs.Test.{IsTest, IsTreeTested};
 ghost use Rattle.fisca_writer.specs.Sink.{CountsFailure};
 ghost use Rattle.fisca_rule_files.specs.Refusal.{is_write};
-ghost use Rattle.fisca_test_file.specs.Tests.{Test};
-ghost use Rattle.fisca_test_file.specs.Steps.Tests.{test_of};
-ghost use Rattle.fisca_yaml.specs.Node.{Node};
 ghost use Rattle.fisca_yaml.specs.Views.{node};
 
 use super::calc::read_tree;
@@ -15,6 +13,7 @@ use fisca_evaluator::{Evaluator, IndexRecall};
 use fisca_params::SourceFile;
 use fisca_rule_files::{Refusal, rules_of};
 use fisca_rules::RuleSet;
+use fisca_run::named;
 use fisca_simulation::{inputs_fit, rule_sets_are_safe};
 use fisca_situations::Situation;
 use fisca_test_file::{
@@ -60,7 +59,7 @@ fn report_of<S: RowSink>(
     tree: &Tree<'_>,
     sink: &mut S,
 ) -> Result<Verdict, Refusal>
-    requires { (line : ℕ) (n : Node) (t : Test) → test_of rules.now.tables line n ≡ Ok t → IsReady (simulation_in rules.now t.situation) }
+    requires { AreTestsReady rules.now }
     ensures answer { IsTreeTested rules.now (node tree.now) (S.taken sink.old) (S.taken sink.new) result }
     ensures failures { CountsFailure (is_write result) (S.failures sink.old) (S.failures sink.new) }
 {
@@ -73,14 +72,33 @@ fn report_of<S: RowSink>(
     }
 }
 
+/// Works out the tests that a text says under a rule set, those whose names have this text, if there is one, and answers their verdict.
+pub(crate) fn test_text<S: RowSink>(
+    alloc: Global,
+    rules: &RuleSet<'_>,
+    text: &str,
+    name: Option<&str>,
+    sink: &mut S,
+) -> Result<Verdict, Refusal>
+    requires { AreTestsReady rules.now }
+    ensures answer { IsTextTested rules.now text.now (option_map (λ text. text.now) name.entry) (S.taken sink.old) (S.taken sink.new) result }
+    ensures failures { CountsFailure (is_write result) (S.failures sink.old) (S.failures sink.new) }
+{
+    let tree = read_tree(alloc, text)?;
+    let tree = named(alloc, tree, name);
+    report_of(alloc, rules, &tree, sink)
+}
+
 /// Works out the tests of a file under a rule set, in order, and writes for each `ok` or `failed` and its name, below a test that failed a line
-/// for each output that did, and last how many passed and failed; these are answered. The text is a test or a list of tests, as of [`report_on`].
+/// for each output that did, and last how many passed and failed; these are answered. The text is a test or a list of tests, as of [`report_on`]. With a
+/// text of names only the tests are read and worked out whose names have it; what is one test of another name says none then.
 ///
 /// The first refusal in this order is told, and nothing is written before all tests are read:
 ///
 /// - `TooManyFiles`, `Params` and `Formula` as of `check_rules`: the files make no rule set.
 /// - `Yaml` exactly where the text has no tree, with the line and the kind that `fisca_yaml::read` tells.
-/// - `Tests` exactly where the tree is no such file under the rule set, with the line and the kind of its first fault.
+/// - `Tests` exactly where the tree, of which the tests of other names are left out, is no such file under the rule set, with the line and the kind of its
+///   first fault.
 /// - `Write` only where the sink failed in this call: it has a proper beginning of the report.
 /// - `Memory` only where memory was refused: nothing is written, or a proper beginning of the report.
 ///
@@ -89,15 +107,15 @@ pub fn test_rules<S: RowSink>(
     alloc: Global,
     files: &[SourceFile],
     text: &str,
+    name: Option<&str>,
     sink: &mut S,
 ) -> Result<Verdict, Refusal>
-    ensures answer { IsTest files.now text.now (S.taken sink.old) (S.taken sink.new) result }
+    ensures answer { IsTest files.now text.now (option_map (λ text. text.now) name.entry) (S.taken sink.old) (S.taken sink.new) result }
     ensures failures { CountsFailure (is_write result) (S.failures sink.old) (S.failures sink.new) }
 {
     let rules = rules_of(alloc, files)?;
-    let tree = read_tree(alloc, text)?;
     rule_sets_are_safe();
     inputs_fit();
     situations_are_read();
-    report_of(alloc, &rules, &tree, sink)
+    test_text(alloc, &rules, text, name, sink)
 }

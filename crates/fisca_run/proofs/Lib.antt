@@ -1,5 +1,6 @@
 pub mod Files
 pub mod Marked
+mod NamedTests
 pub mod Normal
 pub mod OfFiles
 pub mod OfPositions

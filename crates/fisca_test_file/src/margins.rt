@@ -9,7 +9,7 @@ use fisca_yaml::Tree;
 
 /// How far the values of numbers may be from the expected ones. Where both margins are there both have to hold, and where none is the values
 /// have to be equal.
-#[derive(Clone, Copy, Debug, PartialEq, Eq)]
+#[derive(Clone, Copy)]
 pub struct Margins {
     /// At most so far.
     pub absolute: Option<Fraction>,

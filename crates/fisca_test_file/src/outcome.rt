@@ -6,7 +6,7 @@ ghost use Rattle.fisca_test_file.specs.Steps.Verdicts.{is_passed};
 use fisca_model::Value;
 
 /// How an output came out. `F` is the type of the faults of keys.
-#[derive(Clone, Copy, Debug, PartialEq, Eq)]
+#[derive(Clone, Copy)]
 pub enum Outcome<F> {
     /// The value is near enough to the expected one.
     Passed,

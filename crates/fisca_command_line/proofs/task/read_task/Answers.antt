@@ -69,7 +69,7 @@ returns-in-Some-calc-default-clause-work c =
 pub returns-in-Some-test-default-clause-work : goal.returns-in-Some-test-default-clause-work
 returns-in-Some-test-default-clause-work c =
     let w = c.in-Some-test-default in
-    rw (met _ _ _ _ _ c.in_ok-command.ensures.app c.in_ok-matches.ensures.matches w.ensures.name w.ensures.rows) (inr (inr (inl (w.is-test, c.in_ok-test_task-in-Some-test-default.ensures))))
+    rw (met _ _ _ _ _ c.in_ok-command.ensures.app c.in_ok-matches.ensures.matches w.ensures.name w.ensures.rows) (inr (inr (inl (w.is-test, c.in_ok-tests_task-in-Some-test-default.ensures))))
 
 pub returns-in-Some-run-default-clause-work : goal.returns-in-Some-run-default-clause-work
 returns-in-Some-run-default-clause-work c =

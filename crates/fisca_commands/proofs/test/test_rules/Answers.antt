@@ -1,11 +1,8 @@
-use Rattle.std.proofs.Common.{◌≡◌, ◌∙◌, false, cond, inl, inr, Err, ap, refl, sym, rules}
+use Rattle.std.proofs.Common.{◌∙◌, inl, inr, Err, ap, option_map, rules}
 use Rattle.std.proofs.lemmas.Result.{err_from_is_err_and}
 use Rattle.std.specs.Io.KnownBytes.{Keeps}
-use Rattle.fisca_writer.specs.Steps.Sink.{one_more}
-use Rattle.fisca_rule_files.specs.Refusal.{is_write}
-use Rattle.fisca_yaml.specs.Views.{node}
-use Rattle.fisca_commands.proofs.Telling.{yaml_unwritten}
-use Rattle.fisca_commands.proofs.Tested.{ready, tree_tested}
+use Rattle.fisca_commands.proofs.Tested.{ready}
+use Rattle.fisca_commands.proofs.TestsPassed.{text_tested}
 use Rattle.fisca_commands.proofs.test.test_rules.Goals as goal
 
 pub returns-in_err-rules-clause-answer : goal.returns-in_err-rules-clause-answer
@@ -14,23 +11,11 @@ returns-in_err-rules-clause-answer g c =
     let keeps : Keeps (g.S.RowSink.taken c.args.sink.now) (g.S.RowSink.taken c.args.sink.now) = search rules in
     inl (c.in_err-rules.field-0.0, told.1 ∙ ap Err told.2, inl c.in_err-rules.ensures.err, keeps)
 
-pub returns-in_err-tree-clause-answer : goal.returns-in_err-tree-clause-answer
-returns-in_err-tree-clause-answer g c =
-    let told = err_from_is_err_and c.from_residual-in_err-tree.result c.from_residual-in_err-tree.ensures.1 in
-    let keeps : Keeps (g.S.RowSink.taken c.args.sink.now) (g.S.RowSink.taken c.args.sink.now) = search rules in
-    inl (c.in_err-tree.field-0.0, told.1 ∙ ap Err told.2, inr (c.in_ok-rules.rules, c.in_ok-rules.ensures.ok, inl c.in_err-tree.ensures.err), keeps)
-
-pub returns-in_err-tree-clause-failures : goal.returns-in_err-tree-clause-failures
-returns-in_err-tree-clause-failures g c =
-    let told = err_from_is_err_and c.from_residual-in_err-tree.result c.from_residual-in_err-tree.ensures.1 in
-    let unwritten : is_write c.from_residual-in_err-tree.result ≡ false = ap is_write (told.1 ∙ ap Err told.2) ∙ yaml_unwritten c.args.text.now c.in_err-tree.field-0.0 c.in_err-tree.ensures.err in
-    ap (λ failed. cond failed (one_more (g.S.RowSink.failures c.args.sink.now)) (g.S.RowSink.failures c.args.sink.now)) (sym unwritten)
-
-pub report_of-requires : goal.report_of-requires
-report_of-requires g c line n t read =
+pub test_text-requires : goal.test_text-requires
+test_text-requires g c line n t read =
     ready c.args.files.now c.in_ok-rules.rules c.rule_sets_are_safe.ensures c.inputs_fit.ensures c.in_ok-rules.ensures.ok t.situation
     (c.situations_are_read.ensures c.in_ok-rules.rules.tables line n t read)
 
 pub returns-clause-answer : goal.returns-clause-answer
 returns-clause-answer g c =
-    tree_tested c.args.files.now c.args.text.now c.in_ok-rules.rules (node c.in_ok-tree.tree) _ _ _ c.in_ok-rules.ensures.ok c.in_ok-tree.ensures.ok c.report_of.ensures.answer
+    text_tested c.args.files.now c.args.text.now (option_map (λ text. text.now) c.args.name) c.in_ok-rules.rules _ _ _ c.in_ok-rules.ensures.ok c.test_text.ensures.answer

@@ -1,5 +1,5 @@
 use Rattle.fisca_run.proofs.Positions.{each_situated}
-use Rattle.fisca_commands.proofs.run_laws.positions_have_situations.Goals as goal
+use Rattle.fisca_run.proofs.run_laws.positions_have_situations.Goals as goal
 
 pub returns : goal.returns
 returns c tables n f position read within =

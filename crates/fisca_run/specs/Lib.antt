@@ -1,0 +1,3 @@
+pub mod Cells
+pub mod Counted
+pub mod Named

@@ -1,13 +1,17 @@
 -- What a page is told of its message.
-use Rattle.std.specs.Prelude.{◌≡◌, ℕ, ◌+◌, List, [], ◌++◌, take, length, Some, unwrap_or}
+use Rattle.std.specs.Prelude.{◌≡◌, ℕ, ◌+◌, ⊥, List, [], ◌∷◌, ◌++◌, drop, take, length, map, Option, Some, option_map, string_bytes, unwrap_or}
 use Rattle.clap.specs.Simple.{subcommand_of}
 use Rattle.fisca_params.specs.Source.{Source}
 use Rattle.fisca_command_line.specs.CommandLine.{fisca_app}
 use Rattle.fisca_command_line.specs.Work.{IsWorkOf}
 use Rattle.fisca_command_line.specs.declared.task.Task.{Task}
+use Rattle.fisca_command_line.specs.declared.task.TestsTask.{TestsTask}
+use Rattle.fisca_command_line.specs.declared.task.Work.{Work}
 use Rattle.fisca_command_line.specs.declared.task.Work.TheVariants as work
 use Rattle.fisca_rule_files.specs.Ending.{TaskOutcome}
-use Rattle.fisca_commands.specs.Ending.{IsTaskEnding}
+use Rattle.fisca_rule_files.specs.Refusal.{paths_of}
+use Rattle.fisca_commands.specs.Ending.{IsTaskEnding, IsTestEnding}
+use Rattle.fisca_commands.specs.ManyTests.{IsTestsEnding}
 use Rattle.fisca_web.specs.Message.{first_parts, files_of, part_of}
 use Rattle.fisca_web.specs.declared.reply.Reply.{Reply}
 
@@ -18,15 +22,46 @@ pub record Says (written : List ℕ) (outcome : TaskOutcome) (room : List ℕ) (
   pub line : reply.told ≡ length (unwrap_or outcome.told [])
   pub bytes : take (reply.written + reply.told) room ≡ written ++ unwrap_or outcome.told []
 
--- a page is told how a task ended over these files, whose paths are told as they are, and this text, and what it wrote
-pub record IsTaskReply (task : Task) (files : List Source) (text room : List ℕ) (reply : Reply) : Type 0 where
+-- a page is told how that ended which ends so where a sink held the first and then holds the second, and what it wrote
+pub record IsTold (Ends : Option (List ℕ) → Option (List ℕ) → TaskOutcome → Type 0) (room : List ℕ) (reply : Reply) : Type 0 where
   pub written : List ℕ
   pub outcome : TaskOutcome
-  pub ending : IsTaskEnding task files [] text (Some []) (Some written) outcome
+  pub ending : Ends (Some []) (Some written) outcome
   pub says : Says written outcome room reply
 
--- the words of the message ask for a task, and the page is told how it ended over the files and the text of the message
-pub record IsReply (bytes ends : List ℕ) (words : ℕ) (room : List ℕ) (reply : Reply) : Type 0 where
-  pub task : Task
-  pub asked : IsWorkOf (subcommand_of fisca_app (first_parts bytes ends words)) (work.Task task)
-  pub answered : IsTaskReply task (files_of bytes ends words) (part_of bytes ends words) room reply
+-- how a task ended over these files, whose paths are told as they are, and this text
+abbrev pub IsTaskReply : Task → List Source → List ℕ → List ℕ → Reply → Type 0
+IsTaskReply task files text = IsTold (IsTaskEnding task files [] text)
+
+abbrev pub first_path : List (List ℕ) → List ℕ
+first_path [] = []
+first_path (path ∷ paths) = path
+
+-- the text that a name has to have, if there is one
+abbrev pub name_of : TestsTask → Option (List ℕ)
+name_of task = option_map (λ text. text.now) task.name
+
+-- how the tests of a text ended over these files
+abbrev pub IsTestReply : TestsTask → List Source → List ℕ → List ℕ → Reply → Type 0
+IsTestReply task files text = IsTold (IsTestEnding files (paths_of (first_path (map (λ path. string_bytes path) task.paths.items)) []) text (name_of task))
+
+-- how the tests of files ended over these files
+abbrev pub IsTestsReply : TestsTask → List Source → List Source → List ℕ → Reply → Type 0
+IsTestsReply task files tests = IsTold (IsTestsEnding files [] tests (name_of task))
+
+-- how what words ask for ended over rule files, files of tests and a text; tests of lines are none of a page
+abbrev pub IsWorkReply : Work → List Source → List Source → List ℕ → List ℕ → Reply → Type 0
+IsWorkReply (work.Task task) files tests text room reply = IsTaskReply task files text room reply
+IsWorkReply (work.Lines lines) files tests text room reply = ⊥
+IsWorkReply (work.Tests task) files [] text room reply = IsTestReply task files text room reply
+IsWorkReply (work.Tests task) files (test ∷ tests) text room reply = IsTestsReply task files (test ∷ tests) room reply
+
+-- these words ask for something, and the page is told how it ended
+abbrev pub IsAnswered : List (List ℕ) → List Source → List Source → List ℕ → List ℕ → Reply → Type 0
+IsAnswered words files tests text room reply =
+    (asked : Work) × IsWorkOf (subcommand_of fisca_app words) asked × IsWorkReply asked files tests text room reply
+
+-- the words of the message ask for something, and the page is told how it ended over the files and the text of the message, of which so many are tests
+abbrev pub IsReply : List ℕ → List ℕ → ℕ → ℕ → List ℕ → Reply → Type 0
+IsReply bytes ends words tests =
+    IsAnswered (first_parts bytes ends words) (drop tests (files_of bytes ends words)) (take tests (files_of bytes ends words)) (part_of bytes ends words)

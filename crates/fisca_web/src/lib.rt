@@ -1,56 +1,86 @@
 //! The commands over a message of a web page: words, a text and files come in as bytes, and what a task writes and tells goes out as bytes.
 #![tactic(auto)]
 
-ghost use Rattle.std.specs.Prelude.{◌≡◌, true};
-ghost use Rattle.fisca_web.specs.Reply.{IsReply, IsTaskReply};
+ghost use Rattle.std.specs.Prelude.{◌≡◌, true, map, string_bytes, option_map};
+ghost use Rattle.fisca_web.specs.Reply.{IsAnswered, IsReply, IsTaskReply, IsTestReply, IsTestsReply, first_path};
 
 mod message;
 mod reply;
 mod room;
 
-pub use reply::{Outcome, Reply};
-
-use fisca_command_line::{Task, Work, read_task};
-use fisca_commands::run_task;
+use fisca_command_line::{Task, TestsTask, Work, read_task};
+use fisca_commands::{run_task, run_test, run_tests};
 use fisca_params::SourceFile;
-use fisca_writer::{MemorySink, hand_over};
-use message::{MessageFault, files_in, part, words_in};
-use room::{line_of, put, put_error};
+use fisca_writer::MemorySink;
+use message::{MessageFault, message_in, part};
+pub use reply::{Outcome, Reply};
+use room::{put_error, tell};
 use std::alloc::Global;
 
 /// Runs the task of a message, and says whether it did.
 ///
 /// The parts of the message stand in `bytes`, each up to where `ends` says: so many words of a command line, of which the first is the program's own
-/// name, the text of the file that they name, no one's where they name none, and then the path and the text of each rule file, in any order. Where the
-/// words name reforms, the files are those that are left when these are laid over the rule set. Each path is told as it is.
+/// name, the text of the file that they name, no one's where they name none, and then the path and the text of each file: so many files of tests, and the
+/// rule files, in any order. Where the words name reforms, the rule files are those that are left when these are laid over the rule set. Tests are those
+/// of the text where the message has no files of tests, and else those of these files. Each path is told as it is.
 ///
 /// Where it did, what the task wrote stands at the beginning of `out`, behind it the line for standard error, and `reply` has the length of both and
-/// the exit status: they are what [`run_task`] promises of this task, these files and this text. Where it did not, [`Outcome`] tells why, as a number in
-/// `reply`. It keeps nothing from one call to the next. This project's own rule.
+/// the exit status: they are what [`run_task`], [`run_test`] or [`run_tests`] promises of this task, these files and this text. Where it did not,
+/// [`Outcome`] tells why, as a number in `reply`. It keeps nothing from one call to the next. This project's own rule.
 #[unsafe(no_mangle)]
 pub extern "C" fn fisca_task(
     alloc: Global,
     bytes: &[u8],
     ends: &[usize],
     words: usize,
+    tests: usize,
     out: &mut [u8],
     reply: &mut Reply,
 ) -> bool
-    ensures { result ≡ true → IsReply bytes.now ends.now words out.new reply.new }
+    ensures { result ≡ true → IsReply bytes.now ends.now words tests out.new reply.new }
 {
     let Some(text) = part(bytes, ends, words) else {
         return reply.fail(Outcome::NoMessage);
     };
-    let line = match words_in(alloc, bytes, ends, words) {
-        Ok(line) => line,
-        Err(fault) => return reply.fail(outcome_of(fault)),
+    let message = match message_in(alloc, bytes, ends, words) {
+        Ok(message) => message,
+        Err(MessageFault::NoText) => return reply.fail(Outcome::NoMessage),
+        Err(MessageFault::Memory) => return reply.fail(Outcome::NoMemory),
     };
-    let files = match files_in(alloc, bytes, ends, words) {
-        Ok(files) => files,
-        Err(fault) => return reply.fail(outcome_of(fault)),
-    };
-    match read_task(alloc, line.as_slice()) {
-        Ok(Work::Task(task)) => answer_task(alloc, &task, files.as_slice(), text, out, reply),
+    if message.files.len() < tests {
+        return reply.fail(Outcome::NoMessage);
+    }
+    let files = message.files.as_slice();
+    let (tests, rules) = (&files[..tests], &files[tests..]);
+    answer_words(
+        alloc,
+        message.words.as_slice(),
+        rules,
+        tests,
+        text,
+        out,
+        reply,
+    )
+}
+
+/// Runs what words ask for over rule files, files of tests and a text, and tells a page how it ended.
+fn answer_words(
+    alloc: Global,
+    words: &[String],
+    rules: &[SourceFile],
+    tests: &[SourceFile],
+    text: &str,
+    out: &mut [u8],
+    reply: &mut Reply,
+) -> bool
+    ensures { result ≡ true → IsAnswered (map (λ word. string_bytes word) words.now) rules.now tests.now text.now out.new reply.new }
+{
+    match read_task(alloc, words) {
+        Ok(Work::Task(task)) => answer_task(alloc, &task, rules, text, out, reply),
+        Ok(Work::Tests(task)) => match tests {
+            [] => answer_test(alloc, &task, rules, text, out, reply),
+            [..] => answer_tests(alloc, &task, rules, tests, out, reply),
+        },
         Ok(Work::Lines(_)) => reply.fail(Outcome::Lines),
         Err(error) => put_error(alloc, &error, out, reply),
     }
@@ -69,29 +99,48 @@ fn answer_task(
 {
     let mut sink = MemorySink::new(alloc);
     let ending = run_task(alloc, task, files, &[], text, &mut sink);
-    let written = sink.bytes().len();
-    let line = line_of(&ending);
-    if hand_over(&mut sink, line.as_bytes()).is_err() {
-        return reply.fail(Outcome::NoMemory);
-    }
-    *reply = Reply {
-        outcome: Outcome::Done as usize,
-        status: usize::from(ending.status()),
-        written,
-        told: line.len(),
-    };
-    if put(sink.bytes(), out) {
-        true
-    } else {
-        reply.outcome = Outcome::NoRoom as usize;
-        false
+    tell(&ending, &mut sink, out, reply)
+}
+
+/// Runs the tests of this text over these files, and tells a page how they ended.
+fn answer_test(
+    alloc: Global,
+    task: &TestsTask<'_>,
+    files: &[SourceFile],
+    text: &str,
+    out: &mut [u8],
+    reply: &mut Reply,
+) -> bool
+    ensures { result ≡ true → IsTestReply task.now files.now text.now out.new reply.new }
+{
+    let mut sink = MemorySink::new(alloc);
+    let path = path_of(task.paths.as_slice());
+    let ending = run_test(alloc, files, &[], path, text, task.name, &mut sink);
+    tell(&ending, &mut sink, out, reply)
+}
+
+/// The first of the paths, and an empty one where there is none.
+fn path_of(paths: &[String]) -> &str
+    ensures { result.now ≡ first_path (map (λ path. string_bytes path) paths.now) }
+{
+    match paths {
+        [path, ..] => path.as_str(),
+        [] => "",
     }
 }
 
-/// What a page is told of a message that cannot be taken.
-fn outcome_of(fault: MessageFault) -> Outcome {
-    match fault {
-        MessageFault::NoText => Outcome::NoMessage,
-        MessageFault::Memory => Outcome::NoMemory,
-    }
+/// Runs the tests of these files, and tells a page how they ended.
+fn answer_tests(
+    alloc: Global,
+    task: &TestsTask<'_>,
+    files: &[SourceFile],
+    tests: &[SourceFile],
+    out: &mut [u8],
+    reply: &mut Reply,
+) -> bool
+    ensures { result ≡ true → IsTestsReply task.now files.now tests.now out.new reply.new }
+{
+    let mut sink = MemorySink::new(alloc);
+    let ending = run_tests(alloc, files, &[], tests, task.name, &mut sink);
+    tell(&ending, &mut sink, out, reply)
 }

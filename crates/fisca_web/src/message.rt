@@ -61,7 +61,7 @@ fn copied(alloc: Global, bytes: &[u8], ends: &[usize], i: usize) -> Result<Strin
 }
 
 /// The first parts of a message, so many.
-pub(crate) fn words_in(
+fn words_in(
     alloc: Global,
     bytes: &[u8],
     ends: &[usize],
@@ -77,12 +77,7 @@ pub(crate) fn words_in(
 }
 
 /// The file whose path is this part of a message, and whose text is the next.
-fn file(
-    alloc: Global,
-    bytes: &[u8],
-    ends: &[usize],
-    i: usize,
-) -> Result<SourceFile, MessageFault>
+fn file(alloc: Global, bytes: &[u8], ends: &[usize], i: usize) -> Result<SourceFile, MessageFault>
     ensures { IfOk result (λ file. file ≡ file_at bytes.now ends.now i) }
 {
     let Some(next) = i.checked_add(1) else {
@@ -93,7 +88,7 @@ fn file(
 }
 
 /// The files of a message with so many words.
-pub(crate) fn files_in(
+fn files_in(
     alloc: Global,
     bytes: &[u8],
     ends: &[usize],
@@ -110,4 +105,29 @@ pub(crate) fn files_in(
         files.push(file(alloc, bytes, ends, first + 2 * n)?)?;
     }
     Ok(files)
+}
+
+/// What stands in a message beside the text.
+#[derive(Drop)]
+pub(crate) struct Message {
+    /// The words.
+    pub(crate) words: Vec<String>,
+    /// The files.
+    pub(crate) files: Vec<SourceFile>,
+}
+
+/// A message with so many words.
+pub(crate) fn message_in(
+    alloc: Global,
+    bytes: &[u8],
+    ends: &[usize],
+    words: usize,
+) -> Result<Message, MessageFault>
+    ensures words { IfOk result (λ message. map (λ word. string_bytes word) message.words.items ≡ first_parts bytes.now ends.now words) }
+    ensures files { IfOk result (λ message. message.files.items ≡ files_of bytes.now ends.now words) }
+{
+    Ok(Message {
+        files: files_in(alloc, bytes, ends, words)?,
+        words: words_in(alloc, bytes, ends, words)?,
+    })
 }

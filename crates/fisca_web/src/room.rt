@@ -1,14 +1,16 @@
 //! The room that a page has for an answer.
 
 ghost use Rattle.std.specs.Prelude.{◌≡◌, [], true, false, take, length, unwrap_or};
+ghost use Rattle.fisca_web.specs.Reply.{Says};
 
 use crate::reply::{Outcome, Reply};
 use clap::Error;
 use fisca_commands::Ending;
+use fisca_writer::{MemorySink, hand_over};
 use std::alloc::Global;
 
 /// Puts bytes at the beginning of a room, where it has so many.
-pub(crate) fn put(bytes: &[u8], out: &mut [u8]) -> bool
+fn put(bytes: &[u8], out: &mut [u8]) -> bool
     ensures { result ≡ true → take (length bytes.now) out.new ≡ bytes.now }
 {
     if out.len() < bytes.len() {
@@ -19,12 +21,40 @@ pub(crate) fn put(bytes: &[u8], out: &mut [u8]) -> bool
 }
 
 /// The line for standard error, which is empty where there is none.
-pub(crate) fn line_of(ending: &Ending) -> &str
+fn line_of(ending: &Ending) -> &str
     ensures { result.now ≡ unwrap_or ending.now.told [] }
 {
     match ending.line() {
         Some(line) => line,
         None => "",
+    }
+}
+
+/// Tells a page how a task ended that wrote what the sink holds: puts that and the line for standard error into the room.
+pub(crate) fn tell(
+    ending: &Ending,
+    sink: &mut MemorySink,
+    out: &mut [u8],
+    reply: &mut Reply,
+) -> bool
+    ensures { result ≡ true → Says sink.old.bytes ending.now out.new reply.new }
+{
+    let line = line_of(ending);
+    let written = sink.bytes().len();
+    if hand_over(sink, line.as_bytes()).is_err() {
+        return reply.fail(Outcome::NoMemory);
+    }
+    *reply = Reply {
+        outcome: Outcome::Done as usize,
+        status: usize::from(ending.status()),
+        written,
+        told: line.len(),
+    };
+    if put(sink.bytes(), out) {
+        true
+    } else {
+        reply.outcome = Outcome::NoRoom as usize;
+        false
     }
 }
 
@@ -39,5 +69,9 @@ pub(crate) fn put_error(alloc: Global, error: &Error, out: &mut [u8], reply: &mu
     if !put(text.as_bytes(), out) {
         return reply.fail(Outcome::NoRoom);
     }
-    reply.fail(if error.use_stderr() { Outcome::Usage } else { Outcome::Help })
+    reply.fail(if error.use_stderr() {
+        Outcome::Usage
+    } else {
+        Outcome::Help
+    })
 }

@@ -1,33 +1,36 @@
 -- What a page is told of its message.
-use Rattle.std.specs.Prelude.{◌≡◌, ℕ, ◌+◌, ⊥, List, [], ◌∷◌, ◌++◌, drop, take, length, map, Option, Some, option_map, string_bytes, unwrap_or}
+use Rattle.std.specs.Prelude.{◌≡◌, ℕ, ◌+◌, List, [], ◌∷◌, ◌++◌, drop, take, length, map, Option, Some, option_map, string_bytes, unwrap_or}
 use Rattle.clap.specs.Simple.{subcommand_of}
 use Rattle.fisca_params.specs.Source.{Source}
 use Rattle.fisca_command_line.specs.CommandLine.{fisca_app}
 use Rattle.fisca_command_line.specs.Work.{IsWorkOf}
+use Rattle.fisca_command_line.specs.declared.task.LinesTask.{LinesTask}
 use Rattle.fisca_command_line.specs.declared.task.Task.{Task}
 use Rattle.fisca_command_line.specs.declared.task.TestsTask.{TestsTask}
 use Rattle.fisca_command_line.specs.declared.task.Work.{Work}
 use Rattle.fisca_command_line.specs.declared.task.Work.TheVariants as work
 use Rattle.fisca_rule_files.specs.Ending.{TaskOutcome}
 use Rattle.fisca_rule_files.specs.Refusal.{paths_of}
+use Rattle.fisca_commands.specs.CalcLines.{IsCalcLines, Streams, streams_of}
 use Rattle.fisca_commands.specs.Ending.{IsTaskEnding, IsTestEnding}
 use Rattle.fisca_commands.specs.ManyTests.{IsTestsEnding}
 use Rattle.fisca_web.specs.Message.{first_parts, files_of, part_of}
+use Rattle.fisca_web.specs.TextLines.{lines_of}
 use Rattle.fisca_web.specs.declared.reply.Reply.{Reply}
 
--- the bytes of a room say what was written, and behind it the line for standard error, if there is one
-pub record Says (written : List ℕ) (outcome : TaskOutcome) (room : List ℕ) (reply : Reply) : Type 0 where
-  pub status : reply.status ≡ outcome.status
+-- the bytes of a room say what was written, and behind it what is told
+pub record Says (written told : List ℕ) (status : ℕ) (room : List ℕ) (reply : Reply) : Type 0 where
+  pub status : reply.status ≡ status
   pub count : reply.written ≡ length written
-  pub line : reply.told ≡ length (unwrap_or outcome.told [])
-  pub bytes : take (reply.written + reply.told) room ≡ written ++ unwrap_or outcome.told []
+  pub line : reply.told ≡ length told
+  pub bytes : take (reply.written + reply.told) room ≡ written ++ told
 
 -- a page is told how that ended which ends so where a sink held the first and then holds the second, and what it wrote
 pub record IsTold (Ends : Option (List ℕ) → Option (List ℕ) → TaskOutcome → Type 0) (room : List ℕ) (reply : Reply) : Type 0 where
   pub written : List ℕ
   pub outcome : TaskOutcome
   pub ending : Ends (Some []) (Some written) outcome
-  pub says : Says written outcome room reply
+  pub says : Says written (unwrap_or outcome.told []) outcome.status room reply
 
 -- how a task ended over these files, whose paths are told as they are, and this text
 abbrev pub IsTaskReply : Task → List Source → List ℕ → List ℕ → Reply → Type 0
@@ -49,10 +52,22 @@ IsTestReply task files text = IsTold (IsTestEnding files (paths_of (first_path (
 abbrev pub IsTestsReply : TestsTask → List Source → List Source → List ℕ → Reply → Type 0
 IsTestsReply task files tests = IsTold (IsTestsEnding files [] tests (name_of task))
 
--- how what words ask for ended over rule files, files of tests and a text; tests of lines are none of a page
+-- how the lines of a text ended over these files: what is told of them stands before the line of the end
+pub record IsLinesReply (task : LinesTask) (files : List Source) (text room : List ℕ) (reply : Reply) : Type 0 where
+  pub old : Streams
+  pub new : Streams
+  pub begun : old ≡ streams_of (Some (lines_of text)) (Some []) 0 (Some []) 0
+  pub written : List ℕ
+  pub told : List ℕ
+  pub ended : (new.sink.taken ≡ Some written) × (new.told.taken ≡ Some told)
+  pub outcome : TaskOutcome
+  pub ending : IsCalcLines files [] task.file.now task.form old new outcome
+  pub says : Says written (told ++ unwrap_or outcome.told []) outcome.status room reply
+
+-- how what words ask for ended over rule files, files of tests and a text
 abbrev pub IsWorkReply : Work → List Source → List Source → List ℕ → List ℕ → Reply → Type 0
 IsWorkReply (work.Task task) files tests text room reply = IsTaskReply task files text room reply
-IsWorkReply (work.Lines lines) files tests text room reply = ⊥
+IsWorkReply (work.Lines task) files tests text room reply = IsLinesReply task files text room reply
 IsWorkReply (work.Tests task) files [] text room reply = IsTestReply task files text room reply
 IsWorkReply (work.Tests task) files (test ∷ tests) text room reply = IsTestsReply task files (test ∷ tests) room reply
 

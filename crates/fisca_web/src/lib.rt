@@ -2,31 +2,35 @@
 #![tactic(auto)]
 
 ghost use Rattle.std.specs.Prelude.{◌≡◌, true, map, string_bytes, option_map};
-ghost use Rattle.fisca_web.specs.Reply.{IsAnswered, IsReply, IsTaskReply, IsTestReply, IsTestsReply, first_path};
+ghost use Rattle.fisca_web.specs.Reply.{IsAnswered, IsLinesReply, IsReply, IsTaskReply, IsTestReply, IsTestsReply, first_path};
 
 mod message;
 mod reply;
 mod room;
+mod text_lines;
 
-use fisca_command_line::{Task, TestsTask, Work, read_task};
-use fisca_commands::{run_task, run_test, run_tests};
+use fisca_command_line::{LinesTask, Task, TestsTask, Work, read_task};
+use fisca_commands::{calc_lines, run_task, run_test, run_tests};
 use fisca_params::SourceFile;
-use fisca_writer::MemorySink;
+use fisca_writer::{MemorySink, hand_over};
 use message::{MessageFault, message_in, part};
 pub use reply::{Outcome, Reply};
-use room::{put_error, tell};
+use room::{line_of, put_error, tell};
 use std::alloc::Global;
+use text_lines::TextLines;
 
 /// Runs the task of a message, and says whether it did.
 ///
 /// The parts of the message stand in `bytes`, each up to where `ends` says: so many words of a command line, of which the first is the program's own
 /// name, the text of the file that they name, no one's where they name none, and then the path and the text of each file: so many files of tests, and the
 /// rule files, in any order. Where the words name reforms, the rule files are those that are left when these are laid over the rule set. Tests are those
-/// of the text where the message has no files of tests, and else those of these files. Each path is told as it is.
+/// of the text where the message has no files of tests, and else those of these files; the lines of `calc --lines` are those of the text. Each path is
+/// told as it is.
 ///
 /// Where it did, what the task wrote stands at the beginning of `out`, behind it the line for standard error, and `reply` has the length of both and
-/// the exit status: they are what [`run_task`], [`run_test`] or [`run_tests`] promises of this task, these files and this text. Where it did not,
-/// [`Outcome`] tells why, as a number in `reply`. It keeps nothing from one call to the next. This project's own rule.
+/// the exit status: they are what [`run_task`], [`run_test`], [`run_tests`] or [`calc_lines`] promises of this task, these files and this text; before the
+/// line for standard error stands what is told of lines. Where it did not, [`Outcome`] tells why, as a number in `reply`. It keeps nothing from one call
+/// to the next. This project's own rule.
 #[unsafe(no_mangle)]
 pub extern "C" fn fisca_task(
     alloc: Global,
@@ -81,7 +85,7 @@ fn answer_words(
             [] => answer_test(alloc, &task, rules, text, out, reply),
             [..] => answer_tests(alloc, &task, rules, tests, out, reply),
         },
-        Ok(Work::Lines(_)) => reply.fail(Outcome::Lines),
+        Ok(Work::Lines(task)) => answer_lines(alloc, &task, rules, text, out, reply),
         Err(error) => put_error(alloc, &error, out, reply),
     }
 }
@@ -99,7 +103,8 @@ fn answer_task(
 {
     let mut sink = MemorySink::new(alloc);
     let ending = run_task(alloc, task, files, &[], text, &mut sink);
-    tell(&ending, &mut sink, out, reply)
+    let told = line_of(&ending).as_bytes();
+    tell(&mut sink, told, ending.status(), out, reply)
 }
 
 /// Runs the tests of this text over these files, and tells a page how they ended.
@@ -116,7 +121,8 @@ fn answer_test(
     let mut sink = MemorySink::new(alloc);
     let path = path_of(task.paths.as_slice());
     let ending = run_test(alloc, files, &[], path, text, task.name, &mut sink);
-    tell(&ending, &mut sink, out, reply)
+    let told = line_of(&ending).as_bytes();
+    tell(&mut sink, told, ending.status(), out, reply)
 }
 
 /// The first of the paths, and an empty one where there is none.
@@ -142,5 +148,38 @@ fn answer_tests(
 {
     let mut sink = MemorySink::new(alloc);
     let ending = run_tests(alloc, files, &[], tests, task.name, &mut sink);
-    tell(&ending, &mut sink, out, reply)
+    let told = line_of(&ending).as_bytes();
+    tell(&mut sink, told, ending.status(), out, reply)
+}
+
+/// Works out the columns of each line of this text under these files, and tells a page how that ended.
+fn answer_lines(
+    alloc: Global,
+    task: &LinesTask<'_>,
+    files: &[SourceFile],
+    text: &str,
+    out: &mut [u8],
+    reply: &mut Reply,
+) -> bool
+    ensures { result ≡ true → IsLinesReply task.now files.now text.now out.new reply.new }
+{
+    let (mut sink, mut told) = (MemorySink::new(alloc), MemorySink::new(alloc));
+    let Some(mut lines) = TextLines::new(text) else {
+        return reply.fail(Outcome::NoMemory);
+    };
+    let (path, form) = (task.file, task.form);
+    let ending = calc_lines(
+        alloc,
+        files,
+        &[],
+        path,
+        form,
+        &mut lines,
+        &mut sink,
+        &mut told,
+    );
+    if hand_over(&mut told, line_of(&ending).as_bytes()).is_err() {
+        return reply.fail(Outcome::NoMemory);
+    }
+    tell(&mut sink, told.bytes(), ending.status(), out, reply)
 }

@@ -13,12 +13,10 @@ pub enum Outcome {
     NoRoom = 2,
     /// Memory was refused.
     NoMemory = 3,
-    /// The words ask for a task over lines, which no message has.
-    Lines = 4,
     /// The words ask for help, and `out` has the text.
-    Help = 5,
+    Help = 4,
     /// The words are refused, and `out` has the text that tells why.
-    Usage = 6,
+    Usage = 5,
 }
 
 /// What a page is told beside the bytes: four numbers of eight bytes.
@@ -31,7 +29,7 @@ pub struct Reply {
     pub status: usize,
     /// How many bytes were written, or those of a text for words that ask for no task.
     pub written: usize,
-    /// How many bytes the line for standard error has, without its line feed; 0 where there is none.
+    /// How many bytes stand behind these for standard error: what is told of lines, and the last line without its line feed, if there is one.
     pub told: usize,
 }
 

@@ -21,7 +21,7 @@ fn put(bytes: &[u8], out: &mut [u8]) -> bool
 }
 
 /// The line for standard error, which is empty where there is none.
-fn line_of(ending: &Ending) -> &str
+pub(crate) fn line_of(ending: &Ending) -> &str
     ensures { result.now ≡ unwrap_or ending.now.told [] }
 {
     match ending.line() {
@@ -30,25 +30,25 @@ fn line_of(ending: &Ending) -> &str
     }
 }
 
-/// Tells a page how a task ended that wrote what the sink holds: puts that and the line for standard error into the room.
+/// Tells a page how something ended that wrote what the sink holds: puts that into the room, and behind it what is told.
 pub(crate) fn tell(
-    ending: &Ending,
     sink: &mut MemorySink,
+    told: &[u8],
+    status: u8,
     out: &mut [u8],
     reply: &mut Reply,
 ) -> bool
-    ensures { result ≡ true → Says sink.old.bytes ending.now out.new reply.new }
+    ensures { result ≡ true → Says sink.old.bytes told.now status out.new reply.new }
 {
-    let line = line_of(ending);
     let written = sink.bytes().len();
-    if hand_over(sink, line.as_bytes()).is_err() {
+    if hand_over(sink, told).is_err() {
         return reply.fail(Outcome::NoMemory);
     }
     *reply = Reply {
         outcome: Outcome::Done as usize,
-        status: usize::from(ending.status()),
+        status: usize::from(status),
         written,
-        told: line.len(),
+        told: told.len(),
     };
     if put(sink.bytes(), out) {
         true

@@ -43,6 +43,21 @@ pub extern "C" fn fisca_task(
 ) -> bool
     ensures { result ≡ true → IsReply bytes.now ends.now words tests out.new reply.new }
 {
+    answer_message(alloc, bytes, ends, words, tests, out, reply)
+}
+
+/// Runs what a message asks for, and tells a page how it ended.
+fn answer_message(
+    alloc: Global,
+    bytes: &[u8],
+    ends: &[usize],
+    words: usize,
+    tests: usize,
+    out: &mut [u8],
+    reply: &mut Reply,
+) -> bool
+    ensures { result ≡ true → IsReply bytes.now ends.now words tests out.new reply.new }
+{
     let Some(text) = part(bytes, ends, words) else {
         return reply.fail(Outcome::NoMessage);
     };

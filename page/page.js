@@ -35,7 +35,7 @@ function questions() {
   const explained = of => calc && why && rules.task(['explain', '.', calc, ...why, '--format', 'jsonl'], text, of);
   return [
     rules.task(['check', '.'], '', files), rules.task(['list', '.'], '', files), calc && rules.task(['calc', '.', calc], text, files),
-    calc && state.before && rules.task(['calc', '.', calc], text, state.before), own('test') && !isCalculator && rules.task(['test', '.', own('test')], textOf('test'), files),
+    calc && state.before && rules.task(['calc', '.', calc], text, state.before), own('test') && !isCalculator && rules.task(['test', '.', own('test')], '', files, [[own('test'), textOf('test')]]),
     explained(files), state.before && explained(state.before),
     // a run is read whole, and none of its positions is worked out
     own('run') && !isCalculator && rules.task(['run', '.', own('run'), '--to', '0'], textOf('run'), files),

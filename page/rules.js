@@ -15,12 +15,12 @@ export class RuleWorker {
     this.worker.postMessage({ module: this.module });
   }
 
-  /** Runs the words of a command line over a text and rule files: what it wrote, told and ended with. */
-  task(words, text, files) {
+  /** Runs the words of a command line over a text, rule files and files of tests: what it wrote, told and ended with. */
+  task(words, text, files, tests = []) {
     const id = this.next++;
     return new Promise(done => {
       this.waiting.set(id, done);
-      this.worker.postMessage({ id, words: ['fisca', ...words], text, files });
+      this.worker.postMessage({ id, words: ['fisca', ...words], text, files, tests });
     });
   }
 

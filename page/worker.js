@@ -1,6 +1,6 @@
 // The commands in a worker: the module, and what it is asked. Node takes the class Rules from here too.
 
-const OUTCOMES = ['done', 'no message', 'no room', 'no memory', 'lines', 'help', 'usage'];
+const OUTCOMES = ['done', 'no message', 'no room', 'no memory', 'help', 'usage'];
 const OUT_OF_MEMORY = 'fisca: out of memory';
 const encoder = new TextEncoder(), decoder = new TextDecoder();
 
@@ -22,13 +22,13 @@ export class Rules {
     this.instance = null;
   }
 
-  /** Runs the words of a command line over the text of their file and the rule files, [path, text] each: what it wrote, told and ended with. */
-  task(words, text, files) {
+  /** Runs the words of a command line over the text of their file, the rule files, [path, text] each, and files of tests: what it wrote, told and ended with. */
+  task(words, text, files, tests = []) {
     try {
       this.instance ??= new WebAssembly.Instance(this.module, {});
-      const parts = message([...words, text, ...files.flat()]);
-      let answer = this.asked(parts, words.length, 1 << 20);
-      if (answer.size) answer = this.asked(parts, words.length, answer.size);
+      const parts = message([...words, text, ...tests.flat(), ...files.flat()]), counts = [words.length, tests.length];
+      let answer = this.asked(parts, counts, 1 << 20);
+      if (answer.size) answer = this.asked(parts, counts, answer.size);
       if (answer.status === 6) this.instance = null;
       return answer;
     } catch (fault) {
@@ -38,7 +38,7 @@ export class Rules {
   }
 
   /** Asks the module with so much room for the answer; where it wants more, it is told how much. */
-  asked({ bytes, ends }, words, size) {
+  asked({ bytes, ends }, counts, size) {
     const { fisca_task, room, give_back, memory } = this.instance.exports;
     const taken = [];
     const place = length => {
@@ -51,7 +51,7 @@ export class Rules {
       const [message_at, ends_at, out_at, reply_at] = [bytes.length + 1, ends.byteLength, size, 32].map(place);
       new Uint8Array(memory.buffer, message_at, bytes.length).set(bytes);
       new BigUint64Array(memory.buffer, ends_at, ends.length).set(ends);
-      const numbers = [message_at, bytes.length, ends_at, ends.length, words, out_at, size, reply_at];
+      const numbers = [message_at, bytes.length, ends_at, ends.length, ...counts, out_at, size, reply_at];
       fisca_task(...numbers.map(BigInt));
       const [outcome, status, written, told] = Array.from(new BigUint64Array(memory.buffer, reply_at, 4), Number);
       if (OUTCOMES[outcome] === 'no room') return { size: written + told };
@@ -76,7 +76,6 @@ function answer(outcome, status, room, written, told) {
     case 'help': return { status: 0, out: text(0, written), told: '' };
     case 'usage': return { status: 2, out: '', told: text(0, written).replace(/\n$/, '') };
     case 'no memory': return { status: 6, out: '', told: OUT_OF_MEMORY };
-    case 'lines': return { status: 2, out: '', told: 'fisca: a page has no lines of files' };
     default: return { status: 5, out: '', told: 'fisca: a file is no text' };
   }
 }
@@ -84,8 +83,8 @@ function answer(outcome, status, room, written, told) {
 // in a worker: each message has a number and what is asked; a run is told of in parts
 if (typeof WorkerGlobalScope !== 'undefined' && self instanceof WorkerGlobalScope) {
   let rules = null;
-  self.onmessage = async ({ data: { id, module, words, text, files } }) => {
+  self.onmessage = async ({ data: { id, module, words, text, files, tests } }) => {
     if (module) rules = new Rules(module);
-    else postMessage({ id, ...rules.task(words, text, files) });
+    else postMessage({ id, ...rules.task(words, text, files, tests) });
   };
 }

@@ -1,5 +1,6 @@
 -- What a page is told of its message.
-use Rattle.std.specs.Prelude.{◌≡◌, ℕ, ◌+◌, List, [], ◌∷◌, ◌++◌, drop, take, length, map, Option, Some, option_map, string_bytes, unwrap_or}
+use Rattle.std.specs.Prelude.{◌≡◌, ℕ, Bool, false, MatchBool, ◌+◌, List, [], ◌∷◌, ◌++◌, drop, take, length, map, Option, Some, option_map, string_bytes, unwrap_or}
+use Rattle.std.specs.Str.{bytes_eq}
 use Rattle.clap.specs.Simple.{subcommand_of}
 use Rattle.fisca_params.specs.Source.{Source}
 use Rattle.fisca_command_line.specs.CommandLine.{fisca_app}
@@ -36,21 +37,28 @@ pub record IsTold (Ends : Option (List ℕ) → Option (List ℕ) → TaskOutcom
 abbrev pub IsTaskReply : Task → List Source → List ℕ → List ℕ → Reply → Type 0
 IsTaskReply task files text = IsTold (IsTaskEnding task files [] text)
 
-abbrev pub first_path : List (List ℕ) → List ℕ
-first_path [] = []
-first_path (path ∷ paths) = path
+-- the paths are that of a file alone
+abbrev pub is_named : List (List ℕ) → Source → Bool
+is_named (path ∷ []) file = bytes_eq path file.path
+is_named paths file = false
 
 -- the text that a name has to have, if there is one
 abbrev pub name_of : TestsTask → Option (List ℕ)
 name_of task = option_map (λ text. text.now) task.name
 
--- how the tests of a text ended over these files
-abbrev pub IsTestReply : TestsTask → List Source → List ℕ → List ℕ → Reply → Type 0
-IsTestReply task files text = IsTold (IsTestEnding files (paths_of (first_path (map (λ path. string_bytes path) task.paths.items)) []) text (name_of task))
+-- how the tests of a file ended over these rule files
+abbrev pub IsTestReply : TestsTask → List Source → Source → List ℕ → Reply → Type 0
+IsTestReply task rules file = IsTold (IsTestEnding rules (paths_of file.path []) file.text (name_of task))
 
--- how the tests of files ended over these files
+-- how the tests of several files ended over these rule files
+abbrev pub IsFilesReply : TestsTask → List Source → List Source → List ℕ → Reply → Type 0
+IsFilesReply task rules tests = IsTold (IsTestsEnding rules [] tests (name_of task))
+
+-- how tests ended over these rule files: those of one file that the words name, or else those of several
 abbrev pub IsTestsReply : TestsTask → List Source → List Source → List ℕ → Reply → Type 0
-IsTestsReply task files tests = IsTold (IsTestsEnding files [] tests (name_of task))
+IsTestsReply task rules (file ∷ []) room reply =
+    MatchBool (is_named (map (λ path. string_bytes path) task.paths.items) file) (IsTestReply task rules file room reply) (IsFilesReply task rules (file ∷ []) room reply)
+IsTestsReply task rules tests room reply = IsFilesReply task rules tests room reply
 
 -- how the lines of a text ended over these files: what is told of them stands before the line of the end
 pub record IsLinesReply (task : LinesTask) (files : List Source) (text room : List ℕ) (reply : Reply) : Type 0 where
@@ -68,8 +76,7 @@ pub record IsLinesReply (task : LinesTask) (files : List Source) (text room : Li
 abbrev pub IsWorkReply : Work → List Source → List Source → List ℕ → List ℕ → Reply → Type 0
 IsWorkReply (work.Task task) files tests text room reply = IsTaskReply task files text room reply
 IsWorkReply (work.Lines task) files tests text room reply = IsLinesReply task files text room reply
-IsWorkReply (work.Tests task) files [] text room reply = IsTestReply task files text room reply
-IsWorkReply (work.Tests task) files (test ∷ tests) text room reply = IsTestsReply task files (test ∷ tests) room reply
+IsWorkReply (work.Tests task) files tests text room reply = IsTestsReply task files tests room reply
 
 -- these words ask for something, and the page is told how it ended
 abbrev pub IsAnswered : List (List ℕ) → List Source → List Source → List ℕ → List ℕ → Reply → Type 0

@@ -2,7 +2,7 @@
 #![tactic(auto)]
 
 ghost use Rattle.std.specs.Prelude.{◌≡◌, true, map, string_bytes, option_map};
-ghost use Rattle.fisca_web.specs.Reply.{IsAnswered, IsLinesReply, IsReply, IsTaskReply, IsTestReply, IsTestsReply, first_path};
+ghost use Rattle.fisca_web.specs.Reply.{IsAnswered, IsLinesReply, IsReply, IsTaskReply, IsFilesReply, IsTestReply, IsTestsReply, is_named};
 
 mod message;
 mod reply;
@@ -23,9 +23,9 @@ use text_lines::TextLines;
 ///
 /// The parts of the message stand in `bytes`, each up to where `ends` says: so many words of a command line, of which the first is the program's own
 /// name, the text of the file that they name, no one's where they name none, and then the path and the text of each file: so many files of tests, and the
-/// rule files, in any order. Where the words name reforms, the rule files are those that are left when these are laid over the rule set. Tests are those
-/// of the text where the message has no files of tests, and else those of these files; the lines of `calc --lines` are those of the text. Each path is
-/// told as it is.
+/// rule files, in any order. Where the words name reforms, the rule files are those that are left when these are laid over the rule set. The files of tests
+/// are those that the words name, or that stand in folders that they name, in order; the lines of `calc --lines` are those of the text. Each path is told
+/// as it is.
 ///
 /// Where it did, what the task wrote stands at the beginning of `out`, behind it the line for standard error, and `reply` has the length of both and
 /// the exit status: they are what [`run_task`], [`run_test`], [`run_tests`] or [`calc_lines`] promises of this task, these files and this text; before the
@@ -96,10 +96,7 @@ fn answer_words(
 {
     match read_task(alloc, words) {
         Ok(Work::Task(task)) => answer_task(alloc, &task, rules, text, out, reply),
-        Ok(Work::Tests(task)) => match tests {
-            [] => answer_test(alloc, &task, rules, text, out, reply),
-            [..] => answer_tests(alloc, &task, rules, tests, out, reply),
-        },
+        Ok(Work::Tests(task)) => answer_tests(alloc, &task, rules, tests, out, reply),
         Ok(Work::Lines(task)) => answer_lines(alloc, &task, rules, text, out, reply),
         Err(error) => put_error(alloc, &error, out, reply),
     }
@@ -122,47 +119,66 @@ fn answer_task(
     tell(&mut sink, told, ending.status(), out, reply)
 }
 
-/// Runs the tests of this text over these files, and tells a page how they ended.
-fn answer_test(
-    alloc: Global,
-    task: &TestsTask<'_>,
-    files: &[SourceFile],
-    text: &str,
-    out: &mut [u8],
-    reply: &mut Reply,
-) -> bool
-    ensures { result ≡ true → IsTestReply task.now files.now text.now out.new reply.new }
-{
-    let mut sink = MemorySink::new(alloc);
-    let path = path_of(task.paths.as_slice());
-    let ending = run_test(alloc, files, &[], path, text, task.name, &mut sink);
-    let told = line_of(&ending).as_bytes();
-    tell(&mut sink, told, ending.status(), out, reply)
-}
-
-/// The first of the paths, and an empty one where there is none.
-fn path_of(paths: &[String]) -> &str
-    ensures { result.now ≡ first_path (map (λ path. string_bytes path) paths.now) }
-{
-    match paths {
-        [path, ..] => path.as_str(),
-        [] => "",
-    }
-}
-
-/// Runs the tests of these files, and tells a page how they ended.
+/// Runs the tests of these files, of one that the words name as a file as of a file, and else as of several, and tells a page how they ended.
 fn answer_tests(
     alloc: Global,
     task: &TestsTask<'_>,
-    files: &[SourceFile],
+    rules: &[SourceFile],
     tests: &[SourceFile],
     out: &mut [u8],
     reply: &mut Reply,
 ) -> bool
-    ensures { result ≡ true → IsTestsReply task.now files.now tests.now out.new reply.new }
+    ensures { result ≡ true → IsTestsReply task.now rules.now tests.now out.new reply.new }
+{
+    match tests {
+        [file] if is_named(task.paths.as_slice(), file) => {
+            answer_test(alloc, task, rules, file, out, reply)
+        }
+        _ => answer_files(alloc, task, rules, tests, out, reply),
+    }
+}
+
+/// Whether the paths are that of this file alone.
+fn is_named(paths: &[String], file: &SourceFile) -> bool
+    ensures { result ≡ is_named (map (λ path. string_bytes path) paths.now) file.now }
+{
+    match paths {
+        [path] => path.as_str() == file.path(),
+        _ => false,
+    }
+}
+
+/// Runs the tests of a file, and tells a page how they ended.
+fn answer_test(
+    alloc: Global,
+    task: &TestsTask<'_>,
+    rules: &[SourceFile],
+    file: &SourceFile,
+    out: &mut [u8],
+    reply: &mut Reply,
+) -> bool
+    ensures { result ≡ true → IsTestReply task.now rules.now file.now out.new reply.new }
 {
     let mut sink = MemorySink::new(alloc);
-    let ending = run_tests(alloc, files, &[], tests, task.name, &mut sink);
+    let (path, text) = (file.path(), file.text());
+    let ending = run_test(alloc, rules, &[], path, text, task.name, &mut sink);
+    let told = line_of(&ending).as_bytes();
+    tell(&mut sink, told, ending.status(), out, reply)
+}
+
+/// Runs the tests of several files, and tells a page how they ended.
+fn answer_files(
+    alloc: Global,
+    task: &TestsTask<'_>,
+    rules: &[SourceFile],
+    tests: &[SourceFile],
+    out: &mut [u8],
+    reply: &mut Reply,
+) -> bool
+    ensures { result ≡ true → IsFilesReply task.now rules.now tests.now out.new reply.new }
+{
+    let mut sink = MemorySink::new(alloc);
+    let ending = run_tests(alloc, rules, &[], tests, task.name, &mut sink);
     let told = line_of(&ending).as_bytes();
     tell(&mut sink, told, ending.status(), out, reply)
 }

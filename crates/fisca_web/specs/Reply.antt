@@ -20,8 +20,8 @@ use Rattle.fisca_web.specs.TextLines.{lines_of}
 use Rattle.fisca_web.specs.declared.reply.Reply.{Reply}
 
 -- the bytes of a room say what was written, and behind it what is told
-pub record Says (written told : List ℕ) (status : ℕ) (room : List ℕ) (reply : Reply) : Type 0 where
-  pub status : reply.status ≡ status
+pub record Says (written told : List ℕ) (ended : ℕ) (room : List ℕ) (reply : Reply) : Type 0 where
+  pub status : reply.status ≡ ended
   pub count : reply.written ≡ length written
   pub line : reply.told ≡ length told
   pub bytes : take (reply.written + reply.told) room ≡ written ++ told
@@ -42,17 +42,13 @@ abbrev pub is_named : List (List ℕ) → Source → Bool
 is_named (path ∷ []) file = bytes_eq path file.path
 is_named paths file = false
 
--- the text that a name has to have, if there is one
-abbrev pub name_of : TestsTask → Option (List ℕ)
-name_of task = option_map (λ text. text.now) task.name
-
 -- how the tests of a file ended over these rule files
 abbrev pub IsTestReply : TestsTask → List Source → Source → List ℕ → Reply → Type 0
-IsTestReply task rules file = IsTold (IsTestEnding rules (paths_of file.path []) file.text (name_of task))
+IsTestReply task rules file = IsTold (IsTestEnding rules (paths_of file.path []) file.text (option_map (λ text. text.now) task.name))
 
 -- how the tests of several files ended over these rule files
 abbrev pub IsFilesReply : TestsTask → List Source → List Source → List ℕ → Reply → Type 0
-IsFilesReply task rules tests = IsTold (IsTestsEnding rules [] tests (name_of task))
+IsFilesReply task rules tests = IsTold (IsTestsEnding rules [] tests (option_map (λ text. text.now) task.name))
 
 -- how tests ended over these rule files: those of one file that the words name, or else those of several
 abbrev pub IsTestsReply : TestsTask → List Source → List Source → List ℕ → Reply → Type 0

@@ -1,5 +1,5 @@
 -- What a page is told of its message.
-use Rattle.std.specs.Prelude.{◌≡◌, ℕ, Bool, false, MatchBool, ◌+◌, List, [], ◌∷◌, ◌++◌, drop, take, length, map, Option, Some, option_map, string_bytes, unwrap_or}
+use Rattle.std.specs.Prelude.{◌≡◌, ℕ, Bool, false, MatchOption, if◌then◌else◌, ◌+◌, List, [], ◌∷◌, ◌++◌, drop, take, length, map, Option, Some, None, option_map, string_bytes, unwrap_or}
 use Rattle.std.specs.Str.{bytes_eq}
 use Rattle.clap.specs.Simple.{subcommand_of}
 use Rattle.fisca_params.specs.Source.{Source}
@@ -42,6 +42,11 @@ abbrev pub is_named : List (List ℕ) → Source → Bool
 is_named (path ∷ []) file = bytes_eq path file.path
 is_named paths file = false
 
+-- the file of tests, if it is the only one, and the paths are its own alone
+abbrev pub own_file : List (List ℕ) → List Source → Option Source
+own_file paths (file ∷ []) = if is_named paths file then Some file else None
+own_file paths files = None
+
 -- how the tests of a file ended over these rule files
 abbrev pub IsTestReply : TestsTask → List Source → Source → List ℕ → Reply → Type 0
 IsTestReply task rules file = IsTold (IsTestEnding rules (paths_of file.path []) file.text (option_map (λ text. text.now) task.name))
@@ -52,9 +57,8 @@ IsFilesReply task rules tests = IsTold (IsTestsEnding rules [] tests (option_map
 
 -- how tests ended over these rule files: those of one file that the words name, or else those of several
 abbrev pub IsTestsReply : TestsTask → List Source → List Source → List ℕ → Reply → Type 0
-IsTestsReply task rules (file ∷ []) room reply =
-    MatchBool (is_named (map (λ path. string_bytes path) task.paths.items) file) (IsTestReply task rules file room reply) (IsFilesReply task rules (file ∷ []) room reply)
-IsTestsReply task rules tests room reply = IsFilesReply task rules tests room reply
+IsTestsReply task rules tests room reply =
+    MatchOption (own_file (map (λ path. string_bytes path) task.paths.items) tests) (IsFilesReply task rules tests room reply) (λ file. IsTestReply task rules file room reply)
 
 -- how the lines of a text ended over these files: what is told of them stands before the line of the end
 pub record IsLinesReply (task : LinesTask) (files : List Source) (text room : List ℕ) (reply : Reply) : Type 0 where

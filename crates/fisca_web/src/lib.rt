@@ -2,7 +2,7 @@
 #![tactic(auto)]
 
 ghost use Rattle.std.specs.Prelude.{◌≡◌, true, map, string_bytes, option_map};
-ghost use Rattle.fisca_web.specs.Reply.{IsAnswered, IsLinesReply, IsReply, IsTaskReply, IsFilesReply, IsTestReply, IsTestsReply, is_named};
+ghost use Rattle.fisca_web.specs.Reply.{IsAnswered, IsLinesReply, IsReply, IsTaskReply, IsFilesReply, IsTestReply, IsTestsReply, is_named, own_file};
 
 mod message;
 mod reply;
@@ -130,11 +130,25 @@ fn answer_tests(
 ) -> bool
     ensures { result ≡ true → IsTestsReply task.now rules.now tests.now out.new reply.new }
 {
+    match own_file(task.paths.as_slice(), tests) {
+        Some(file) => answer_test(alloc, task, rules, file, out, reply),
+        None => answer_files(alloc, task, rules, tests, out, reply),
+    }
+}
+
+/// The file of tests, if it is the only one, and the paths are its own alone.
+fn own_file<'a>(paths: &[String], tests: &'a [SourceFile]) -> Option<&'a SourceFile>
+    ensures { option_map (λ file. file.now) result ≡ own_file (map (λ path. string_bytes path) paths.now) tests.now }
+{
     match tests {
-        [file] if is_named(task.paths.as_slice(), file) => {
-            answer_test(alloc, task, rules, file, out, reply)
+        [file] => {
+            if is_named(paths, file) {
+                Some(file)
+            } else {
+                None
+            }
         }
-        _ => answer_files(alloc, task, rules, tests, out, reply),
+        _ => None,
     }
 }
 

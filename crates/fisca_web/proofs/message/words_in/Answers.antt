@@ -1,7 +1,7 @@
-use Rattle.std.proofs.Common.{◌≡◌, ap, ◌∙◌, map, string_bytes, [], ◌∷◌, ◌++◌}
+use Rattle.std.proofs.Common.{ap, ◌∙◌, map, string_bytes, [], ◌∷◌, ◌++◌}
 use Rattle.std.proofs.lemmas.List.{map-append}
 use native.Mathlib.Numerals.{unary_clauses}
-use Rattle.fisca_web.specs.Message.{first_parts, part_of}
+use Rattle.fisca_web.specs.Message.{first_parts}
 use Rattle.fisca_web.proofs.message.words_in.Goals as goal
 
 -- one word more: the words before are the first parts, and it is the next part

@@ -1,3 +1,4 @@
+pub mod Children
 pub mod Counted
 pub mod Keywords
 pub mod Latest

@@ -151,8 +151,8 @@ pub fn formula_of<'n, 'a>(
     returned: &Expr<'a>,
     rows: &mut Rows,
 ) -> Result<TypedFormula, FormulaRefusal>
-    requires { names.locals ≡ [] }
-    requires { rows.old ≡ (names_of names.entry).tables }
+    requires none { names.locals ≡ [] }
+    requires known { rows.old ≡ (names_of names.entry).tables }
     ensures formula { Tells formula_view (spec.formula_of (names_of names.entry) value_type (map assigned locals.now) (tree_of returned.now)) result }
     ensures same { rows.new ≡ rows.old }
 {

@@ -90,16 +90,11 @@ impl<'n, 'a> Rows<'n, 'a> {
         ensures { IfOk result (λ f. kept_view f ≡ alike_below self.now.nodes places.now (members_at self.now choices)) }
     {
         let names = member_names(alloc, self.tables, choices)?;
-        if_found(children_alike(
-            alloc,
-            &self.tables.parameters,
-            places,
-            names.as_slice(),
-        ))
+        if_found(children_alike(alloc, &self.tables.parameters, places, names.as_slice()))
     }
 
     /// Keeps what was found.
-    #[tactic(auto, using(crate::proofs::Rows::right_more))]
+    #[tactic(auto, using(crate::proofs::Kept::right_more))]
     fn keep(&mut self, looked: Looked, found: Found) -> Result<(), AllocError>
         requires { kept_view found ≡ looked_for self.old looked }
         ensures { self.new ≡ self.old }

@@ -41,7 +41,13 @@ pub fn thing_of<'a, 't>(
         Expr::Number(digits) => number_thing(digits.as_bytes()),
         Expr::Text(text) => text_thing(alloc, text.as_str()),
         Expr::Bracketed(bracket, inside) => bracketed(alloc, names, *bracket, inside, rows),
-        Expr::Attribute(access) => attribute(alloc, names, &access.front, access.name.as_str(), rows),
+        Expr::Attribute(access) => attribute(
+            alloc,
+            names,
+            &access.front,
+            access.name.as_str(),
+            rows,
+        ),
         Expr::Applied(suffix, application) => {
             let before = thing_of(alloc, &application.front, names, rows);
             applied(alloc, names, *suffix, before, &application.behind, rows)

@@ -1,7 +1,7 @@
 //! Parameters below `parameters(period)`.
 ghost use Rattle.std.specs.Prelude.{◌≡◌, ◌∷◌, [], ℕ, List, Ok, length, map};
 ghost use Rattle.std.specs.List.{list_all};
-ghost use Rattle.fisca_check_calls.specs.Parameters.{alike_below, all_are, children as children_view, chosen_by, one_kind, scale_alone, thing_of_kind as kind_thing};
+ghost use Rattle.fisca_check_calls.specs.Parameters.{alike_below, all_are, children as children_view, chosen_among as among, chosen_by, one_kind, scale_alone, thing_of_kind as kind_thing};
 ghost use Rattle.fisca_params.specs.Tree.{TreeNode};
 ghost use Rattle.fisca_ast.specs.Outcomes.{Gives};
 ghost use Rattle.fisca_ir.specs.Views.{chosen as chosen_of, indices as indices_of, node, thing};
@@ -100,7 +100,7 @@ fn thing_of_kind(alloc: Global, kind: Wanted, chosen: Chosen) -> Result<Thing, F
 }
 
 /// What nodes stand for, where none is a scale that no index chooses: `BadType` where they are not of one kind.
-#[tactic(auto, using(crate::proofs::Children::one_kind_by))]
+#[tactic(auto, using(crate::proofs::OneKind::one_kind_by))]
 fn of_one_kind(alloc: Global, tree: &ParamTree, chosen: Chosen) -> Result<Thing, FormulaKind>
     ensures { Gives thing (spec.of_one_kind (chosen_of chosen) (spec.kinds_at tree.now chosen.places.value.items)) result }
 {
@@ -273,10 +273,8 @@ pub fn children_alike(
     }
 }
 
-/// Nodes with a member of an Enum with so many behind them in brackets, at this level: a child for each member, where
-/// these are what the members' names lead to.
-#[tactic(auto, using(crate::proofs::Children::by_found))]
-pub fn chosen_below(
+/// These nodes, at this level, chosen by the members that choose so far and one more, of an Enum with so many.
+fn chosen_among(
     alloc: Global,
     children: &Children,
     chosen: &Chosen,
@@ -284,7 +282,7 @@ pub fn chosen_below(
     member: Node,
     size: usize,
 ) -> Result<Thing, FormulaKind>
-    ensures { (ns : List TreeNode) (ts : List (List ℕ)) → alike_below ns (chosen_of chosen.now).places ts ≡ Ok (children_view children.now) → size ≡ length ts → Gives thing (chosen_by ns (chosen_of chosen.now) level (node member) ts) result }
+    ensures { Gives thing (among (children_view children.now) (chosen_of chosen.now) level (node member) size) result }
 {
     let mut indices = copy_indices(alloc, chosen.indices.as_slice())?;
     push_index(alloc, &mut indices, member, size)?;
@@ -295,4 +293,19 @@ pub fn chosen_below(
         moves: chosen.moves.shared()?,
     };
     thing_of_kind(alloc, children.kind, below)
+}
+
+/// Nodes with a member of an Enum with so many behind them in brackets, at this level: a child for each member, where
+/// these are what the members' names lead to.
+pub fn chosen_below(
+    alloc: Global,
+    children: &Children,
+    chosen: &Chosen,
+    level: Level,
+    member: Node,
+    size: usize,
+) -> Result<Thing, FormulaKind>
+    ensures { (ns : List TreeNode) (ts : List (List ℕ)) → alike_below ns (chosen_of chosen.now).places ts ≡ Ok (children_view children.now) → size ≡ length ts → Gives thing (chosen_by ns (chosen_of chosen.now) level (node member) ts) result }
+{
+    chosen_among(alloc, children, chosen, level, member, size)
 }

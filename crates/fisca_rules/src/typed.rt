@@ -225,13 +225,7 @@ pub(crate) fn formulas_of_all<'n, 'a>(
     let mut made = Vec::with_capacity(alloc, variables.len())?;
     let mut rows = Rows::new(alloc, tables);
     for (variable, declaration) in variables.iter().zip(declarations) {
-        made.push(formulas_of(
-            alloc,
-            tables,
-            variable,
-            declaration,
-            &mut rows,
-        )?)?;
+        made.push(formulas_of(alloc, tables, variable, declaration, &mut rows)?)?;
     }
     Ok(made)
 }

@@ -1,8 +1,9 @@
 -- Nodes of one kind.
-use Rattle.std.proofs.Common.{◌≡◌, ℕ, List, [], ◌∷◌, length, Bool, true, false, if◌then◌else◌, Option, Some, None, Result, Ok, Err, refl, ◌∙◌, ap}
+use Rattle.std.proofs.Common.{◌≡◌, ℕ, List, length, Bool, true, false, if◌then◌else◌, Option, Some, None, Result, Ok, Err, refl, ◌∙◌, ap}
 use Rattle.std.specs.List.{list_all}
 use Rattle.fisca_params.specs.Tree.{TreeNode}
 use Rattle.fisca_params.specs.declared.content.NodeKind.{NodeKind}
+use Rattle.fisca_ast.specs.Outcomes.{Gives}
 use Rattle.fisca_ast.specs.declared.fault.FormulaKind.{FormulaKind}
 use Rattle.fisca_typing.specs.declared.kinds.Level.{Level}
 use Rattle.fisca_num.specs.Results.{and_then}
@@ -61,3 +62,7 @@ by_found ns c l n ts a h = by_children ns c l n ts ∙ ap (λ r. and_then r (λ 
 pub by_fault : (ns : List TreeNode) (c : Chosen) (l : Level) (n : Node) (ts : List (List ℕ)) (k : FormulaKind) →
     alike_below ns c.places ts ≡ Err k → chosen_by ns c l n ts ≡ Err k
 by_fault ns c l n ts k h = by_children ns c l n ts ∙ ap (λ r. and_then r (λ b. chosen_among b c l n (length ts))) h
+
+pub gives_same : {X Y : Type 0} (view : X → Y) (o p : Result Y FormulaKind) (r : Result X FormulaKind) → Gives view o r → p ≡ o → Gives view p r
+gives_same view o p (Ok x) g e = e ∙ g
+gives_same view o p (Err k) g e = λ h. e ∙ g h

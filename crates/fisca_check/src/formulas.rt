@@ -1,5 +1,5 @@
 //! Formulas: locals, each of which sees those before it, and what is returned.
-ghost use Rattle.std.specs.Prelude.{◌≡◌, [], map};
+ghost use Rattle.std.specs.Prelude.{◌≡◌, [], IfOk, map};
 ghost use Rattle.fisca_ast.specs.Views.{tree as tree_of};
 ghost use Rattle.fisca_check.specs.Formulas.{Tells, assigned, formula_view, returned_as, scope as scope_view};
 ghost use Rattle.fisca_check.specs.Views.{names as names_of};
@@ -28,6 +28,7 @@ fn behind_local<'n, 'a>(
 ) -> Result<Scope<'n, 'a>, FormulaKind>
     requires { rows.old ≡ (names_of scope.entry.names).tables }
     ensures scope { Gives scope_view (spec.behind_local (scope_view scope.entry) local.now.name (tree_of local.now.value)) result }
+    ensures tables { IfOk result (λ s. (names_of s.names).tables ≡ (names_of scope.entry.names).tables) }
     ensures same { rows.new ≡ rows.old }
 {
     let Scope { names, mut values } = scope;
@@ -64,6 +65,7 @@ fn behind<'n, 'a>(
 ) -> Result<Scope<'n, 'a>, FormulaRefusal>
     requires { rows.old ≡ (names_of scope.entry.names).tables }
     ensures scope { Tells scope_view (spec.at place (spec.behind_local (scope_view scope.entry) local.now.name (tree_of local.now.value))) result }
+    ensures tables { IfOk result (λ s. (names_of s.names).tables ≡ (names_of scope.entry.names).tables) }
     ensures same { rows.new ≡ rows.old }
 {
     match behind_local(alloc, scope, local, rows) {

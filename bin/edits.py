@@ -301,7 +301,8 @@ def refused_for(function, asked, lines):
         return None
     folder, _, last = "/".join(lines[places[0]].removeprefix("fn ").partition(": ")[0].split("::")[1:]).rpartition("/")
     # in a folder of its own, or in that of a cycle of functions, where its goals begin with its name
-    own = re.compile(rf"\./proofs/{re.escape(folder)}/(?:{re.escape(last)}/.*: error|\+\w+/.*: error: `{re.escape(last)}-)")
+    inner = re.escape(f"{folder}/" if folder else "")
+    own = re.compile(rf"\./proofs/{inner}(?:{re.escape(last)}/.*: error|\+\w+/.*: error: `{re.escape(last)}-)")
     own = [line for line in lines if own.match(line) and SAID.match(line) and not NAMES_ALONE.match(line)]
     for line in reversed(lines[: places[0]]):
         if line.startswith("fn "):

@@ -259,11 +259,11 @@ fn run_files_under(rt: &HostRuntime, task: &TestsTask<'_>, laid: &LaidFiles) -> 
 }
 
 /// Works out the tests of these files over the files of a rule set, and answers the exit status.
-fn run_files_over(
+fn run_files_over<'x>(
     rt: &HostRuntime,
     task: &TestsTask<'_>,
-    laid: &LaidFiles,
-    tests: &[SourceFile],
+    laid: &'x LaidFiles,
+    tests: &'x [SourceFile],
 ) -> u8 {
     let Ok(writer) = BufWriter::new(rt.alloc(), Output::new(rt)) else {
         return tell(rt, OUT_OF_MEMORY, NO_MEMORY);

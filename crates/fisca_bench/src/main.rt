@@ -69,7 +69,7 @@ fn list(rt: &impl Print) -> io::Result<()> {
     println!(rt; "params read|value_at|calc [whole|hundredths] COUNT")?;
     println!(rt; "periods read|text|offset|named|sub|compare|hash COUNT")?;
     println!(rt; "rules read|build NAME COUNT")?;
-    println!(rt; "situations read|input NAME COUNT")?;
+    println!(rt; "situations read|input|absent|turn NAME COUNT")?;
     println!(rt; "trees FILE")?;
     println!(rt; "yaml NAME COUNT")
 }

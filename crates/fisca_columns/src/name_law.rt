@@ -11,12 +11,13 @@ use fisca_situations::Situation;
 use fisca_symbols::Tables;
 
 /// Law: the names of a key's variable and member are UTF-8, so that they are written as they are.
-pub fn names_of_keys_are_utf8(tables: &Tables<'_>, situation: &Situation, key: &Key)
+pub fn names_of_keys_are_utf8<'t>(tables: &'t Tables<'_>, situation: &'t Situation, key: &Key)
     ensures variable { IsUtf8 (spec.name_of (slice_get (known tables.now).variables key.now.variable)) }
     ensures member { IsUtf8 (spec.member_of (situation_view situation.now).members key.now.member (slice_get (known tables.now).variables key.now.variable)) }
 {
     let (name, member) = names_of(tables, situation, key);
-    let _bytes = (name.as_bytes(), member.as_bytes());
+    let _name = name.as_bytes();
+    let _member = member.as_bytes();
 }
 
 /// Law: the name of the member of an Enum that is a value of the variable at a place is UTF-8.

@@ -95,19 +95,19 @@ def dated(place):
     return f"    def formula_{1 + place // 12:04d}_{1 + place % 12:02d}(p, t):\n        return 1\n"
 
 
-def chosen_among(size):
-    """Parameters that a local stands for, among which two members of an Enum choose, as many as half of so many bytes
-    hold, and locals that take it up in the other half."""
+def by_members(size, local, use):
+    """Parameters among which two members of an Enum choose, as many as half of so many bytes hold, a local, and locals
+    that use it in the other half."""
     names = [f"m{i}" for i in range(math.isqrt(size // 2 // 40))]
     below = "".join(f"  {name}: {{a: {{values: {{2000-01-01: 1}}}}}}\n" for name in names)
     head = "class E(Enum):\n" + "".join(f"    {name} = 'a'\n" for name in names)
     head += CLASS.replace("v(", "e(").replace("float", "Enum")
     head += "    possible_values = E\n    default_value = E.m0\n" + FORMULA.replace("period)", "period, parameters)")
-    head += "        e = person('e', period)\n        b = parameters(period).n[e][e]\n"
+    head += f"        e = person('e', period)\n        b = parameters(period).n{local}\n"
     return {
         "entities.py": PERSON,
         "parameters/n.yaml": "".join(f"{name}:\n{below}" for name in names),
-        "variables/a.py": many(lambda i: "        a=b\n", size // 2, head, "        return b.a\n"),
+        "variables/a.py": many(lambda i: f"        a=b{use}\n", size // 2, head, "        return a.a\n"),
     }
 
 
@@ -135,7 +135,10 @@ LARGE_VARIABLES = {
     "formulas": lambda size: many(dated, size, CLASS),
 }
 # what makes the files of a rule set of so many bytes
-LARGE_FILES = {"parameters that locals take up": chosen_among}
+LARGE_FILES = {
+    "parameters that locals take up": lambda size: by_members(size, "[e][e]", ""),
+    "pairs of members that choose": lambda size: by_members(size, "", "[e][e]"),
+}
 
 
 def large(name, size):

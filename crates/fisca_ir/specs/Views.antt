@@ -70,7 +70,7 @@ abbrev pub pair_step : Pair-F spec.Node Indexed Paired Parametric Scaled Summed 
 pair_step p = record { left = p.left; right = p.right }
 
 abbrev pub parameter_step : Parameter-F spec.Node Indexed Paired Parametric Scaled Summed → Parametric
-parameter_step p = record { indices = in_order p.indices.items; places = p.places.items; moves = p.moves.items }
+parameter_step p = record { indices = in_order p.indices.items; places = p.places.value.items; moves = p.moves.items }
 
 abbrev pub scale_step : ScaleSum-F spec.Node Indexed Paired Parametric Scaled Summed → Scaled
 scale_step s = record { place = s.place; moves = s.moves.items; base = s.base }
@@ -93,7 +93,7 @@ abbrev pub typed : Typed → things.Typed
 typed t = record { value_type = t.value_type; level = t.level; node = node t.node }
 
 abbrev pub chosen : Chosen → things.Chosen
-chosen c = record { level = c.level; indices = indices c.indices.items; places = c.places.items; moves = c.moves }
+chosen c = record { level = c.level; indices = indices c.indices.items; places = c.places.value.items; moves = c.moves }
 
 abbrev pub relation : Relation → things.Relation
 relation r = record { whom = r.whom; entity = r.entity }

@@ -15,12 +15,12 @@ pub struct Typed {
 }
 
 /// Parameters that are chosen among, at the start of a period: those that the members of the indices lead to, at the
-/// indices' highest level.
+/// indices' highest level. The places are shared.
 #[derive(Drop)]
 pub struct Chosen {
     pub level: Level,
     pub indices: Vec<Index>,
-    pub places: Vec<NodeId>,
+    pub places: Rc<Vec<NodeId>>,
     pub moves: Moves,
 }
 

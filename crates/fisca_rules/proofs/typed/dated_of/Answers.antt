@@ -7,9 +7,9 @@ use Rattle.fisca_rules.proofs.typed.dated_of.Goals as goal
 
 pub returns-in-Ok : goal.returns-in-Ok
 unfolding dated_of
-returns-in-Ok c = ap (λ o. and_then (told_in c.args.place (formula_view c.args.formula.now) o) (λ g. Ok (record { start = c.args.formula.now.start; formula = g }))) c.in-Ok.ensures
+returns-in-Ok c = ap (λ o. and_then (told_in c.args.place (formula_view c.args.formula.now) o) (λ g. Ok (record { start = c.args.formula.now.start; formula = g }))) c.in-Ok.ensures.formula
 
 pub returns-in-Err : goal.returns-in-Err
 unfolding dated_of
 returns-in-Err c = λ h. rw c.told.ensures
-    (ap (λ o. and_then (told_in c.args.place (formula_view c.args.formula.now) o) (λ g. Ok (record { start = c.args.formula.now.start; formula = g }))) (c.in-Err.ensures (rw (← ap (λ f. f.kind) c.told.ensures) h)))
+    (ap (λ o. and_then (told_in c.args.place (formula_view c.args.formula.now) o) (λ g. Ok (record { start = c.args.formula.now.start; formula = g }))) (c.in-Err.ensures.formula (rw (← ap (λ f. f.kind) c.told.ensures) h)))

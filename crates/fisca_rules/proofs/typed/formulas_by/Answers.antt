@@ -14,7 +14,7 @@ returns c =
     let items = c.lines-line-items.result.now in
     let all : length items ≤ l.line-index = omega (arith, c.loop-line-test.false, l.auto.line-index-end) in
     all_made (dated_of (known c.args.tables.now) c.args.declaration.now.module c.args.variable.now.entity c.args.value_type)
-    (map dated l.made.items) (drop l.line-index items) (map formula_view c.args.declaration.now.formulas) l.invariant (drop_of_length-le items all)
+    (map dated l.made.items) (drop l.line-index items) (map formula_view c.args.declaration.now.formulas) l.invariant.0 (drop_of_length-le items all)
 
 pub returns-in_err-dated_of-in-Formula : goal.returns-in_err-dated_of-in-Formula
 returns-in_err-dated_of-in-Formula c =
@@ -24,5 +24,5 @@ returns-in_err-dated_of-in-Formula c =
     let inside : l.line-index < length items = omega (arith, c.loop-line-test.true, l.auto.line-index-end) in
     let cut = drop-cons items l.line-index c.line-item.result inside ∙ ap (λ a. a ∷ drop (suc l.line-index) items) (sym c.line-item.is ∙ c.in-Formula.is) in
     rw (told.1, told.2) (λ h. refused (dated_of (known c.args.tables.now) c.args.declaration.now.module c.args.variable.now.entity c.args.value_type) (map dated l.made.items) _
-    (formula_view c.deref.result.now) (drop l.line-index items) (drop (suc l.line-index) items) (map formula_view c.args.declaration.now.formulas) l.invariant (ap formulas cut ∙ ap (λ g. formula_view g ∷ formulas (drop (suc l.line-index) items)) (sym c.deref.ensures))
-    (c.in_err-dated_of-in-Formula.ensures h))
+    (formula_view c.deref.result.now) (drop l.line-index items) (drop (suc l.line-index) items) (map formula_view c.args.declaration.now.formulas) l.invariant.0 (ap formulas cut ∙ ap (λ g. formula_view g ∷ formulas (drop (suc l.line-index) items)) (sym c.deref.ensures))
+    (c.in_err-dated_of-in-Formula.ensures.formula h))

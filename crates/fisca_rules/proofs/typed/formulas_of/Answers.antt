@@ -4,7 +4,7 @@ use Rattle.fisca_rules.proofs.typed.formulas_of.Goals as goal
 
 pub returns-in-Some : goal.returns-in-Some
 unfolding formulas_of
-returns-in-Some c = rw (← c.type_in_formulas.ensures, c.in-Some.is) c.formulas_made.ensures
+returns-in-Some c = rw (← c.type_in_formulas.ensures, c.in-Some.is) c.formulas_made.ensures.formulas
 
 pub returns-in-None : goal.returns-in-None
 unfolding formulas_of

@@ -1,0 +1,13 @@
+pub mod Alike
+pub mod Compared
+pub mod Fitting
+pub mod Laws
+pub mod Level
+pub mod Lifted
+pub mod Moved
+pub mod Operated
+pub mod Ordered
+pub mod Places
+pub mod Products
+pub mod Steps
+pub mod Terms

@@ -1,0 +1,91 @@
+//! Vectors over a smaller denominator.
+ghost use Rattle.std.specs.Prelude.{◌≡◌, ℕ, ◌<◌, ◌^◌, pos, ◌*ℤ◌, length, IfOk, IfSome, IsTrue};
+ghost use Rattle.fisca_vectors.specs.Numerators.{at};
+
+use crate::levels::divisor;
+use crate::vector::{LIMIT, Vector, greatest_size};
+use std::alloc::{AllocError, Global};
+
+impl Vector {
+    /// The same numbers over the least denominator of all, with a bound to it; nothing where this vector has it.
+    ///
+    /// A vector that many operations made may have a large denominator and a loose bound, and the next operation gives
+    /// nothing. What stands here may go on.
+    pub fn tidied(&self) -> Result<Option<Vector>, AllocError>
+        ensures { IfOk result (λ o. IfSome o (λ c. c ≡ self.now)) }
+    {
+        let by = common_divisor(&self.numerators, self.denominator);
+        if by < 2 || by >= LIMIT || self.denominator % by != 0 {
+            return Ok(None);
+        }
+        let alloc = *self.numerators.allocator();
+        let Some(numerators) = cut_each(alloc, &self.numerators, by)? else {
+            return Ok(None);
+        };
+        let bound = greatest_size(&numerators);
+        if bound >= LIMIT {
+            return Ok(None);
+        }
+        Ok(Some(Vector {
+            numerators,
+            denominator: self.denominator / by,
+            bound,
+        }))
+    }
+}
+
+/// The greatest common divisor of all. That it divides each shows where it is used.
+fn common_divisor(numerators: &[i64], denominator: u64) -> u64 {
+    let mut common = denominator;
+    for numerator in numerators {
+        if common == 1 {
+            return 1;
+        }
+        common = divisor(numerator.unsigned_abs(), common);
+    }
+    common
+}
+
+/// The numerators divided by a number, where it divides each.
+fn cut_each(alloc: Global, numerators: &[i64], by: u64) -> Result<Option<Vec<i64>>, AllocError>
+    requires some { 0 < by }
+    requires below { by < 2 ^ 63 }
+    ensures lanes { IfOk result (λ o. IfSome o (λ v. length v.items ≡ length numerators.now)) }
+    ensures each { IfOk result (λ o. IfSome o (λ v. (k : ℕ) → k < length numerators.now → at v.items k *ℤ pos by ≡ at numerators.now k)) }
+{
+    let mut made = Vec::from_slice(alloc, numerators)?;
+    if cut_into(&mut made, by) {
+        Ok(Some(made))
+    } else {
+        Ok(None)
+    }
+}
+
+/// The same in place: whether it divides each.
+fn cut_into(out: &mut [i64], by: u64) -> bool
+    requires some { 0 < by }
+    requires below { by < 2 ^ 63 }
+    ensures { IsTrue result → (k : ℕ) → k < length out.old → at out.new k *ℤ pos by ≡ at out.old k }
+{
+    for i in 0..out.len() {
+        match part_of(out[i], by) {
+            Some(part) => out[i] = part,
+            None => return false,
+        }
+    }
+    true
+}
+
+/// The numerator divided by a number that divides it.
+fn part_of(numerator: i64, by: u64) -> Option<i64>
+    requires some { 0 < by }
+    requires below { by < 2 ^ 63 }
+    ensures { IfSome result (λ n. n *ℤ pos by ≡ numerator) }
+{
+    let by = by as i64;
+    if numerator % by == 0 {
+        Some(numerator / by)
+    } else {
+        None
+    }
+}

@@ -8,6 +8,6 @@ pub mod Moved
 pub mod Operated
 pub mod Ordered
 pub mod Places
-pub mod Products
+pub mod Multiplied
 pub mod Steps
 pub mod Terms

@@ -2,7 +2,7 @@ use Rattle.std.proofs.Common.{arith, ◌≡◌, ◌*ℤ◌, length, ap, sym, ◌
 use Rattle.fisca_num.specs.Operations.{product_of}
 use Rattle.fisca_vectors.specs.Numerators.{at, IsMade}
 use Rattle.fisca_vectors.proofs.Operated.{IsBeside, Makes}
-use Rattle.fisca_vectors.proofs.Products.{multiplies, product_vector}
+use Rattle.fisca_vectors.proofs.Multiplied.{multiplies, product_vector}
 use Rattle.fisca_vectors.proofs.Terms.{same_lanes}
 use Rattle.fisca_vectors.proofs.products.Vector.mul.Goals as goal
 

@@ -1,7 +1,7 @@
 use Rattle.std.proofs.Common.{rules, ◌≡◌, ◌*◌, ◌*ℤ◌, pos, ap, ◌∙◌, w64, FitsSigned, unsigned_abs}
 use Rattle.std.proofs.lemmas.Int.{to_z-of_z}
 use Rattle.fisca_vectors.specs.Numerators.{IsMade}
-use Rattle.fisca_vectors.proofs.Products.{MakesEach, product_uniform}
+use Rattle.fisca_vectors.proofs.Multiplied.{MakesEach, product_uniform}
 use Rattle.fisca_vectors.proofs.products.Vector.mul_uniform.Goals as goal
 
 pub invariant_of-result : goal.invariant_of-result

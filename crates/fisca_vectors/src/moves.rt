@@ -75,7 +75,7 @@ pub(crate) fn gathered(
 }
 
 /// The numerators over a denominator that is `by` times as large.
-pub(crate) fn widened(alloc: Global, numerators: &[i64], by: u64) -> Result<Vec<i64>, AllocError>
+fn widened(alloc: Global, numerators: &[i64], by: u64) -> Result<Vec<i64>, AllocError>
     requires below { by < 2 ^ 63 }
     requires fits { (k : ℕ) → k < length numerators.now → unsigned_abs (at numerators.now k) * by < 2 ^ 63 }
     ensures { IfOk result (λ v. v.items ≡ widened by numerators.now) }
@@ -87,8 +87,29 @@ pub(crate) fn widened(alloc: Global, numerators: &[i64], by: u64) -> Result<Vec<
     Ok(made)
 }
 
+/// The right numerators with the first of the left ones at the first of the places, the second at the second, and so on,
+/// over the common denominator.
+pub(crate) fn put_back(
+    alloc: Global,
+    factors: Factors,
+    places: &[usize],
+    left: &[i64],
+    right: &[i64],
+) -> Result<Vec<i64>, AllocError>
+    requires same { length left.now ≡ length places.now }
+    requires within { All (λ p. p < length right.now) places.now }
+    requires left_fits { (k : ℕ) → k < length left.now → unsigned_abs (at left.now k) * factors.left < 2 ^ 63 }
+    requires right_fits { (k : ℕ) → k < length right.now → unsigned_abs (at right.now k) * factors.right < 2 ^ 63 }
+    ensures { IfOk result (λ v. v.items ≡ scattered places.now (widened factors.left left.now) (widened factors.right right.now)) }
+{
+    let left = widened(alloc, left, factors.left)?;
+    let mut made = widened(alloc, right, factors.right)?;
+    scatter_into(&left, places, &mut made);
+    Ok(made)
+}
+
 /// Writes the first of the numerators at the first of the places, the second at the second, and so on.
-pub(crate) fn scatter_into(numerators: &[i64], places: &[usize], out: &mut [i64])
+fn scatter_into(numerators: &[i64], places: &[usize], out: &mut [i64])
     requires same { length numerators.now ≡ length places.now }
     requires within { All (λ p. p < length out.old) places.now }
     ensures { out.new ≡ scattered places.now numerators.now out.old }

@@ -6,7 +6,7 @@ ghost use Rattle.fisca_vectors.specs.Selected.{scattered};
 
 use crate::levels::level_of;
 use crate::mask::Mask;
-use crate::moves::{gathered, merged, scatter_into, widened};
+use crate::moves::{gathered, merged, put_back};
 use crate::vector::Vector;
 use std::alloc::AllocError;
 
@@ -63,9 +63,13 @@ impl Vector {
             return Ok(None);
         };
         let bound = level.left_bound.max(level.right_bound);
-        let left = widened(alloc, &self.numerators, level.factors.left)?;
-        let mut numerators = widened(alloc, &other.numerators, level.factors.right)?;
-        scatter_into(&left, places, &mut numerators);
+        let numerators = put_back(
+            alloc,
+            level.factors,
+            places,
+            &self.numerators,
+            &other.numerators,
+        )?;
         Ok(Some(Vector {
             numerators,
             denominator: level.denominator,

@@ -1,5 +1,5 @@
 //! Vectors over a smaller denominator.
-ghost use Rattle.std.specs.Prelude.{◌≡◌, ℕ, ◌<◌, ◌^◌, pos, ◌*ℤ◌, length, IfOk, IfSome, IsTrue};
+ghost use Rattle.std.specs.Prelude.{◌≡◌, ℕ, ◌<◌, ◌*◌, ◌^◌, pos, ◌*ℤ◌, length, IfOk, IfSome, IsTrue};
 ghost use Rattle.fisca_vectors.specs.Numerators.{at};
 
 use crate::levels::divisor;
@@ -7,7 +7,7 @@ use crate::vector::{LIMIT, Vector, greatest_size};
 use std::alloc::{AllocError, Global};
 
 impl Vector {
-    /// The same numbers over the least denominator of all, with a bound to it; nothing where this vector has it.
+    /// The same numbers over the least denominator of all, with the least bound to it; nothing where this vector has both.
     ///
     /// A vector that many operations made may have a large denominator and a loose bound, and the next operation gives
     /// nothing. What stands here may go on.
@@ -15,23 +15,39 @@ impl Vector {
         ensures { IfOk result (λ o. IfSome o (λ c. c ≡ self.now)) }
     {
         let by = common_divisor(&self.numerators, self.denominator);
-        if by < 2 || by >= LIMIT || self.denominator % by != 0 {
+        let Some(denominator) = smaller(self.denominator, by) else {
             return Ok(None);
-        }
+        };
         let alloc = *self.numerators.allocator();
         let Some(numerators) = cut_each(alloc, &self.numerators, by)? else {
             return Ok(None);
         };
         let bound = greatest_size(&numerators);
-        if bound >= LIMIT {
+        if bound >= LIMIT || (by == 1 && bound == self.bound) {
             return Ok(None);
         }
         Ok(Some(Vector {
             numerators,
-            denominator: self.denominator / by,
+            denominator,
             bound,
         }))
     }
+}
+
+/// A denominator divided by a number that divides it.
+fn smaller(denominator: u64, by: u64) -> Option<u64>
+    requires some { 0 < denominator }
+    requires below { denominator < 2 ^ 63 }
+    ensures value { IfSome result (λ d. by * d ≡ denominator) }
+    ensures some { IfSome result (λ d. 0 < d) }
+    ensures below { IfSome result (λ d. d < 2 ^ 63) }
+    ensures by_some { IfSome result (λ _. 0 < by) }
+    ensures by_below { IfSome result (λ _. by < 2 ^ 63) }
+{
+    if by == 0 || by >= LIMIT || denominator % by != 0 {
+        return None;
+    }
+    Some(denominator / by)
 }
 
 /// The greatest common divisor of all. That it divides each shows where it is used.

@@ -6,7 +6,7 @@ use Rattle.fisca_num.specs.Number.{Number, ratio_of}
 use Rattle.fisca_num.specs.Integers.{sum-times, difference-times, times_pos, times_assoc, times_swap}
 use Rattle.fisca_num.specs.Operations.{number_of, sum_of, difference_of, product_of}
 use Rattle.fisca_vectors.specs.Numerators.{pair, lane_of}
-use Rattle.fisca_vectors.proofs.Alike.{number_of_same}
+use Rattle.fisca_num.proofs.Alike.{number_of_same}
 use Rattle.fisca_vectors.proofs.Terms.{Fits, lane_reduces, lane_is, some_product}
 
 turned : (d f k : ℕ) → k * (d * f) ≡ d * (f * k)

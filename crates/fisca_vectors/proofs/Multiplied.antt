@@ -10,7 +10,7 @@ use Rattle.fisca_num.specs.Integers.{times_pos, times_assoc, times_swap, neg-tim
 use Rattle.fisca_num.specs.Operations.{number_of, is_number_of, product_of, quotient_of}
 use Rattle.fisca_vectors.specs.Vectors.{lane, IsLanewise, IsOfEach}
 use Rattle.fisca_vectors.specs.Numerators.{at, pair, lane_of, lanes_of, IsVector, IsMade}
-use Rattle.fisca_vectors.proofs.Alike.{number_of_same, same_through}
+use Rattle.fisca_num.proofs.Alike.{number_of_same, same_through}
 use Rattle.fisca_vectors.proofs.Terms.{Fits, lane_reduces, lane_is, some_product, lane_at, count, own_lane}
 use Rattle.fisca_vectors.proofs.Level.{product_lane, same_product}
 use Rattle.fisca_vectors.proofs.Laws.{scaled_size}

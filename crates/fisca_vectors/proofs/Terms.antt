@@ -13,7 +13,7 @@ use Rattle.fisca_num.specs.Integers.{times_pos}
 use Rattle.fisca_num.specs.Operations.{number_of, is_number_of, only_number_of}
 use Rattle.fisca_vectors.specs.Vectors.{lane}
 use Rattle.fisca_vectors.specs.Numerators.{at, pair, number_or_zero, lane_of, lanes_of, IsVector}
-use Rattle.fisca_vectors.proofs.Alike.{number_of_same}
+use Rattle.fisca_num.proofs.Alike.{number_of_same}
 
 -- both parts fit, so that the pair is a number
 pub record Fits (n : ℤ) (d : ℕ) : Type 0 where

@@ -4,7 +4,7 @@ use Rattle.fisca_vectors.specs.Numerators.{at, IsMade}
 use Rattle.fisca_vectors.proofs.Operated.{IsBeside, Makes}
 use Rattle.fisca_vectors.proofs.Multiplied.{multiplies, product_vector}
 use Rattle.fisca_vectors.proofs.Terms.{same_lanes}
-use Rattle.fisca_vectors.proofs.products.Vector.mul.Goals as goal
+use Rattle.fisca_vectors.proofs.vector.Vector.mul.Goals as goal
 
 pub invariant_of-result : goal.invariant_of-result
 invariant_of-result c =

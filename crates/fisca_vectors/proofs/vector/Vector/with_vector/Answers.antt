@@ -4,7 +4,7 @@ use Rattle.fisca_vectors.specs.Numerators.{at, lane_of, on_numbers, IsOperated}
 use Rattle.fisca_vectors.proofs.Lifted.{lifted}
 use Rattle.fisca_vectors.proofs.Operated.{by_vector}
 use Rattle.fisca_vectors.proofs.Terms.{count}
-use Rattle.fisca_vectors.proofs.arithmetic.Vector.with_vector.Goals as goal
+use Rattle.fisca_vectors.proofs.vector.Vector.with_vector.Goals as goal
 
 pub operated-requires-clause-has : goal.operated-requires-clause-has
 operated-requires-clause-has c =

@@ -4,7 +4,7 @@ use Rattle.fisca_vectors.proofs.Compared.{compares}
 use Rattle.fisca_vectors.proofs.Fitting.{left_fits, right_fits}
 use Rattle.fisca_vectors.proofs.Operated.{IsBeside}
 use Rattle.fisca_vectors.proofs.Terms.{count}
-use Rattle.fisca_vectors.proofs.comparing.Vector.compared.Goals as goal
+use Rattle.fisca_vectors.proofs.vector.Vector.compared.Goals as goal
 
 pub tested-requires-clause-has : goal.tested-requires-clause-has
 tested-requires-clause-has g c =

@@ -2,8 +2,8 @@ use Rattle.std.proofs.Common.{◌≡◌, ◌<◌, length, ap, sym, ◌∙◌, su
 use Rattle.std.specs.List.{All}
 use Rattle.fisca_vectors.proofs.Terms.{count}
 use Rattle.fisca_vectors.proofs.Moved.{Gathers, gathers}
-use Rattle.fisca_vectors.proofs.selection.Vector.gather.Goals as goal
-use Rattle.fisca_vectors.proofs.selection.Vector.gather.Goals.{In_ok-numerators}
+use Rattle.fisca_vectors.proofs.vector.Vector.gather.Goals as goal
+use Rattle.fisca_vectors.proofs.vector.Vector.gather.Goals.{In_ok-numerators}
 
 made : (c : In_ok-numerators) → Gathers c.args.places.now c.self.inside.denominator c.self.inside.bound c.self.inside.numerators.items c.in_ok-numerators.numerators.items
 made c =

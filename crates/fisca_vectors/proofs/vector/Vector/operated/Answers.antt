@@ -3,7 +3,7 @@ use Rattle.fisca_vectors.specs.Numerators.{on_brought, on_numbers, size_of, IsMa
 use Rattle.fisca_vectors.proofs.Operated.{IsBeside, Makes, operates, made_operated}
 use Rattle.fisca_vectors.proofs.Fitting.{left_fits, right_fits, both_fit}
 use Rattle.fisca_vectors.proofs.Terms.{count}
-use Rattle.fisca_vectors.proofs.arithmetic.Vector.operated.Goals as goal
+use Rattle.fisca_vectors.proofs.vector.Vector.operated.Goals as goal
 
 pub made_of-requires-clause-has : goal.made_of-requires-clause-has
 made_of-requires-clause-has g c =

@@ -2,7 +2,7 @@ use Rattle.std.proofs.Common.{rules, ◌≡◌, ◌*◌, ◌*ℤ◌, pos, ap, �
 use Rattle.std.proofs.lemmas.Int.{to_z-of_z}
 use Rattle.fisca_vectors.specs.Numerators.{IsMade}
 use Rattle.fisca_vectors.proofs.Multiplied.{MakesEach, product_uniform}
-use Rattle.fisca_vectors.proofs.products.Vector.mul_uniform.Goals as goal
+use Rattle.fisca_vectors.proofs.vector.Vector.mul_uniform.Goals as goal
 
 pub invariant_of-result : goal.invariant_of-result
 invariant_of-result c =

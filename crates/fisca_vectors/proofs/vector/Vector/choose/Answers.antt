@@ -2,8 +2,8 @@ use Rattle.std.proofs.Common.{arith, length, ap, sym, ◌∙◌, ◌<◌, ◌≤
 use Rattle.fisca_vectors.specs.Moved.{IsMerged}
 use Rattle.fisca_vectors.proofs.Terms.{same_lanes}
 use Rattle.fisca_vectors.proofs.Moved.{chooses, Chooses}
-use Rattle.fisca_vectors.proofs.selection.Vector.choose.Goals as goal
-use Rattle.fisca_vectors.proofs.selection.Vector.choose.Goals.{In_ok-numerators}
+use Rattle.fisca_vectors.proofs.vector.Vector.choose.Goals as goal
+use Rattle.fisca_vectors.proofs.vector.Vector.choose.Goals.{In_ok-numerators}
 
 made : (c : In_ok-numerators) → Chooses c.args.mask.now c.self.inside.denominator c.other.inside.denominator c.in-Some.level.denominator c.max-bound.result c.self.inside.numerators.items c.other.inside.numerators.items c.in_ok-numerators.numerators.items
 made c =

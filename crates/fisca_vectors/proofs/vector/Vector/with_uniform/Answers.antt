@@ -4,7 +4,7 @@ use Rattle.fisca_vectors.specs.Vectors.{IsOfEach}
 use Rattle.fisca_vectors.specs.Numerators.{lane_of, on_numbers, IsOperated}
 use Rattle.fisca_vectors.proofs.Lifted.{lifted}
 use Rattle.fisca_vectors.proofs.Operated.{by_uniform}
-use Rattle.fisca_vectors.proofs.arithmetic.Vector.with_uniform.Goals as goal
+use Rattle.fisca_vectors.proofs.vector.Vector.with_uniform.Goals as goal
 
 pub returns : goal.returns
 returns c =

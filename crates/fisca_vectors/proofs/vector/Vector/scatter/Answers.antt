@@ -3,8 +3,8 @@ use Rattle.fisca_vectors.specs.Moved.{widened}
 use Rattle.fisca_vectors.specs.Numerators.{lanes_of}
 use Rattle.fisca_vectors.specs.Selected.{scattered}
 use Rattle.fisca_vectors.proofs.Moved.{scatters, Scatters}
-use Rattle.fisca_vectors.proofs.selection.Vector.scatter.Goals as goal
-use Rattle.fisca_vectors.proofs.selection.Vector.scatter.Goals.{In_ok-numerators}
+use Rattle.fisca_vectors.proofs.vector.Vector.scatter.Goals as goal
+use Rattle.fisca_vectors.proofs.vector.Vector.scatter.Goals.{In_ok-numerators}
 
 made : (c : In_ok-numerators) → Scatters c.args.places.now c.self.inside.denominator c.other.inside.denominator c.in-Some.level.denominator c.max-bound.result c.self.inside.numerators.items c.other.inside.numerators.items c.in_ok-numerators.numerators.items
 made c =

@@ -5,7 +5,7 @@ use Rattle.fisca_vectors.specs.Numerators.{lane_of}
 use Rattle.fisca_vectors.specs.Compared.{IsComparedBeside}
 use Rattle.fisca_vectors.proofs.Lifted.{lifted}
 use Rattle.fisca_vectors.proofs.Compared.{compared_by_uniform}
-use Rattle.fisca_vectors.proofs.comparing.Vector.compare_uniform.Goals as goal
+use Rattle.fisca_vectors.proofs.vector.Vector.compare_uniform.Goals as goal
 
 pub returns : goal.returns
 returns c =

@@ -5,7 +5,7 @@ use Rattle.fisca_vectors.specs.Compared.{IsComparedBeside}
 use Rattle.fisca_vectors.proofs.Lifted.{lifted}
 use Rattle.fisca_vectors.proofs.Compared.{compared_by_vector}
 use Rattle.fisca_vectors.proofs.Terms.{count}
-use Rattle.fisca_vectors.proofs.comparing.Vector.compare.Goals as goal
+use Rattle.fisca_vectors.proofs.vector.Vector.compare.Goals as goal
 
 pub compared-requires-clause-has : goal.compared-requires-clause-has
 compared-requires-clause-has c =

@@ -4,7 +4,7 @@ use Rattle.fisca_num.specs.Operations.{product_of, quotient_of}
 use Rattle.fisca_vectors.specs.Vectors.{lane, IsOfEach}
 use Rattle.fisca_vectors.proofs.Lifted.{lifted}
 use Rattle.fisca_vectors.proofs.Multiplied.{quotient_is}
-use Rattle.fisca_vectors.proofs.products.Vector.div_uniform.Goals as goal
+use Rattle.fisca_vectors.proofs.vector.Vector.div_uniform.Goals as goal
 
 pub returns-in-Ok : goal.returns-in-Ok
 returns-in-Ok c =

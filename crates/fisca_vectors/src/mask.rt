@@ -103,6 +103,7 @@ impl Mask {
     }
 
     /// The lanes whose flag is true, from the first on.
+    #[tactic(auto, using(crate::proofs::Places::place_taken, crate::proofs::Places::place_passed))]
     pub fn places(&self) -> Result<Vec<usize>, AllocError>
         ensures { IfOk result (λ v. v.items ≡ places_from 0 self.now) }
     {

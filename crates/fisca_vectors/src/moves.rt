@@ -109,6 +109,7 @@ pub(crate) fn put_back(
 }
 
 /// Writes the first of the numerators at the first of the places, the second at the second, and so on.
+#[tactic(auto, using(crate::proofs::Places::scatter_step))]
 fn scatter_into(numerators: &[i64], places: &[usize], out: &mut [i64])
     requires same { length numerators.now ≡ length places.now }
     requires within { All (λ p. p < length out.old) places.now }

@@ -3,11 +3,11 @@ ghost use Rattle.std.specs.Prelude.{◌≡◌, ℕ, ◌<◌, ◌*◌, ◌^◌, p
 ghost use Rattle.fisca_vectors.specs.Numerators.{at};
 
 use crate::levels::divisor;
-use crate::vector::{LIMIT, Vector, greatest_size};
+use crate::vector::{LIMIT, Vector};
 use std::alloc::{AllocError, Global};
 
 impl Vector {
-    /// The same numbers over the least denominator of all, with the least bound to it; nothing where this vector has both.
+    /// The same numbers over the least denominator of all, with the least bound.
     ///
     /// A vector that many operations made may have a large denominator and a loose bound, and the next operation gives
     /// nothing. What stands here may go on.
@@ -18,29 +18,18 @@ impl Vector {
         let Some(denominator) = smaller(self.denominator, by) else {
             return Ok(None);
         };
-        let alloc = *self.numerators.allocator();
-        let Some(numerators) = cut_each(alloc, &self.numerators, by)? else {
-            return Ok(None);
-        };
-        let bound = greatest_size(&numerators);
-        if bound >= LIMIT || (by == 1 && bound == self.bound) {
-            return Ok(None);
+        match cut_each(*self.numerators.allocator(), &self.numerators, by)? {
+            Some(numerators) => Ok(Vector::new(numerators, denominator)),
+            None => Ok(None),
         }
-        Ok(Some(Vector {
-            numerators,
-            denominator,
-            bound,
-        }))
     }
 }
 
 /// A denominator divided by a number that divides it.
 fn smaller(denominator: u64, by: u64) -> Option<u64>
     requires some { 0 < denominator }
-    requires below { denominator < 2 ^ 63 }
     ensures value { IfSome result (λ d. by * d ≡ denominator) }
     ensures some { IfSome result (λ d. 0 < d) }
-    ensures below { IfSome result (λ d. d < 2 ^ 63) }
     ensures by_some { IfSome result (λ _. 0 < by) }
     ensures by_below { IfSome result (λ _. by < 2 ^ 63) }
 {

@@ -77,7 +77,7 @@ fn fraction_of(numerator: i64, denominator: u64) -> Fraction
 }
 
 /// The greatest size of the numerators.
-pub(crate) fn greatest_size(numerators: &[i64]) -> u64
+fn greatest_size(numerators: &[i64]) -> u64
     ensures { (k : ℕ) → k < length numerators.now → unsigned_abs (at numerators.now k) ≤ result }
 {
     let mut greatest = 0;

@@ -54,8 +54,6 @@ fn flags(alloc: Global) -> Result<bool, AllocError> {
         has_flags(&a.and(&b)?, &[true, false, false, false])
             && has_flags(&a.or(&b)?, &[true, true, true, false])
             && has_flags(&a.not()?, &[false, false, true, true])
-            && a.any()
-            && !a.all()
             && a.count() == 2
             && places.as_slice() == [0, 1].as_slice(),
     )

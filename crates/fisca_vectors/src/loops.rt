@@ -131,8 +131,18 @@ fn test_each<B: Bring, T: Test, S: Side>(
     ensures { (k : ℕ) → k < length left.now → flag out.new k ≡ T.test test.now (at left.now k *ℤ pos (B.left by.now)) (S.at right.now k *ℤ pos (B.right by.now)) }
 {
     for i in 0..out.len() {
-        out[i] = test.holds(by.left(left[i]), by.right(right.numerator(i)));
+        out[i] = is_met(by, test, left[i], right.numerator(i));
     }
+}
+
+/// The test of two numerators that are brought over one denominator.
+#[inline]
+fn is_met<B: Bring, T: Test>(by: &B, test: &T, left: i64, right: i64) -> bool
+    requires left_fits { unsigned_abs left * B.left by.now < 2 ^ 63 }
+    requires right_fits { unsigned_abs right * B.right by.now < 2 ^ 63 }
+    ensures { result ≡ T.test test.now (left *ℤ pos (B.left by.now)) (right *ℤ pos (B.right by.now)) }
+{
+    test.holds(by.left(left), by.right(right))
 }
 
 /// The product at each lane.

@@ -1,5 +1,5 @@
 //! Masks: a flag a lane.
-ghost use Rattle.std.specs.Prelude.{◌≡◌, ℕ, ◌<◌, ◌&&◌, ◌||◌, ◌↔◌, not, length, map, IfOk, IsTrue};
+ghost use Rattle.std.specs.Prelude.{◌≡◌, ℕ, ◌<◌, ◌&&◌, ◌||◌, not, length, map, IfOk};
 ghost use Rattle.std.specs.List.{count_by};
 ghost use Rattle.fisca_vectors.specs.Vectors.{flag};
 ghost use Rattle.fisca_vectors.specs.Selected.{IsCombined, places_from};
@@ -42,20 +42,6 @@ impl Mask {
         ensures { result ≡ flag self.now index }
     {
         self.flags[index]
-    }
-
-    /// Whether the flag of some lane is true.
-    pub fn any(&self) -> bool
-        ensures { IsTrue result ↔ (0 < count_by (λ f. f) self.now) }
-    {
-        self.count() > 0
-    }
-
-    /// Whether the flag of each lane is true.
-    pub fn all(&self) -> bool
-        ensures { IsTrue result ↔ (count_by (λ f. f) self.now ≡ length self.now) }
-    {
-        self.count() == self.flags.len()
     }
 
     /// How many lanes have a true flag.

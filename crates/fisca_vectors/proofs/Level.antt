@@ -63,7 +63,7 @@ difference_lane n m d e f g l hn hm hl hr fits =
     (same_difference (ratio_of (lane_of d n)) (ratio_of (lane_of e m)) n m d e f g l x.same y.same hl hr)
     ∙ lane_is _ l fits
 
-same_product : (v w : Ratio) (n m : ℤ) (d e : ℕ) → IsSame v (pair n d) → IsSame w (pair m e) → IsSame (ratio_product v w) (pair (n *ℤ m) (d * e))
+pub same_product : (v w : Ratio) (n m : ℤ) (d e : ℕ) → IsSame v (pair n d) → IsSame w (pair m e) → IsSame (ratio_product v w) (pair (n *ℤ m) (d * e))
 same_product v w n m d e hv hw =
     sym (times_pos (v.numerator *ℤ w.numerator) d e)
     ∙ ap (λ z. z *ℤ pos e) (times_swap v.numerator w.numerator (pos d) ∙ ap (λ z. z *ℤ w.numerator) hv)

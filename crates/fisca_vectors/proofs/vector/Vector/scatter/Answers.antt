@@ -14,7 +14,7 @@ made c =
     let left : c.self.inside.bound * c.in-Some.level.factors.left ≤ c.max-bound.result = omega arith in
     let right : c.other.inside.bound * c.in-Some.level.factors.right ≤ c.max-bound.result = omega arith in
     let fits : c.max-bound.result < 2 ^ 63 = omega arith in
-    scatters _ _ _ _ _ _ _ _ _ _ _ c.self.invariant c.other.invariant c.in-Some.ensures.level c.in-Some.ensures.below left right fits m
+    scatters _ _ _ _ _ _ _ _ _ _ _ _ c.self.invariant c.other.invariant c.in-Some.ensures.level c.in-Some.ensures.below left right fits m
 
 pub invariant_of-result : goal.invariant_of-result
 invariant_of-result c = (made c).vector

@@ -9,4 +9,4 @@ returns-in_err-children-clause-thing c =
     let told = err_from_is_err_and c.from_residual-in_err-children.result c.from_residual-in_err-children.ensures.1 in
     let known = tables c.args.tables.now in
     rw (told.1, told.2)
-      (λ h. subscript_fault known (chosen c.args.chosen.now) (typed c.args.index) _ _ _ c.in_ok-choices.ensures c.in_ok-level.ensures (rw c.requires at (c.in_err-children.ensures.found h)))
+    (λ h. subscript_fault known (chosen c.args.chosen.now) (typed c.args.index) _ _ _ c.in_ok-choices.ensures c.in_ok-level.ensures (rw c.requires at (c.in_err-children.ensures.found h)))

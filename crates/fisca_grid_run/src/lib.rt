@@ -10,8 +10,8 @@ mod law;
 mod rows;
 mod run;
 mod text;
+mod told_keys;
 mod turning;
-mod unanswered;
 
 pub use beginning::evaluator_of;
 pub use fisca_rows::{Asked, RowStyle, all_met, meets, write_row};
@@ -22,4 +22,4 @@ pub use kept::run_with;
 pub use law::runs_are_whole;
 pub use run::{read_run, run_rules};
 pub use text::read_tree;
-pub use unanswered::unanswered;
+pub use told_keys::unanswered;

@@ -18,7 +18,7 @@ ghost use Rattle.fisca_yaml.specs.Views.{node};
 use super::forms::{begin_table, is_asked};
 use super::grid_run::run_from;
 use super::text::read_tree;
-use super::unanswered::unanswered;
+use super::told_keys::unanswered;
 use fisca_columns::RunFileKind;
 use fisca_command_line::{RunOptions, TableForm};
 use fisca_evaluator::Counts;

@@ -26,7 +26,7 @@ fn behind_local<'n, 'a>(
     local: &Assignment<'a>,
     rows: &mut Rows,
 ) -> Result<Scope<'n, 'a>, FormulaKind>
-    requires { rows.old ≡ (names_of scope.entry.names).tables }
+    requires { rows.old ≡ (names_of scope.names).tables }
     ensures scope { Gives scope_view (spec.behind_local (scope_view scope.entry) local.now.name (tree_of local.now.value)) result }
     ensures tables { IfOk result (λ s. (names_of s.names).tables ≡ (names_of scope.entry.names).tables) }
     ensures same { rows.new ≡ rows.old }
@@ -63,7 +63,7 @@ fn behind<'n, 'a>(
     local: &Assignment<'a>,
     rows: &mut Rows,
 ) -> Result<Scope<'n, 'a>, FormulaRefusal>
-    requires { rows.old ≡ (names_of scope.entry.names).tables }
+    requires { rows.old ≡ (names_of scope.names).tables }
     ensures scope { Tells scope_view (spec.at place (spec.behind_local (scope_view scope.entry) local.now.name (tree_of local.now.value))) result }
     ensures tables { IfOk result (λ s. (names_of s.names).tables ≡ (names_of scope.entry.names).tables) }
     ensures same { rows.new ≡ rows.old }
@@ -128,7 +128,7 @@ fn made_of(
     tree: &Expr,
     rows: &mut Rows,
 ) -> Result<TypedFormula, FormulaRefusal>
-    requires { rows.old ≡ (names_of scope.entry.names).tables }
+    requires { rows.old ≡ (names_of scope.names).tables }
     ensures formula { Tells formula_view (spec.formula_from place (scope_view scope.entry) value_type [] (tree_of tree.now)) result }
     ensures same { rows.new ≡ rows.old }
 {
@@ -154,7 +154,7 @@ pub fn formula_of<'n, 'a>(
     rows: &mut Rows,
 ) -> Result<TypedFormula, FormulaRefusal>
     requires none { names.locals ≡ [] }
-    requires known { rows.old ≡ (names_of names.entry).tables }
+    requires known { rows.old ≡ (names_of names).tables }
     ensures formula { Tells formula_view (spec.formula_of (names_of names.entry) value_type (map assigned locals.now) (tree_of returned.now)) result }
     ensures same { rows.new ≡ rows.old }
 {

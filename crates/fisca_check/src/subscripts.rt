@@ -68,7 +68,6 @@ fn enum_by(value_type: ValueType) -> Result<usize, FormulaKind>
 
 /// Parameters with a member of an Enum behind them in brackets: `BadType`, else `BadLevel`, else `UnknownParameter` where
 /// a member has none, else `BadType` where they do not fit.
-#[tactic(auto, using(crate::proofs::Kept::subscript_fault))]
 pub fn subscripted(
     alloc: Global,
     tables: &Tables,

@@ -8,8 +8,8 @@ use Rattle.fisca_check.specs.Formulas.{assigned, formula_view, scope}
 use Rattle.fisca_check.proofs.Behind.{formula_next, tells_same}
 use Rattle.fisca_check.proofs.formulas.formula_of.Goals as goal
 
-pub returns : goal.returns
-returns c =
+pub returns-clause-formula : goal.returns-clause-formula
+returns-clause-formula c =
     let l = c.loop-place in
     let items = c.args.locals.now in
     let all : l.place ≡ length items = omega (arith, c.loop-place-test.false, l.auto.place-end) in
@@ -28,6 +28,6 @@ loop-place-preserved c =
     ∙ ap (λ (ls : List Assignment). formula_from i (scope c.loop-place.scope) c.args.value_type (map assigned ls) (tree c.args.returned.now)) (cut ∙ ap (λ (a : Assignment). a ∷ drop (suc i) items) same) in (
       formula_next _ i (scope c.loop-place.scope) (scope c.in_ok-scope.scope) c.args.value_type (assigned item) (map assigned (drop (suc i) items)) (tree c.args.returned.now) whole c.in_ok-scope.ensures.scope
           ∙ ap (λ k. formula_from (i + 1) (scope c.in_ok-scope.scope) c.args.value_type (map assigned (drop k items)) (tree c.args.returned.now)) (sym (add-one i)),
-      c.in_ok-scope.ensures.same ∙ c.loop-place.invariant.1.0,
-      c.in_ok-scope.ensures.same ∙ c.loop-place.invariant.1.1 ∙ sym c.in_ok-scope.ensures.tables,
+      c.in_ok-scope.ensures.same ∙ c.loop-place.invariant.1,
+      c.in_ok-scope.ensures.same ∙ c.loop-place.invariant.2 ∙ sym c.in_ok-scope.ensures.tables,
     )

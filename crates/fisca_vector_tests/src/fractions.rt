@@ -7,6 +7,7 @@ use std::alloc::{AllocError, Global};
 
 /// Whether the lanes are these numbers.
 fn are(fractions: &Option<Fractions>, wanted: [Fraction; 2]) -> bool {
+    let wanted = &wanted[..];
     match fractions {
         Some(fractions) => {
             fractions.len() == 2 && fractions.get(0) == wanted[0] && fractions.get(1) == wanted[1]

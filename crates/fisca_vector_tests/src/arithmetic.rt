@@ -70,7 +70,7 @@ fn limits(alloc: Global) -> Result<bool, AllocError> {
             && a.mul(&a)?.is_none()
             && has(&small, &[1, 0, -2, 0], 1)
             && is(&small.mul(&small)?, [1, 0, 4, 0], 1)
-            && small.tidied()?.is_none(),
+            && is(&small.tidied()?, [1, 0, -2, 0], 1),
     )
 }
 

@@ -8,6 +8,7 @@ over years of a variable of days that has as many formulas as 1 MiB holds.
 """
 import collections
 import datetime
+import math
 import re
 
 import common
@@ -94,6 +95,22 @@ def dated(place):
     return f"    def formula_{1 + place // 12:04d}_{1 + place % 12:02d}(p, t):\n        return 1\n"
 
 
+def by_members(size, local, use):
+    """Parameters among which two members of an Enum choose, as many as half of so many bytes hold, a local, and locals
+    that use it in the other half."""
+    names = [f"m{i}" for i in range(math.isqrt(size // 2 // 40))]
+    below = "".join(f"  {name}: {{a: {{values: {{2000-01-01: 1}}}}}}\n" for name in names)
+    head = "class E(Enum):\n" + "".join(f"    {name} = 'a'\n" for name in names)
+    head += CLASS.replace("v(", "e(").replace("float", "Enum")
+    head += "    possible_values = E\n    default_value = E.m0\n" + FORMULA.replace("period)", "period, parameters)")
+    head += f"        e = person('e', period)\n        b = parameters(period).n{local}\n"
+    return {
+        "entities.py": PERSON,
+        "parameters/n.yaml": "".join(f"{name}:\n{below}" for name in names),
+        "variables/a.py": many(lambda i: f"        a=b{use}\n", size // 2, head, "        return a.a\n"),
+    }
+
+
 # what makes the text of entities.py of so many bytes
 LARGE_ENTITIES = {
     "members": lambda size: PERSON + many(lambda i: f"    m{i} = 'a'\n", size - len(PERSON), "class E(Enum):\n"),
@@ -107,6 +124,9 @@ LARGE_ENTITIES = {
 }
 # what makes the text of a module of variables of so many bytes
 LARGE_VARIABLES = {
+    "moves that locals take up": lambda size: many(
+        lambda i: "        a=b\n", size, FORMULA + f"        b=t{'.last_month' * 100}\n", "        return 1\n"
+    ).replace("(person, period)", "(p,t)"),
     "attributes": lambda size: many(lambda i: f"    a{i} = 1\n", size, CLASS),
     "one attribute again": lambda size: many(lambda i: "    label = 'a'\n", size, CLASS),
     "locals": lambda size: many(lambda i: f"        a{i} = 1\n", size, FORMULA, "        return a0\n"),
@@ -114,10 +134,17 @@ LARGE_VARIABLES = {
     "names in two cases": lambda size: many(lambda i: f"class {cased(i)}(Variable):\n" + ATTRIBUTES, size, ""),
     "formulas": lambda size: many(dated, size, CLASS),
 }
+# what makes the files of a rule set of so many bytes
+LARGE_FILES = {
+    "parameters that locals take up": lambda size: by_members(size, "[e][e]", ""),
+    "pairs of members that choose": lambda size: by_members(size, "", "[e][e]"),
+}
 
 
 def large(name, size):
     """The files of a large rule set."""
+    if name in LARGE_FILES:
+        return LARGE_FILES[name](size)
     if name in LARGE_ENTITIES:
         return {"entities.py": LARGE_ENTITIES[name](size)}
     return {"entities.py": PERSON, "variables/a.py": LARGE_VARIABLES[name](size)}
@@ -126,7 +153,7 @@ def large(name, size):
 def try_large(fuzz):
     """Checks the large rule sets, and such of half their size."""
     folder = fuzz.room / "rules"
-    for name in [*LARGE_ENTITIES, *LARGE_VARIABLES]:
+    for name in [*LARGE_ENTITIES, *LARGE_VARIABLES, *LARGE_FILES]:
         times = []
         for size in (common.MOST_BYTES // 2, common.MOST_BYTES):
             files = large(name, size)

@@ -2,7 +2,8 @@
 
 Each prefix of a good input and of a good file; these with one character left out, doubled or changed, everywhere;
 columns made of pieces by lot; and the limits of persons, groups and inputs, and one past each. Each has to be read, or
-refused by a word of its layer at one of its lines.
+refused by a word of its layer at one of its lines. And twice the inputs of a variable of days, which overlap over twice
+the days, take twice the time.
 """
 import re
 
@@ -43,6 +44,11 @@ class rent(Variable):
     value_type = float
     entity = Household
     definition_period = MONTH
+class rate(Variable):
+    value_type = int
+    entity = Person
+    definition_period = DAY
+    set_input = set_input_dispatch_by_period
 """,
 }
 INPUT = """\
@@ -119,6 +125,32 @@ def try_limits(fuzz):
         fuzz.check(is_right, f"a limit: {text[:60]!r}.. answers {answer}")
 
 
+def overlapping(parts):
+    """A file of so many times 5,000 inputs of some 50 years each, over so many times 133 years of days."""
+    lines = ["period: 2017-01-01", "input:", "  persons:", "    p:", "      rate:"]
+    for place in range(5000 * parts):
+        month = 1700 * 12 + place % (1000 * parts)
+        size = 600 * parts - place // (1000 * parts)
+        lines.append(f"        month:{month // 12}-{month % 12 + 1:02}:{size}: {place % 7}")
+    return "\n".join([*lines, "columns:", '- "rate@1700-01-01"', ""])
+
+
+def try_overlapping(fuzz):
+    """Shares inputs of days that overlap."""
+    path = fuzz.room / "calc.yaml"
+    times = []
+    for parts in (1, 2):
+        path.write_text(overlapping(parts))
+        out, err, status = fuzz.call("calc", fuzz.room / "rules", path)
+        # the shortest of those that start in the first month is the last one, which is shared first
+        last = (5000 * parts - 1000 * parts) % 7
+        is_right = status == 0 and out.endswith(f"\t1700-01-01\t{last}\n")
+        fuzz.check(is_right, f"inputs that overlap: status {status}: {out}{err}")
+        times.append(common.least_seconds(lambda: fuzz.call("calc", fuzz.room / "rules", path)))
+    half, whole = times
+    fuzz.is_linear("inputs of days that overlap", whole, half)
+
+
 def run(fuzz):
     """Reads all inputs, files and columns."""
     common.put(fuzz.room / "rules", RULES)
@@ -130,3 +162,4 @@ def run(fuzz):
     columns = [f'period: 2017-01\ncolumns: "{row}"\n' for row in rows]
     try_texts(fuzz, "columns", columns, frozenset({"BadColumn"}))
     try_limits(fuzz)
+    try_overlapping(fuzz)

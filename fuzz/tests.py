@@ -105,6 +105,13 @@ class present(Variable):
     set_input = set_input_dispatch_by_period
 """,
 }
+# as many kinds of groups as a file holds
+KINDS = {
+    "entities.py": 'Person = build_entity(key="person", plural="persons", is_person=True)\n' + "".join(
+        f"E{k} = build_entity(key='e{k}', plural='f{k}', roles=[{{'key': 'r'}}])\n" for k in range(14400)
+    ),
+    "variables/a.py": "class a(Variable):\n    value_type = int\n    entity = Person\n    definition_period = MONTH\n",
+}
 FINE = Answer("ok test 1\npassed 1, failed 0\n", "", 0)
 TOO_DEEP = "step person 2008-05: TooDeep step person 2008-05"
 
@@ -193,6 +200,10 @@ def try_fixed(fuzz):
         try_file(fuzz, RULES, text, wanted)
     for text, wanted in eternal_files(bad):
         try_file(fuzz, fuzz.room / "eternal", text, wanted)
+    common.put(fuzz.room / "kinds", KINDS)
+    persons = ", ".join(f"p{k}: {{}}" for k in range(1000))
+    for given in ("", ", f7: {g: {r: [p0, p1]}}"):
+        try_file(fuzz, fuzz.room / "kinds", f"{{input: {{persons: {{{persons}}}{given}}}, output: {{a: {{2017-01: 0}}}}}}\n", FINE)
     for folder, text, wanted in stored_files():
         try_file(fuzz, folder, text, wanted)
     (fuzz.room / "bytes.yaml").write_bytes(b"- name: \xff\n  output: {}\n")

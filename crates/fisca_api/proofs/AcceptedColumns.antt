@@ -5,7 +5,7 @@ use Rattle.std.specs.Io.KnownBytes.{Keeps}
 use Rattle.fisca_columns.specs.Calc.{Calc}
 use Rattle.fisca_commands.specs.Calc.{Calculation, IsAsked, IsCalc, IsCalculated, IsCalculatedIn, IsCalculation, IsColumnsRun, IsStopped, RefusesCalculation, RefusesText, WritesFirst, calc_names, lines_of, row_of}
 use Rattle.fisca_commands.specs.CalcLines.{IsFile, IsLine, IsOfLine, LineOutcome, outcome_of}
-use Rattle.fisca_commands.specs.Forms.{line_form_of, shown_form}
+use Rattle.fisca_grid_run.specs.Forms.{line_form_of, shown_form}
 use Rattle.fisca_command_line.specs.declared.options.TableForm.{TableForm}
 use Rattle.fisca_forms.specs.LineForms.{Form}
 use Rattle.fisca_model.specs.declared.eval_fault.EvalFault.{EvalFault}

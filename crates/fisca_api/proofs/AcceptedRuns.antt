@@ -3,12 +3,12 @@ use Rattle.std.proofs.Common.{◌≡◌, ℕ, List, Option, Result, Ok, Err, ap,
 use Rattle.std.specs.Prelude.{◌⊎◌, codes, option_map}
 use Rattle.std.specs.Io.KnownBytes.{Keeps}
 use Rattle.fisca_columns.specs.Texts.{key_text}
-use Rattle.fisca_commands.specs.Forms.{line_form_of}
+use Rattle.fisca_grid_run.specs.Forms.{line_form_of}
 use Rattle.fisca_rows.specs.Going.{styled_row}
-use Rattle.fisca_commands.specs.Run.{IsGridRun, IsLinesTold, IsRunAnswer, IsRunToldBy, IsRunning, IsStopTold, IsStyleIn, IsStyleOf, Running, SaysRun, limit_of, start_of}
-use Rattle.fisca_commands.specs.Runs.{positions, run_row}
+use Rattle.fisca_grid_run.specs.Run.{IsGridRun, IsLinesTold, IsRunAnswer, IsRunToldBy, IsRunning, IsStopTold, IsStyleIn, IsStyleOf, Running, SaysRun, limit_of, start_of}
+use Rattle.fisca_grid_run.specs.Runs.{positions, run_row}
 use Rattle.fisca_commands.specs.Size.{IsSize, IsSizeTold}
-use Rattle.fisca_commands.specs.Unanswered.{IsUnanswered, key_told}
+use Rattle.fisca_grid_run.specs.Unanswered.{IsUnanswered, key_told}
 use Rattle.fisca_command_line.specs.declared.options.RunOptions.{RunOptions}
 use Rattle.fisca_rows.specs.declared.style.RowStyle.{RowStyle}
 use Rattle.fisca_groups.specs.declared.entity_members.EntityMembers.{EntityMembers}

@@ -6,8 +6,8 @@ use Rattle.fisca_columns.specs.Formed.{column_row_in}
 use Rattle.fisca_commands.specs.Calc as calc
 use Rattle.fisca_rows.specs.FormedLines.{asked_row_in}
 use Rattle.fisca_rows.specs.Going.{going_row, lacks_in, styled_row}
-use Rattle.fisca_commands.specs.Run.{IsStyleOf}
-use Rattle.fisca_commands.specs.Runs.{lacks_at, lacks_of, lacks_with, row_in, row_with, run_row, simulation_in}
+use Rattle.fisca_grid_run.specs.Run.{IsStyleOf}
+use Rattle.fisca_grid_run.specs.Runs.{lacks_at, lacks_of, lacks_with, row_in, row_with, run_row, simulation_in}
 use Rattle.fisca_commands.specs.Test.{test_context_in}
 use Rattle.fisca_rows.specs.declared.style.RowStyle.{RowStyle}
 use Rattle.fisca_rows.specs.declared.style.RowStyle.TheVariants.{Plain, Formed, Going}

@@ -6,7 +6,7 @@ use Rattle.fisca_columns.specs.Outcomes.{Tells}
 use Rattle.fisca_columns.specs.Views.{calc as calc_view}
 use Rattle.fisca_columns.specs.declared.calc_file.CalcFile.{CalcFile}
 use Rattle.fisca_columns.specs.declared.fault.RunFileFault.{RunFileFault}
-use Rattle.fisca_commands.specs.Kept.{IsRunFile}
+use Rattle.fisca_grid_run.specs.Kept.{IsRunFile}
 use Rattle.fisca_rules.specs.Views.{rule_set}
 use Rattle.fisca_rules.specs.declared.rule_set.RuleSet.{RuleSet}
 use Rattle.fisca_run_file.specs.RunFiles.{run_file_of}

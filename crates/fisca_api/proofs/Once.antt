@@ -2,10 +2,10 @@
 use Rattle.std.proofs.Common.{◌≡◌, ℕ, Bool, true, false, List, Option, Some, Result, Ok, Err, sym, ap, subst, ◌∙◌, inl, inr, arith}
 use Rattle.fisca_columns.specs.Calc.{Calc, calc_of}
 use Rattle.fisca_commands.specs.Calc.{IsAsked, RefusesText}
-use Rattle.fisca_commands.specs.Forms.{is_asked}
-use Rattle.fisca_commands.specs.Run.{IsNamedFor, IsNamedIf, IsRunning, RefusesRunText, RefusesRunTree, RefusesRunning, Running, SaysRun}
+use Rattle.fisca_grid_run.specs.Forms.{is_asked}
+use Rattle.fisca_grid_run.specs.Run.{IsNamedFor, IsNamedIf, IsRunning, RefusesRunText, RefusesRunTree, RefusesRunning, Running, SaysRun}
 use Rattle.fisca_commands.specs.Test.{RefusesTests, RefusesTree, SaysTests}
-use Rattle.fisca_commands.specs.Yaml.{IsYamlRefused}
+use Rattle.fisca_grid_run.specs.Yaml.{IsYamlRefused}
 use Rattle.fisca_command_line.specs.declared.options.TableForm.{TableForm}
 use Rattle.fisca_params.specs.Answers.{Refuses}
 use Rattle.fisca_params.specs.Source.{Source}

@@ -1,7 +1,7 @@
 //! The law of the values at the positions of run files.
 
 ghost use Rattle.std.specs.Prelude.{◌≡◌, ◌≢◌, ℕ, List, Some, Ok, Err};
-ghost use Rattle.fisca_commands.specs.Runs.{IsAsked, simulation_in};
+ghost use Rattle.fisca_grid_run.specs.Runs.{IsAsked, simulation_in};
 ghost use Rattle.fisca_inputs.specs.declared.given.Given.{Given};
 ghost use Rattle.fisca_key_semantics.specs.Answers.{answer};
 ghost use Rattle.fisca_model.specs.Causes.{Fault, stuck};

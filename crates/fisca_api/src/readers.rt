@@ -7,7 +7,7 @@ ghost use Rattle.fisca_columns.specs.Columns.{column_of};
 ghost use Rattle.fisca_columns.specs.Outcomes as files;
 ghost use Rattle.fisca_columns.specs.Texts as texts;
 ghost use Rattle.fisca_columns.specs.Views.{calc as calc_view};
-ghost use Rattle.fisca_commands.specs.Kept.{IsRunFile};
+ghost use Rattle.fisca_grid_run.specs.Kept.{IsRunFile};
 ghost use Rattle.fisca_expected.specs.Outcomes as expected;
 ghost use Rattle.fisca_expected.specs.Steps.Reading.{outputs_of};
 ghost use Rattle.fisca_rules.specs.Views.{rule_set};

@@ -175,8 +175,8 @@ impl Situation {
         self.shared.members(entity)
     }
 
-    /// The name of a member of the entity, as its bytes, if there is such a member.
-    pub fn name(&self, entity: EntityId, member: u32) -> Option<&[u8]>
+    /// The name of a member of the entity, if there is such a member.
+    pub fn name(&self, entity: EntityId, member: u32) -> Option<&str>
         ensures { option_map (λ t. t.now) result ≡ name_at (situation_view self.now).shared.members entity member }
     {
         self.shared.name(entity, member)

@@ -1,2 +1,3 @@
 pub mod ContentPieces
+pub mod InQuotes
 pub mod Inside

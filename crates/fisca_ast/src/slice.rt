@@ -4,10 +4,10 @@ ghost use Rattle.std.specs.Prelude.{◌≡◌};
 
 use std::marker::Model;
 
-/// A piece of the source, seen as its bytes.
+/// A piece of the source, which is UTF-8, seen as its bytes.
 #[derive(Drop)]
 pub struct Slice<'a> {
-    bytes: &'a [u8],
+    text: &'a str,
 }
 
 impl<'a> Model for Slice<'a> {
@@ -15,21 +15,28 @@ impl<'a> Model for Slice<'a> {
 
     ghost Value = { List ℕ };
 
-    ghost view = { λ s. s.bytes.now };
+    ghost view = { λ s. s.text.now };
 }
 
 impl<'a> Slice<'a> {
-    /// These bytes.
-    pub fn new(bytes: &'a [u8]) -> Slice<'a>
-        ensures { result ≡ bytes.now }
+    /// This text.
+    pub fn new(text: &'a str) -> Slice<'a>
+        ensures { result ≡ text.now }
     {
-        Slice { bytes }
+        Slice { text }
+    }
+
+    /// The text.
+    pub fn as_str(&self) -> &'a str
+        ensures { result.now ≡ self.now }
+    {
+        self.text
     }
 
     /// The bytes.
     pub fn as_bytes(&self) -> &'a [u8]
         ensures { result.now ≡ self.now }
     {
-        self.bytes
+        self.text.as_bytes()
     }
 }

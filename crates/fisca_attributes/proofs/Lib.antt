@@ -1,2 +1,1 @@
-pub mod Days
 pub mod Inside

@@ -18,13 +18,10 @@ use fisca_time::Instant;
 use std::alloc::Global;
 
 /// The instant that a text says, if it does.
-fn instant_of(text: &[u8]) -> Option<Instant>
+fn instant_of(text: &str) -> Option<Instant>
     ensures { result ≡ result_ok (instant_of_text text.now) }
 {
-    match str::from_utf8(text) {
-        Ok(word) => Instant::read(word).ok(),
-        Err(_) => None,
-    }
+    Instant::read(text).ok()
 }
 
 /// A text with an instant.
@@ -32,7 +29,7 @@ pub fn instant_value(alloc: Global, value: &Expr<'_>) -> Result<Instant, Formula
     ensures { Gives (λ d. d) (steps.instant_value (tree value.now)) result }
 {
     let text = text_value(alloc, value)?;
-    instant_of(text.as_bytes()).ok_or(FormulaKind::BadAttribute)
+    instant_of(text.as_str()).ok_or(FormulaKind::BadAttribute)
 }
 
 /// Two names with a point between them.
@@ -42,7 +39,7 @@ pub fn dotted_value<'a>(value: &Expr<'a>) -> Result<Dotted<'a>, FormulaKind>
     match bare(value) {
         Expr::Attribute(access) => Ok(Dotted {
             left: name_value(&access.front)?,
-            right: SourceText::borrowed(access.name.as_bytes()),
+            right: SourceText::borrowed(access.name.as_str()),
         }),
         Expr::Name(_)
         | Expr::Number(_)

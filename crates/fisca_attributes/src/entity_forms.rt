@@ -202,7 +202,7 @@ pub fn entity_of<'a>(alloc: Global, written: &Assignment<'a>) -> Result<Entity<'
     let found = read_fields(alloc, Form::Entity, arguments_of(&written.value))?;
     entity_of_fields(
         alloc,
-        SourceText::borrowed(written.name.as_bytes()),
+        SourceText::borrowed(written.name.as_str()),
         found.as_slice(),
     )
 }

@@ -52,7 +52,7 @@ fn field_of<'e, 'a>(alloc: Global, argument: &'e Argument<'a>) -> Result<Field<'
     match argument {
         Argument::Positional(_) => Err(FormulaKind::BadAttribute),
         Argument::Keyword(label, value) => Ok(Field {
-            label: SourceText::borrowed(label.as_bytes()),
+            label: SourceText::borrowed(label.as_str()),
             value,
         }),
         Argument::Entry(label, value) => Ok(Field {

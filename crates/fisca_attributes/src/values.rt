@@ -15,7 +15,7 @@ pub fn text_value<'a>(alloc: Global, value: &Expr<'a>) -> Result<SourceText<'a>,
     ensures { Gives (λ t. t) (spec.text_value (tree value.now)) result }
 {
     match bare(value) {
-        Expr::Text(source) => Ok(SourceText::owned(content(alloc, source.as_bytes())?)),
+        Expr::Text(source) => Ok(SourceText::owned(content(alloc, source.as_str())?)),
         Expr::Name(_)
         | Expr::Number(_)
         | Expr::Bracketed(_, _)
@@ -64,7 +64,7 @@ pub fn name_value<'a>(value: &Expr<'a>) -> Result<SourceText<'a>, FormulaKind>
     match bare(value) {
         Expr::Name(word) => {
             if is_name(word.as_bytes()) {
-                Ok(SourceText::borrowed(word.as_bytes()))
+                Ok(SourceText::borrowed(word.as_str()))
             } else {
                 Err(FormulaKind::BadAttribute)
             }

@@ -3,8 +3,8 @@
 ghost use Rattle.std.specs.Prelude.{IfOk, None};
 ghost use Rattle.fisca_simulation.specs.Sound.{IsSafeRules};
 ghost use Rattle.fisca_evaluator.specs.Evaluators.{marks_in, simulation_of};
-ghost use Rattle.fisca_commands.specs.Begun.{IsBegun, file_in};
-ghost use Rattle.fisca_commands.specs.Kept.{IsKept, IsRunFile};
+ghost use Rattle.fisca_grid_run.specs.Begun.{IsBegun, file_in};
+ghost use Rattle.fisca_grid_run.specs.Kept.{IsKept, IsRunFile};
 ghost use Rattle.fisca_rules.specs.Views.{rule_set};
 ghost use Rattle.fisca_run_file.specs.Positions.{IsBeginning};
 ghost use Rattle.fisca_run_file.specs.Views.{run_file as run_file_view, run_start as run_start_view};
@@ -13,8 +13,8 @@ ghost use Rattle.fisca_situations.specs.Steps.Views.{situation as situation_view
 use crate::axes::are_put_in;
 use crate::fault::{CaseFault, malformed, no_memory};
 use fisca_cases_base::{Written, limit, number, three};
-use fisca_commands::{RowStyle, evaluator_of, run_anew, run_grid, run_with};
 use fisca_evaluator::{Counts, Evaluator, ListRecall, Recall};
+use fisca_grid_run::{RowStyle, evaluator_of, run_anew, run_grid, run_with};
 use fisca_model::EvalFault;
 use fisca_rules::RuleSet;
 use fisca_run_file::{RunFile, RunRequest, RunStart};

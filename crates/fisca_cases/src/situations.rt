@@ -57,7 +57,7 @@ fn members(alloc: Global, rules: &RuleSet<'_>, words: &[String]) -> Result<Strin
         if place != 0 {
             shown.push("\n");
         }
-        shown.push(str::from_utf8(entity.key.as_bytes()).unwrap_or("?"));
+        shown.push(entity.key.as_str());
         shown.push(":");
         push_names(&mut shown, &found, place);
         push_homes(&mut shown, &found, place);
@@ -67,9 +67,8 @@ fn members(alloc: Global, rules: &RuleSet<'_>, words: &[String]) -> Result<Strin
 
 fn push_names(shown: &mut Written, found: &Situation, entity: usize) {
     for member in 0..found.members(entity) {
-        let name = found.name(entity, member).unwrap_or(b"?".as_slice());
         shown.push(" ");
-        shown.push(str::from_utf8(name).unwrap_or("?"));
+        shown.push(found.name(entity, member).unwrap_or("?"));
     }
 }
 

@@ -111,7 +111,7 @@ fn show_argument(shown: &mut Written, argument: &Argument<'_>) {
 }
 
 fn push(shown: &mut Written, slice: &Slice<'_>) {
-    shown.push(str::from_utf8(slice.as_bytes()).unwrap_or("?"));
+    shown.push(slice.as_str());
 }
 
 fn beginning(bracket: Delimiter) -> &'static str {

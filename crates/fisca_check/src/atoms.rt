@@ -34,7 +34,7 @@ pub fn number_thing(digits: &[u8]) -> Result<Thing, FormulaKind>
 
 /// A text in quotes.
 #[inline(never)]
-pub fn text_thing(alloc: Global, source: &[u8]) -> Result<Thing, FormulaKind>
+pub fn text_thing(alloc: Global, source: &str) -> Result<Thing, FormulaKind>
     ensures { Gives thing_of (text_said source.now) result }
 {
     Ok(Thing::Text(content(alloc, source)?))

@@ -18,7 +18,7 @@ use fisca_typing::Level;
 use std::alloc::Global;
 
 /// A member of an Enum, or `UnknownName`.
-fn member_thing(tables: &Tables, choices: usize, name: &[u8]) -> Result<Thing, FormulaKind>
+fn member_thing(tables: &Tables, choices: usize, name: &str) -> Result<Thing, FormulaKind>
     ensures { Gives thing_of (spec.member_thing (tables_of tables.now) choices name.now) result }
 {
     match tables.member_named(choices, name) {
@@ -48,7 +48,7 @@ fn value_attribute(name: &[u8], value_type: ValueType) -> Result<Thing, FormulaK
 }
 
 /// A role of an entity by its constant, or `UnknownName`.
-fn role_thing(tables: &Tables, entity: usize, name: &[u8]) -> Result<Thing, FormulaKind>
+fn role_thing(tables: &Tables, entity: usize, name: &str) -> Result<Thing, FormulaKind>
     ensures { Gives thing_of (spec.role_thing (tables_of tables.now) entity name.now) result }
 {
     match tables.role_of_constant(entity, name) {
@@ -61,26 +61,26 @@ fn role_thing(tables: &Tables, entity: usize, name: &[u8]) -> Result<Thing, Form
 pub fn attribute_of(
     alloc: Global,
     names: &FormulaScope,
-    name: &[u8],
+    name: &str,
     thing: Thing,
 ) -> Result<Thing, FormulaKind>
     ensures { Gives thing_of (spec.attribute_of (names_of names.now) name.now (thing_of thing)) result }
 {
+    let bytes = name.as_bytes();
     match thing {
-        Thing::Value(value) => value_attribute(name, value.value_type),
-        Thing::Period(moves) => period_attribute(name, moves),
-        Thing::Start(moves) => start_attribute(alloc, name, moves),
+        Thing::Value(value) => value_attribute(bytes, value.value_type),
+        Thing::Period(moves) => period_attribute(alloc, bytes, moves),
+        Thing::Start(moves) => start_attribute(alloc, bytes, &moves),
         Thing::Nodes(chosen) => {
-            let above = Box::into_inner(chosen);
-            node_attribute(alloc, &names.tables.parameters, name, above)
+            node_attribute(alloc, &names.tables.parameters, bytes, chosen.as_ref())
         }
-        Thing::Scale(place, moves) => scale_attribute(name, place, moves),
+        Thing::Scale(place, moves) => scale_attribute(bytes, place, moves),
         Thing::Enumeration(choices) => member_thing(names.tables, choices, name),
         Thing::Choices(choices) => member_thing(names.tables, choices, name),
         Thing::Entity(entity) => role_thing(names.tables, entity, name),
         Thing::Asker => asker_attribute(names, name),
-        Thing::Method(method, relation) => method_attribute(name, method, relation),
-        Thing::Library => library_function(name),
+        Thing::Method(method, relation) => method_attribute(bytes, method, relation),
+        Thing::Library => library_function(bytes),
         Thing::Offset(_)
         | Thing::Reader
         | Thing::Calculation(..)

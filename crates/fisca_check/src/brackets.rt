@@ -1,5 +1,5 @@
 //! What stands in brackets, and brackets behind an expression.
-ghost use Rattle.std.specs.Prelude.{map};
+ghost use Rattle.std.specs.Prelude.{◌≡◌, map};
 ghost use Rattle.fisca_check_calls.specs.Arguments.{all_given, given as given_view};
 ghost use Rattle.fisca_check.specs.Elements.{all_elements, element_of, list_view};
 ghost use Rattle.fisca_check.specs.Views.{names as names_of};
@@ -8,6 +8,7 @@ ghost use Rattle.fisca_ir.specs.Views.{thing as thing_of};
 ghost use Rattle.fisca_typing.specs.Typing as spec;
 
 use crate::calls::called;
+use crate::rows::Rows;
 use crate::scope::FormulaScope;
 use crate::subscripts::subscripted;
 use fisca_ast::{Delimiter, FormulaKind, Suffix};
@@ -79,13 +80,16 @@ fn subscript_of(
     names: &FormulaScope,
     thing: Thing,
     arguments: Vec<GivenArgument>,
+    rows: &mut Rows,
 ) -> Result<Thing, FormulaKind>
-    ensures { Gives thing_of (spec.subscript_of (names_of names.now) (thing_of thing) (all_given arguments.entry.items)) result }
+    requires { rows.old ≡ (names_of names.now).tables }
+    ensures thing { Gives thing_of (spec.subscript_of (names_of names.now) (thing_of thing) (all_given arguments.entry.items)) result }
+    ensures same { rows.new ≡ rows.old }
 {
     let index = only(arguments)?;
     let chosen = nodes_of(thing)?;
     let member = value_of(index)?;
-    subscripted(alloc, names.tables, chosen, member)
+    subscripted(alloc, names.tables, chosen.as_ref(), member, rows)
 }
 
 /// What an expression with brackets behind it stands for, or the first fault. Its frame is not among those of the
@@ -97,11 +101,14 @@ pub fn with_suffix(
     suffix: Suffix,
     thing: Thing,
     arguments: Vec<GivenArgument>,
+    rows: &mut Rows,
 ) -> Result<Thing, FormulaKind>
-    ensures { Gives thing_of (spec.with_suffix (names_of names.now) suffix (thing_of thing) (all_given arguments.entry.items)) result }
+    requires { rows.old ≡ (names_of names.now).tables }
+    ensures thing { Gives thing_of (spec.with_suffix (names_of names.now) suffix (thing_of thing) (all_given arguments.entry.items)) result }
+    ensures same { rows.new ≡ rows.old }
 {
     match suffix {
         Suffix::Call => called(alloc, names, thing, arguments),
-        Suffix::Subscript => subscript_of(alloc, names, thing, arguments),
+        Suffix::Subscript => subscript_of(alloc, names, thing, arguments, rows),
     }
 }

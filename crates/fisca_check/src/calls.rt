@@ -129,7 +129,7 @@ pub fn called(
     ensures { Gives thing_of (called_as (names_of names.now) (thing_of thing) (all_given arguments.entry.items)) result }
 {
     match thing {
-        Thing::Offset(moves) => offset_of(moves, settled_positions(alloc, arguments)?),
+        Thing::Offset(moves) => offset_of(alloc, &moves, settled_positions(alloc, arguments)?),
         Thing::Reader => {
             reader_by(
                 alloc,
@@ -138,7 +138,7 @@ pub fn called(
             )
         }
         Thing::Calculation(place, moves) => {
-            calculation_by(alloc, place, moves, settled_positions(alloc, arguments)?)
+            calculation_by(alloc, place, &moves, settled_positions(alloc, arguments)?)
         }
         Thing::Asker => {
             let relation = to_self(names.entity);

@@ -1,5 +1,5 @@
 //! Formulas: locals, each of which sees those before it, and what is returned.
-ghost use Rattle.std.specs.Prelude.{◌≡◌, [], map};
+ghost use Rattle.std.specs.Prelude.{◌≡◌, [], IfOk, map};
 ghost use Rattle.fisca_ast.specs.Views.{tree as tree_of};
 ghost use Rattle.fisca_check.specs.Formulas.{Tells, assigned, formula_view, returned_as, scope as scope_view};
 ghost use Rattle.fisca_check.specs.Views.{names as names_of};
@@ -8,6 +8,7 @@ ghost use Rattle.fisca_ir.specs.Views.{node, typed};
 ghost use Rattle.fisca_typing.specs.Formulas as spec;
 
 use crate::formula::{FormulaRefusal, Scope, TypedFormula};
+use crate::rows::Rows;
 use crate::scope::FormulaScope;
 use crate::typing::thing_of;
 use fisca_ast::{Assignment, Expr, FormulaKind, Slice};
@@ -23,17 +24,21 @@ fn behind_local<'n, 'a>(
     alloc: Global,
     scope: Scope<'n, 'a>,
     local: &Assignment<'a>,
+    rows: &mut Rows,
 ) -> Result<Scope<'n, 'a>, FormulaKind>
-    ensures { Gives scope_view (spec.behind_local (scope_view scope.entry) local.now.name (tree_of local.now.value)) result }
+    requires { rows.old ≡ (names_of scope.names).tables }
+    ensures scope { Gives scope_view (spec.behind_local (scope_view scope.entry) local.now.name (tree_of local.now.value)) result }
+    ensures tables { IfOk result (λ s. (names_of s.names).tables ≡ (names_of scope.entry.names).tables) }
+    ensures same { rows.new ≡ rows.old }
 {
     let Scope { names, mut values } = scope;
-    let thing = thing_of(alloc, &local.value, &names)?;
+    let thing = thing_of(alloc, &local.value, &names, rows)?;
     let held = kept(thing, &mut values)?;
     let Some(size) = small_size(&local.value, &names.locals) else {
         return Err(FormulaKind::TooDeep);
     };
     let latest = Local {
-        name: Slice::new(local.name.as_bytes()),
+        name: Slice::new(local.name.as_str()),
         held,
         size,
     };
@@ -56,10 +61,14 @@ fn behind<'n, 'a>(
     place: usize,
     scope: Scope<'n, 'a>,
     local: &Assignment<'a>,
+    rows: &mut Rows,
 ) -> Result<Scope<'n, 'a>, FormulaRefusal>
-    ensures { Tells scope_view (spec.at place (spec.behind_local (scope_view scope.entry) local.now.name (tree_of local.now.value))) result }
+    requires { rows.old ≡ (names_of scope.names).tables }
+    ensures scope { Tells scope_view (spec.at place (spec.behind_local (scope_view scope.entry) local.now.name (tree_of local.now.value))) result }
+    ensures tables { IfOk result (λ s. (names_of s.names).tables ≡ (names_of scope.entry.names).tables) }
+    ensures same { rows.new ≡ rows.old }
 {
-    match behind_local(alloc, scope, local) {
+    match behind_local(alloc, scope, local, rows) {
         Ok(next) => Ok(next),
         Err(kind) => Err(FormulaRefusal { place, kind }),
     }
@@ -96,10 +105,13 @@ fn returned(
     scope: &Scope,
     value_type: ValueType,
     tree: &Expr,
+    rows: &mut Rows,
 ) -> Result<Node, FormulaKind>
-    ensures { Gives node (spec.returned (scope_view scope.now) value_type (tree_of tree.now)) result }
+    requires { rows.old ≡ (names_of scope.now.names).tables }
+    ensures node { Gives node (spec.returned (scope_view scope.now) value_type (tree_of tree.now)) result }
+    ensures same { rows.new ≡ rows.old }
 {
-    let value = value_of(thing_of(alloc, tree, &scope.names)?)?;
+    let value = value_of(thing_of(alloc, tree, &scope.names, rows)?)?;
     let node = returned_value(value_type, value)?;
     match small_size(tree, &scope.names.locals) {
         Some(_) => Ok(node),
@@ -114,10 +126,13 @@ fn made_of(
     scope: Scope,
     value_type: ValueType,
     tree: &Expr,
+    rows: &mut Rows,
 ) -> Result<TypedFormula, FormulaRefusal>
-    ensures { Tells formula_view (spec.formula_from place (scope_view scope.entry) value_type [] (tree_of tree.now)) result }
+    requires { rows.old ≡ (names_of scope.names).tables }
+    ensures formula { Tells formula_view (spec.formula_from place (scope_view scope.entry) value_type [] (tree_of tree.now)) result }
+    ensures same { rows.new ≡ rows.old }
 {
-    match returned(alloc, &scope, value_type, tree) {
+    match returned(alloc, &scope, value_type, tree, rows) {
         Ok(result) => Ok(TypedFormula {
             values: scope.values,
             result,
@@ -136,16 +151,19 @@ pub fn formula_of<'n, 'a>(
     value_type: ValueType,
     locals: &[Assignment<'a>],
     returned: &Expr<'a>,
+    rows: &mut Rows,
 ) -> Result<TypedFormula, FormulaRefusal>
-    requires { names.locals ≡ [] }
-    ensures { Tells formula_view (spec.formula_of (names_of names.entry) value_type (map assigned locals.now) (tree_of returned.now)) result }
+    requires none { names.locals ≡ [] }
+    requires known { rows.old ≡ (names_of names).tables }
+    ensures formula { Tells formula_view (spec.formula_of (names_of names.entry) value_type (map assigned locals.now) (tree_of returned.now)) result }
+    ensures same { rows.new ≡ rows.old }
 {
     let mut scope = Scope {
         names,
         values: Vec::new(alloc),
     };
     for (place, local) in locals.iter().enumerate() {
-        scope = behind(alloc, place, scope, local)?;
+        scope = behind(alloc, place, scope, local, rows)?;
     }
-    made_of(alloc, locals.len(), scope, value_type, returned)
+    made_of(alloc, locals.len(), scope, value_type, returned, rows)
 }

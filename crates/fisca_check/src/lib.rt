@@ -9,13 +9,16 @@ mod calls;
 mod formula;
 mod formulas;
 mod groups;
+mod looked;
 mod methods;
 mod names;
+mod rows;
 mod scope;
 mod subscripts;
 mod typing;
 
 pub use formula::{FormulaRefusal, TypedFormula};
 pub use formulas::formula_of;
+pub use rows::Rows;
 pub use scope::FormulaScope;
 pub use typing::thing_of;

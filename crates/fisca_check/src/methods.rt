@@ -64,7 +64,7 @@ pub fn to_self(entity: usize) -> Relation
 }
 
 /// Whom a name behind the first argument leads to: of a person a group, of a group a role that one person at most has.
-fn relation_named(names: &FormulaScope, name: &[u8]) -> Option<Relation>
+fn relation_named(names: &FormulaScope, name: &str) -> Option<Relation>
     ensures { option_map relation_of result ≡ spec.relation_named (names_of names.now) name.now }
 {
     let tables = names.tables;
@@ -74,7 +74,7 @@ fn relation_named(names: &FormulaScope, name: &[u8]) -> Option<Relation>
             None => None,
         };
     }
-    if name == b"members".as_slice() {
+    if name == "members" {
         return None;
     }
     match tables.single_of_key(names.entity, name) {
@@ -173,10 +173,13 @@ pub fn method_attribute(
 }
 
 /// What a name behind the formula's first argument stands for, or `UnknownName`.
-pub fn asker_attribute(names: &FormulaScope, name: &[u8]) -> Result<Thing, FormulaKind>
+pub fn asker_attribute(names: &FormulaScope, name: &str) -> Result<Thing, FormulaKind>
     ensures { Gives thing (spec.asker_attribute (names_of names.now) name.now) result }
 {
-    match (method_named(names, name), relation_named(names, name)) {
+    match (
+        method_named(names, name.as_bytes()),
+        relation_named(names, name),
+    ) {
         (None, None) => Err(FormulaKind::UnknownName),
         (method, relation) => Ok(Thing::Method(method, relation)),
     }

@@ -8,21 +8,20 @@ ghost use Rattle.fisca_typing.specs.Names as spec;
 
 use crate::scope::FormulaScope;
 use fisca_ast::FormulaKind;
-use fisca_ir::{Node, Thing, Typed};
+use fisca_ir::{Moves, Node, Thing, Typed};
 use fisca_model::ValueType;
 use fisca_symbols::Tables;
 use fisca_typing::{Asking, Function, Level};
-use std::alloc::Global;
 
 /// What the name of an argument of the formula stands for.
-fn argument_named(alloc: Global, names: &FormulaScope, name: &[u8]) -> Option<Thing>
+fn argument_named(names: &FormulaScope, name: &[u8]) -> Option<Thing>
     ensures { option_map thing result ≡ spec.argument_named (names_of names.now) name.now }
 {
     if names.asker_name == name {
         return Some(Thing::Asker);
     }
     if names.period_name == name {
-        return Some(Thing::Period(Vec::new(alloc)));
+        return Some(Thing::Period(Moves::none()));
     }
     match names.reader_name {
         Some(reader) if reader == name => Some(Thing::Reader),
@@ -140,7 +139,7 @@ pub fn library_function(name: &[u8]) -> Result<Thing, FormulaKind>
 }
 
 /// What the name of an Enum or of an entity stands for.
-fn declared(tables: &Tables, name: &[u8]) -> Option<Thing>
+fn declared(tables: &Tables, name: &str) -> Option<Thing>
     ensures { option_map thing result ≡ spec.declared (tables_of tables.now) name.now }
 {
     match tables.enums.of_name(name) {
@@ -153,16 +152,16 @@ fn declared(tables: &Tables, name: &[u8]) -> Option<Thing>
 }
 
 /// What a name stands for that is no local's.
-fn other_named(alloc: Global, names: &FormulaScope, name: &[u8]) -> Option<Thing>
+fn other_named(names: &FormulaScope, name: &str) -> Option<Thing>
     ensures { option_map thing result ≡ other_name (names_of names.now) name.now }
 {
-    match argument_named(alloc, names, name) {
+    match argument_named(names, name.as_bytes()) {
         Some(found) => Some(found),
-        None => match known_word(name) {
+        None => match known_word(name.as_bytes()) {
             Some(found) => Some(found),
             None => match declared(names.tables, name) {
                 Some(found) => Some(found),
-                None => added_word(name),
+                None => added_word(name.as_bytes()),
             },
         },
     }
@@ -171,12 +170,12 @@ fn other_named(alloc: Global, names: &FormulaScope, name: &[u8]) -> Option<Thing
 /// What a name stands for, or `UnknownName`: the latest local, else an argument, else a word of the language, else an
 /// Enum or an entity, else a function that this project adds, which hides no name so.
 #[inline(never)]
-pub fn named(alloc: Global, names: &FormulaScope, name: &[u8]) -> Result<Thing, FormulaKind>
+pub fn named(names: &FormulaScope, name: &str) -> Result<Thing, FormulaKind>
     ensures { Gives thing (spec.named (names_of names.now) name.now) result }
 {
-    match names.locals.find(alloc, name)? {
+    match names.locals.find(name.as_bytes())? {
         Some(found) => Ok(found),
-        None => match other_named(alloc, names, name) {
+        None => match other_named(names, name) {
             Some(found) => Ok(found),
             None => Err(FormulaKind::UnknownName),
         },

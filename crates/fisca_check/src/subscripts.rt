@@ -1,11 +1,12 @@
 //! Members of Enums in brackets behind parameters.
-ghost use Rattle.std.specs.Prelude.{◌≡◌, IfOk, map};
+ghost use Rattle.std.specs.Prelude.{◌≡◌, IfOk, length, map};
 ghost use Rattle.fisca_ast.specs.Outcomes.{Gives};
 ghost use Rattle.fisca_ir.specs.Views.{chosen as chosen_of, thing as thing_of, typed};
 ghost use Rattle.fisca_symbols.specs.Known.{tables as tables_of};
 ghost use Rattle.fisca_typing.specs.Parameters as spec;
 ghost use Rattle.fisca_model.specs.Tables.{members_at};
 
+use crate::rows::Rows;
 use fisca_ast::FormulaKind;
 use fisca_check_calls::chosen_below;
 use fisca_ir::{Chosen, Thing, Typed, higher};
@@ -32,7 +33,7 @@ fn names_of<'t, 'a>(
 }
 
 /// The names of the members of the Enum at a place.
-fn member_names<'t, 'a>(
+pub(crate) fn member_names<'t, 'a>(
     alloc: Global,
     tables: &'t Tables<'a>,
     choices: usize,
@@ -42,6 +43,16 @@ fn member_names<'t, 'a>(
     match tables.enums.as_slice().get(choices) {
         Some(found) => names_of(alloc, &found.members),
         None => Ok(Vec::new(alloc)),
+    }
+}
+
+/// How many members the Enum at a place has.
+fn member_count(tables: &Tables, choices: usize) -> usize
+    ensures { result ≡ length (members_at (tables_of tables.now) choices) }
+{
+    match tables.enums.as_slice().get(choices) {
+        Some(found) => found.members.len(),
+        None => 0,
     }
 }
 
@@ -60,20 +71,17 @@ fn enum_by(value_type: ValueType) -> Result<usize, FormulaKind>
 pub fn subscripted(
     alloc: Global,
     tables: &Tables,
-    chosen: Chosen,
+    chosen: &Chosen,
     index: Typed,
+    rows: &mut Rows,
 ) -> Result<Thing, FormulaKind>
-    ensures { Gives thing_of (spec.subscripted (tables_of tables.now) (chosen_of chosen) (typed index)) result }
+    requires { rows.old ≡ tables_of tables.now }
+    ensures thing { Gives thing_of (spec.subscripted (tables_of tables.now) (chosen_of chosen.now) (typed index)) result }
+    ensures same { rows.new ≡ rows.old }
 {
     let choices = enum_by(index.value_type)?;
     let level = higher(chosen.level, index.level)?;
-    let names = member_names(alloc, tables, choices)?;
-    chosen_below(
-        alloc,
-        &tables.parameters,
-        chosen,
-        level,
-        index.node,
-        names.as_slice(),
-    )
+    let children = rows.children(alloc, choices, &chosen.places)?;
+    let size = member_count(tables, choices);
+    chosen_below(alloc, &children, chosen, level, index.node, size)
 }

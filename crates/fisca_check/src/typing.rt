@@ -16,6 +16,7 @@ use crate::atoms::{if_known, number_thing, text_thing};
 use crate::attributes::attribute_of;
 use crate::brackets::{in_brackets, with_suffix};
 use crate::names::named;
+use crate::rows::Rows;
 use crate::scope::FormulaScope;
 use fisca_ast::{Argument, Arguments, Delimiter, Expr, FormulaKind, Prefix, Suffix};
 use fisca_check_calls::GivenArgument;
@@ -29,31 +30,38 @@ pub fn thing_of<'a, 't>(
     alloc: Global,
     tree: &'t Expr<'a>,
     names: &FormulaScope,
+    rows: &mut Rows,
 ) -> Result<Thing, FormulaKind>
-    ensures { Gives thing (spec.thing_of (names_of names.now) (tree_of tree.now)) result }
+    requires { rows.old ≡ (names_of names.now).tables }
+    ensures thing { Gives thing (spec.thing_of (names_of names.now) (tree_of tree.now)) result }
+    ensures same { rows.new ≡ rows.old }
 {
     match tree {
-        Expr::Name(name) => named(alloc, names, name.as_bytes()),
+        Expr::Name(name) => named(names, name.as_str()),
         Expr::Number(digits) => number_thing(digits.as_bytes()),
-        Expr::Text(text) => text_thing(alloc, text.as_bytes()),
-        Expr::Bracketed(bracket, inside) => bracketed(alloc, names, *bracket, inside),
-        Expr::Attribute(access) => {
-            attribute(alloc, names, &access.front, access.name.as_bytes())
-        }
+        Expr::Text(text) => text_thing(alloc, text.as_str()),
+        Expr::Bracketed(bracket, inside) => bracketed(alloc, names, *bracket, inside, rows),
+        Expr::Attribute(access) => attribute(
+            alloc,
+            names,
+            &access.front,
+            access.name.as_str(),
+            rows,
+        ),
         Expr::Applied(suffix, application) => {
-            let before = thing_of(alloc, &application.front, names);
-            applied(alloc, names, *suffix, before, &application.behind)
+            let before = thing_of(alloc, &application.front, names, rows);
+            applied(alloc, names, *suffix, before, &application.behind, rows)
         }
-        Expr::Prefixed(prefix, operand) => prefixed(alloc, names, *prefix, operand),
+        Expr::Prefixed(prefix, operand) => prefixed(alloc, names, *prefix, operand, rows),
         Expr::Binary(operator, operands) => {
-            let first = thing_of(alloc, &operands.left, names);
+            let first = thing_of(alloc, &operands.left, names, rows);
             let dyadic = Dyadic::Operator(*operator);
-            of_two(alloc, names, dyadic, first, &operands.right)
+            of_two(alloc, names, dyadic, first, &operands.right, rows)
         }
         Expr::Compare(comparison, operands) => {
-            let first = thing_of(alloc, &operands.left, names);
+            let first = thing_of(alloc, &operands.left, names, rows);
             let dyadic = Dyadic::Comparison(*comparison);
-            of_two(alloc, names, dyadic, first, &operands.right)
+            of_two(alloc, names, dyadic, first, &operands.right, rows)
         }
     }
 }
@@ -66,13 +74,16 @@ fn bracketed<'a, 't>(
     names: &FormulaScope,
     bracket: Delimiter,
     inside: &'t Arguments<'a>,
+    rows: &mut Rows,
 ) -> Result<Thing, FormulaKind>
-    ensures { Gives thing (spec.in_brackets bracket (spec.all_given (names_of names.now) (series_view inside.now))) result }
+    requires { rows.old ≡ (names_of names.now).tables }
+    ensures thing { Gives thing (spec.in_brackets bracket (spec.all_given (names_of names.now) (series_view inside.now))) result }
+    ensures same { rows.new ≡ rows.old }
 {
     match (bracket, inside) {
-        (Delimiter::Round, Arguments::One(only)) => parenthesised(alloc, names, only),
+        (Delimiter::Round, Arguments::One(only)) => parenthesised(alloc, names, only, rows),
         (Delimiter::Round | Delimiter::Square | Delimiter::Curly, _) => {
-            in_brackets(alloc, bracket, given_inside(alloc, names, inside)?)
+            in_brackets(alloc, bracket, given_inside(alloc, names, inside, rows)?)
         }
     }
 }
@@ -83,11 +94,14 @@ fn parenthesised<'a, 't>(
     alloc: Global,
     names: &FormulaScope,
     only: &'t Argument<'a>,
+    rows: &mut Rows,
 ) -> Result<Thing, FormulaKind>
-    ensures { Gives thing (spec.only (spec.given_of (names_of names.now) (argument_view only.now) ∷ [])) result }
+    requires { rows.old ≡ (names_of names.now).tables }
+    ensures thing { Gives thing (spec.only (spec.given_of (names_of names.now) (argument_view only.now) ∷ [])) result }
+    ensures same { rows.new ≡ rows.old }
 {
     match only {
-        Argument::Positional(value) => thing_of(alloc, value, names),
+        Argument::Positional(value) => thing_of(alloc, value, names, rows),
         Argument::Keyword(..) | Argument::Entry(..) => Err(FormulaKind::BadType),
     }
 }
@@ -99,11 +113,14 @@ fn attribute<'a, 't>(
     alloc: Global,
     names: &FormulaScope,
     front: &'t Expr<'a>,
-    name: &[u8],
+    name: &str,
+    rows: &mut Rows,
 ) -> Result<Thing, FormulaKind>
-    ensures { Gives thing (and_then (spec.thing_of (names_of names.now) (tree_of front.now)) (spec.attribute_of (names_of names.now) name.now)) result }
+    requires { rows.old ≡ (names_of names.now).tables }
+    ensures thing { Gives thing (and_then (spec.thing_of (names_of names.now) (tree_of front.now)) (spec.attribute_of (names_of names.now) name.now)) result }
+    ensures same { rows.new ≡ rows.old }
 {
-    let before = thing_of(alloc, front, names)?;
+    let before = thing_of(alloc, front, names, rows)?;
     attribute_of(alloc, names, name, before)
 }
 
@@ -116,12 +133,15 @@ fn applied<'a, 't>(
     suffix: Suffix,
     found: Result<Thing, FormulaKind>,
     behind: &'t Arguments<'a>,
+    rows: &mut Rows,
 ) -> Result<Thing, FormulaKind>
-    ensures { (told : Result things.Thing FormulaKind) → Gives thing told found → Gives thing (and_then told (λ before. spec.with_suffix (names_of names.now) suffix before (spec.all_given (names_of names.now) (series_view behind.now)))) result }
+    requires { rows.old ≡ (names_of names.now).tables }
+    ensures thing { (told : Result things.Thing FormulaKind) → Gives thing told found → Gives thing (and_then told (λ before. spec.with_suffix (names_of names.now) suffix before (spec.all_given (names_of names.now) (series_view behind.now)))) result }
+    ensures same { rows.new ≡ rows.old }
 {
     let before = found?;
-    let arguments = given_inside(alloc, names, behind)?;
-    with_suffix(alloc, names, suffix, before, arguments)
+    let arguments = given_inside(alloc, names, behind, rows)?;
+    with_suffix(alloc, names, suffix, before, arguments, rows)
 }
 
 /// What a prefix and its operand stand for, or the first fault.
@@ -132,10 +152,13 @@ fn prefixed<'a, 't>(
     names: &FormulaScope,
     prefix: Prefix,
     operand: &'t Expr<'a>,
+    rows: &mut Rows,
 ) -> Result<Thing, FormulaKind>
-    ensures { Gives thing (and_then (spec.thing_of (names_of names.now) (tree_of operand.now)) (operations.prefixed_value prefix)) result }
+    requires { rows.old ≡ (names_of names.now).tables }
+    ensures thing { Gives thing (and_then (spec.thing_of (names_of names.now) (tree_of operand.now)) (operations.prefixed_value prefix)) result }
+    ensures same { rows.new ≡ rows.old }
 {
-    let inside = thing_of(alloc, operand, names)?;
+    let inside = thing_of(alloc, operand, names, rows)?;
     prefixed_value(alloc, prefix, inside)
 }
 
@@ -147,11 +170,14 @@ fn of_two<'a, 't>(
     dyadic: Dyadic,
     found: Result<Thing, FormulaKind>,
     right: &'t Expr<'a>,
+    rows: &mut Rows,
 ) -> Result<Thing, FormulaKind>
-    ensures { (told : Result things.Thing FormulaKind) → Gives thing told found → Gives thing (and_then told (λ first. and_then (spec.thing_of (names_of names.now) (tree_of right.now)) (operations.operated (by dyadic) first))) result }
+    requires { rows.old ≡ (names_of names.now).tables }
+    ensures thing { (told : Result things.Thing FormulaKind) → Gives thing told found → Gives thing (and_then told (λ first. and_then (spec.thing_of (names_of names.now) (tree_of right.now)) (operations.operated (by dyadic) first))) result }
+    ensures same { rows.new ≡ rows.old }
 {
     let first = found?;
-    let second = thing_of(alloc, right, names)?;
+    let second = thing_of(alloc, right, names, rows)?;
     operated(alloc, dyadic, first, second)
 }
 
@@ -161,16 +187,19 @@ fn given_inside<'a, 't>(
     alloc: Global,
     names: &FormulaScope,
     inside: &'t Arguments<'a>,
+    rows: &mut Rows,
 ) -> Result<Vec<GivenArgument<'a, 't>>, AllocError>
-    ensures { IfOk result (λ gs. given_list gs.items ≡ spec.all_given (names_of names.now) (series_view inside.now)) }
+    requires { rows.old ≡ (names_of names.now).tables }
+    ensures thing { IfOk result (λ gs. given_list gs.items ≡ spec.all_given (names_of names.now) (series_view inside.now)) }
+    ensures same { rows.new ≡ rows.old }
 {
     match inside {
         Arguments::One(argument) => {
             let mut found = Vec::with_capacity(alloc, 1)?;
-            found.push(given_of(alloc, argument, names)?)?;
+            found.push(given_of(alloc, argument, names, rows)?)?;
             Ok(found)
         }
-        Arguments::Several(items, _) => all_given(alloc, items.as_slice(), names),
+        Arguments::Several(items, _) => all_given(alloc, items.as_slice(), names, rows),
     }
 }
 
@@ -181,12 +210,15 @@ fn all_given<'a, 't>(
     alloc: Global,
     items: &'t [Argument<'a>],
     names: &FormulaScope,
+    rows: &mut Rows,
 ) -> Result<Vec<GivenArgument<'a, 't>>, AllocError>
-    ensures { IfOk result (λ gs. (comma : Bool) → given_list gs.items ≡ spec.all_given (names_of names.now) (series_of comma (map argument_view items.now))) }
+    requires { rows.old ≡ (names_of names.now).tables }
+    ensures thing { IfOk result (λ gs. (comma : Bool) → given_list gs.items ≡ spec.all_given (names_of names.now) (series_of comma (map argument_view items.now))) }
+    ensures same { rows.new ≡ rows.old }
 {
     let mut found = Vec::with_capacity(alloc, items.len())?;
     for item in items {
-        found.push(given_of(alloc, item, names)?)?;
+        found.push(given_of(alloc, item, names, rows)?)?;
     }
     Ok(found)
 }
@@ -197,19 +229,22 @@ fn given_of<'a, 't>(
     alloc: Global,
     argument: &'t Argument<'a>,
     names: &FormulaScope,
+    rows: &mut Rows,
 ) -> Result<GivenArgument<'a, 't>, AllocError>
-    ensures { IfOk result (λ g. given_view g ≡ spec.given_of (names_of names.now) (argument_view argument.now)) }
+    requires { rows.old ≡ (names_of names.now).tables }
+    ensures thing { IfOk result (λ g. given_view g ≡ spec.given_of (names_of names.now) (argument_view argument.now)) }
+    ensures same { rows.new ≡ rows.old }
 {
     match argument {
         Argument::Positional(value) => Ok(GivenArgument {
             keyword: None,
             tree: value,
-            thing: if_known(thing_of(alloc, value, names))?,
+            thing: if_known(thing_of(alloc, value, names, rows))?,
         }),
         Argument::Keyword(keyword, value) => Ok(GivenArgument {
             keyword: Some(keyword.as_bytes()),
             tree: value,
-            thing: if_known(thing_of(alloc, value, names))?,
+            thing: if_known(thing_of(alloc, value, names, rows))?,
         }),
         Argument::Entry(_, value) => Ok(GivenArgument {
             keyword: None,

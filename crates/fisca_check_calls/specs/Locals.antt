@@ -16,9 +16,9 @@ use Rattle.fisca_check_calls.specs.declared.local.Local.{Local}
 
 abbrev pub held : Held → things.Thing
 held (variant.Value t l i) = things.value (record { value_type = t; level = l; node = nodes.local i })
-held (variant.Period ms) = things.period ms.items
+held (variant.Period ms) = things.period ms
 held (variant.Nodes c) = things.nodes (chosen c.value)
-held (variant.Scale n ms) = things.scale n ms.items
+held (variant.Scale n ms) = things.scale n ms
 held (variant.Choices e) = things.choices e
 
 -- what a local stands for, beside what those with values work out

@@ -13,14 +13,14 @@ use crate::arguments::{Positions, Settled, alone, pair, single, triple};
 use crate::parameters::root_at;
 use fisca_ast::{FormulaKind, Operator};
 use fisca_ir::{
-    Dyadic, Node, Thing, Typed, choose, common, common_all, higher, highest, instant_of, is_bool,
-    numeric_of, offset_by, offset_by_unit, operated, places_of, scale_sum, text_of, things_of,
-    unary_of, value_of, where_of,
+    Dyadic, Moves, Node, Thing, Typed, choose, common, common_all, higher, highest, instant_of,
+    is_bool, numeric_of, offset_by, offset_by_unit, operated, places_of, scale_sum, text_of,
+    things_of, unary_of, value_of, where_of,
 };
 use fisca_model::ValueType;
 use fisca_num::Fraction;
 use fisca_params::{NodeId, ParamTree};
-use fisca_typing::{Arithmetic, Function, Level, Move, Unary};
+use fisca_typing::{Arithmetic, Function, Level, Unary};
 use std::alloc::Global;
 
 /// The values that a list has, or `BadType`.
@@ -342,16 +342,18 @@ pub fn function_by(
 }
 
 /// `period.offset(count)` or `period.offset(count, unit)`, or `BadType`.
-pub fn offset_of(moves: Vec<Move>, positions: Positions) -> Result<Thing, FormulaKind>
-    ensures { Gives thing (spec.offset_of moves.items (positions_view positions.entry)) result }
+pub fn offset_of(alloc: Global, moves: &Moves, positions: Positions) -> Result<Thing, FormulaKind>
+    ensures { Gives thing (spec.offset_of moves.now (positions_view positions.entry)) result }
 {
     let Positions::ByPosition(arguments) = positions else {
         return Err(FormulaKind::BadType);
     };
     match arguments.as_slice() {
         [] => Err(FormulaKind::BadType),
-        [count] => offset_by(moves, count.tree),
-        [count, unit] => offset_by_unit(moves, count.tree, text_of(&unit.thing)?),
+        [count] => offset_by(alloc, moves, count.tree),
+        [count, unit] => {
+            offset_by_unit(alloc, moves, count.tree, text_of(&unit.thing)?.as_bytes())
+        }
         [_, _, _, ..] => Err(FormulaKind::BadType),
     }
 }
@@ -373,16 +375,16 @@ pub fn reader_by(
 pub fn calculation_by(
     alloc: Global,
     place: NodeId,
-    moves: Vec<Move>,
+    moves: &Moves,
     positions: Positions,
 ) -> Result<Thing, FormulaKind>
-    ensures { Gives thing (spec.calculation_by place moves.items (positions_view positions.entry)) result }
+    ensures { Gives thing (spec.calculation_by place moves.now (positions_view positions.entry)) result }
 {
     let argument = alone(positions)?;
     let base = numeric_of(argument.thing)?;
     Ok(Thing::Value(Typed {
         value_type: ValueType::Number,
         level: base.level,
-        node: scale_sum(alloc, place, moves, base.node)?,
+        node: scale_sum(alloc, place, moves.to_vec(alloc)?, base.node)?,
     }))
 }

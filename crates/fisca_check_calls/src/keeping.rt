@@ -2,37 +2,18 @@
 ghost use Rattle.std.specs.Prelude.{◌≡◌, IfOk, Ok, map};
 ghost use Rattle.fisca_check_calls.specs.Locals.{held as held_thing, kept_view};
 ghost use Rattle.fisca_ast.specs.Outcomes.{Gives};
-ghost use Rattle.fisca_ir.specs.Views.{chosen as chosen_of, node, thing as thing_of, typed};
+ghost use Rattle.fisca_ir.specs.Views.{node, thing as thing_of, typed};
 ghost use Rattle.fisca_typing.specs.Formulas as spec;
 
 use crate::local::Held;
 use fisca_ast::FormulaKind;
-use fisca_ir::{Chosen, Node, Thing, Typed, copy_indices};
-use fisca_typing::Move;
-use std::alloc::{AllocError, Global};
-
-/// The same moves.
-fn copy_moves(alloc: Global, moves: &[Move]) -> Result<Vec<Move>, AllocError>
-    ensures { IfOk result (λ ms. ms.items ≡ moves.now) }
-{
-    moves.to_vec(alloc)
-}
-
-/// The same parameters.
-fn copy_chosen(alloc: Global, chosen: &Chosen) -> Result<Chosen, AllocError>
-    ensures { IfOk result (λ c. chosen_of c ≡ chosen_of chosen.now) }
-{
-    Ok(Chosen {
-        level: chosen.level,
-        indices: copy_indices(alloc, chosen.indices.as_slice())?,
-        places: chosen.places.as_slice().to_vec(alloc)?,
-        moves: copy_moves(alloc, chosen.moves.as_slice())?,
-    })
-}
+use fisca_ir::{Node, Thing, Typed};
+use std::alloc::AllocError;
+use std::rc::Rc;
 
 impl Held {
-    /// What the name of the local stands for.
-    pub fn thing(&self, alloc: Global) -> Result<Thing, AllocError>
+    /// What the name of the local stands for, shared with it.
+    pub fn thing(&self) -> Result<Thing, AllocError>
         ensures { IfOk result (λ x. thing_of x ≡ held_thing self.now) }
     {
         match self {
@@ -41,11 +22,9 @@ impl Held {
                 level: *level,
                 node: Node::Local(*place),
             })),
-            Held::Period(moves) => Ok(Thing::Period(copy_moves(alloc, moves.as_slice())?)),
-            Held::Nodes(chosen) => Ok(Thing::Nodes(Box::new(alloc, copy_chosen(alloc, chosen)?)?)),
-            Held::Scale(place, moves) => {
-                Ok(Thing::Scale(*place, copy_moves(alloc, moves.as_slice())?))
-            }
+            Held::Period(moves) => Ok(Thing::Period(moves.shared()?)),
+            Held::Nodes(chosen) => Ok(Thing::Nodes(Rc::clone(chosen)?)),
+            Held::Scale(place, moves) => Ok(Thing::Scale(*place, moves.shared()?)),
             Held::Choices(place) => Ok(Thing::Choices(*place)),
         }
     }

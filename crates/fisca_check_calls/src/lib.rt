@@ -18,5 +18,7 @@ pub use counting::{size_of, small_size};
 pub use keeping::kept;
 pub use local::{Held, Local};
 pub use locals::Locals;
-pub use parameters::{chosen_below, node_attribute, scale_attribute};
+pub use parameters::{
+    Children, Wanted, children_alike, chosen_below, node_attribute, scale_attribute,
+};
 pub use size::{Size, above, beside, is_small};

@@ -5,10 +5,11 @@ ghost use Rattle.fisca_typing.specs.Sizes.{is_small};
 
 use crate::size::Size;
 use fisca_ast::Slice;
-use fisca_ir::Chosen;
+use fisca_ir::{Chosen, Moves};
 use fisca_model::ValueType;
 use fisca_params::NodeId;
-use fisca_typing::{Level, Move};
+use fisca_typing::Level;
+use std::rc::Rc;
 
 /// What the name of a local stands for.
 #[derive(Drop)]
@@ -16,11 +17,11 @@ pub enum Held {
     /// A value: its type, its level, and how many locals with values come before.
     Value(ValueType, Level, usize),
     /// A period, by the moves to it.
-    Period(Vec<Move>),
+    Period(Moves),
     /// Parameters.
-    Nodes(Box<Chosen>),
+    Nodes(Rc<Chosen>),
     /// A scale at the start of a period.
-    Scale(NodeId, Vec<Move>),
+    Scale(NodeId, Moves),
     /// The members of an Enum.
     Choices(usize),
 }

@@ -94,11 +94,11 @@ impl<'a> Locals<'a> {
 
     /// What the name of a local stands for.
     #[tactic(auto, using(crate::proofs::Latest::thing_found, crate::proofs::Latest::thing_missing))]
-    pub fn find(&self, alloc: Global, name: &[u8]) -> Result<Option<Thing>, AllocError>
+    pub fn find(&self, name: &[u8]) -> Result<Option<Thing>, AllocError>
         ensures { IfOk result (λ x. option_map thing x ≡ local_named (locals self.now) name.now) }
     {
         match self.of_name(name) {
-            Some(local) => Ok(Some(local.held.thing(alloc)?)),
+            Some(local) => Ok(Some(local.held.thing()?)),
             None => Ok(None),
         }
     }

@@ -1,17 +1,21 @@
 //! Parameters below `parameters(period)`.
-ghost use Rattle.std.specs.Prelude.{◌≡◌, ◌∷◌, [], map};
+ghost use Rattle.std.specs.Prelude.{◌≡◌, ◌∷◌, [], ℕ, List, Ok, length, map};
 ghost use Rattle.std.specs.List.{list_all};
-ghost use Rattle.fisca_check_calls.specs.Parameters.{all_are, chosen_by, scale_alone};
+ghost use Rattle.fisca_check_calls.specs.Parameters.{alike_below, all_are, children as children_view, chosen_among as among, chosen_by, one_kind, scale_alone, thing_of_kind as kind_thing};
+ghost use Rattle.fisca_params.specs.Tree.{TreeNode};
 ghost use Rattle.fisca_ast.specs.Outcomes.{Gives};
 ghost use Rattle.fisca_ir.specs.Views.{chosen as chosen_of, indices as indices_of, node, thing};
 ghost use Rattle.fisca_typing.specs.Parameters as spec;
 
 use fisca_ast::FormulaKind;
-use fisca_ir::{Chosen, Index, Node, Thing, Typed, parameter_node, push_index};
+use fisca_ir::{
+    Chosen, Index, Moves, Node, Thing, Typed, copy_indices, parameter_node, push_index,
+};
 use fisca_model::ValueType;
 use fisca_params::{NodeId, NodeKind, ParamTree};
-use fisca_typing::{Level, Move};
+use fisca_typing::Level;
 use std::alloc::Global;
+use std::rc::Rc;
 
 /// What all of some nodes may be.
 #[derive(Clone, Copy, Debug, PartialEq, Eq)]
@@ -19,6 +23,15 @@ pub enum Wanted {
     Numbers,
     Bools,
     Nodes,
+}
+
+/// Nodes that are all of one kind, shared by all that choose among them.
+#[derive(Drop)]
+pub struct Children {
+    /// What they are.
+    pub kind: Wanted,
+    /// Their places.
+    pub places: Rc<Vec<NodeId>>,
 }
 
 /// Whether a node is what is wanted.
@@ -51,23 +64,49 @@ fn parameter_of(alloc: Global, value_type: ValueType, chosen: Chosen) -> Result<
     Ok(Thing::Value(Typed {
         value_type,
         level: chosen.level,
-        node: parameter_node(alloc, chosen.indices, chosen.places, chosen.moves)?,
+        node: parameter_node(
+            alloc,
+            chosen.indices,
+            chosen.places,
+            chosen.moves.to_vec(alloc)?,
+        )?,
     }))
 }
 
-/// What nodes stand for, where none is a scale that no index chooses: `BadType` where they are not of one kind.
-fn of_one_kind(alloc: Global, tree: &ParamTree, chosen: Chosen) -> Result<Thing, FormulaKind>
-    ensures { Gives thing (spec.of_one_kind (chosen_of chosen) (spec.kinds_at tree.now chosen.places.items)) result }
+/// What all of these nodes are, where they are of one kind.
+fn kind_of_all(tree: &ParamTree, places: &[NodeId]) -> Option<Wanted>
+    ensures { result ≡ one_kind (spec.kinds_at tree.now places.now) }
 {
-    let places = chosen.places.as_slice();
     if are_all(tree, places, Wanted::Numbers) {
-        parameter_of(alloc, ValueType::Number, chosen)
+        Some(Wanted::Numbers)
     } else if are_all(tree, places, Wanted::Bools) {
-        parameter_of(alloc, ValueType::Bool, chosen)
+        Some(Wanted::Bools)
     } else if are_all(tree, places, Wanted::Nodes) {
-        Ok(Thing::Nodes(Box::new(alloc, chosen)?))
+        Some(Wanted::Nodes)
     } else {
-        Err(FormulaKind::BadType)
+        None
+    }
+}
+
+/// What nodes stand for that are all of this kind.
+fn thing_of_kind(alloc: Global, kind: Wanted, chosen: Chosen) -> Result<Thing, FormulaKind>
+    ensures { Gives thing (kind_thing kind (chosen_of chosen)) result }
+{
+    match kind {
+        Wanted::Numbers => parameter_of(alloc, ValueType::Number, chosen),
+        Wanted::Bools => parameter_of(alloc, ValueType::Bool, chosen),
+        Wanted::Nodes => Ok(Thing::Nodes(Rc::new(alloc, chosen)?)),
+    }
+}
+
+/// What nodes stand for, where none is a scale that no index chooses: `BadType` where they are not of one kind.
+#[tactic(auto, using(crate::proofs::OneKind::one_kind_by))]
+fn of_one_kind(alloc: Global, tree: &ParamTree, chosen: Chosen) -> Result<Thing, FormulaKind>
+    ensures { Gives thing (spec.of_one_kind (chosen_of chosen) (spec.kinds_at tree.now chosen.places.value.items)) result }
+{
+    match kind_of_all(tree, chosen.places.as_slice()) {
+        Some(kind) => thing_of_kind(alloc, kind, chosen),
+        None => Err(FormulaKind::BadType),
     }
 }
 
@@ -139,24 +178,24 @@ fn children_below(
 }
 
 /// `parameters(period)`: the root, at the start of a period.
-pub fn root_at(alloc: Global, tree: &ParamTree, moves: Vec<Move>) -> Result<Thing, FormulaKind>
-    ensures { Gives thing (spec.root_at tree.now moves.items) result }
+pub fn root_at(alloc: Global, tree: &ParamTree, moves: Moves) -> Result<Thing, FormulaKind>
+    ensures { Gives thing (spec.root_at tree.now moves) result }
 {
     let mut places = Vec::new(alloc);
     places.push(tree.root())?;
     let chosen = Chosen {
         level: Level::Constant,
         indices: Vec::new(alloc),
-        places,
+        places: Rc::new(alloc, places)?,
         moves,
     };
     thing_chosen(alloc, tree, chosen)
 }
 
-/// The child of this name below a node alone, in the list that had the node; or `UnknownParameter`.
+/// The child of this name below a node alone, or `UnknownParameter`.
 fn child_alone(
+    alloc: Global,
     tree: &ParamTree,
-    mut places: Vec<NodeId>,
     place: NodeId,
     name: &[u8],
 ) -> Result<Vec<NodeId>, FormulaKind>
@@ -165,7 +204,7 @@ fn child_alone(
     let Some(child) = tree.child_by(place, name) else {
         return Err(FormulaKind::UnknownParameter);
     };
-    places.clear();
+    let mut places = Vec::new(alloc);
     places.push(child)?;
     Ok(places)
 }
@@ -174,16 +213,13 @@ fn child_alone(
 fn children_named_so(
     alloc: Global,
     tree: &ParamTree,
-    places: Vec<NodeId>,
+    places: &[NodeId],
     name: &[u8],
 ) -> Result<Vec<NodeId>, FormulaKind>
-    ensures { Gives (λ found. found.items) (spec.children_below tree.now places.items (name.now ∷ [])) result }
+    ensures { Gives (λ found. found.items) (spec.children_below tree.now places.now (name.now ∷ [])) result }
 {
-    match places.as_slice() {
-        [place] => {
-            let alone = *place;
-            child_alone(tree, places, alone, name)
-        }
+    match places {
+        [place] => child_alone(alloc, tree, *place, name),
         several => children_below(alloc, tree, several, &[name]),
     }
 }
@@ -193,23 +229,23 @@ pub fn node_attribute(
     alloc: Global,
     tree: &ParamTree,
     name: &[u8],
-    chosen: Chosen,
+    chosen: &Chosen,
 ) -> Result<Thing, FormulaKind>
-    ensures { Gives thing (spec.node_attribute tree.now name.now (chosen_of chosen)) result }
+    ensures { Gives thing (spec.node_attribute tree.now name.now (chosen_of chosen.now)) result }
 {
-    let places = children_named_so(alloc, tree, chosen.places, name)?;
+    let places = children_named_so(alloc, tree, chosen.places.as_slice(), name)?;
     let below = Chosen {
         level: chosen.level,
-        indices: chosen.indices,
-        places,
-        moves: chosen.moves,
+        indices: copy_indices(alloc, chosen.indices.as_slice())?,
+        places: Rc::new(alloc, places)?,
+        moves: chosen.moves.shared()?,
     };
     thing_chosen(alloc, tree, below)
 }
 
 /// `scale.calc`, or `BadType`.
-pub fn scale_attribute(name: &[u8], place: NodeId, moves: Vec<Move>) -> Result<Thing, FormulaKind>
-    ensures { Gives thing (spec.scale_attribute name.now place moves.items) result }
+pub fn scale_attribute(name: &[u8], place: NodeId, moves: Moves) -> Result<Thing, FormulaKind>
+    ensures { Gives thing (spec.scale_attribute name.now place moves) result }
 {
     if name == b"calc".as_slice() {
         Ok(Thing::Calculation(place, moves))
@@ -218,26 +254,58 @@ pub fn scale_attribute(name: &[u8], place: NodeId, moves: Vec<Move>) -> Result<T
     }
 }
 
-/// Nodes with a member of an Enum behind them in brackets, at this level: a child for each member. `UnknownParameter`, or
-/// `BadType` where the children do not fit.
-pub fn chosen_below(
+/// The children of these names below each of some nodes: `UnknownParameter`, or `BadType` where they are not of one kind.
+pub fn children_alike(
     alloc: Global,
     tree: &ParamTree,
-    chosen: Chosen,
+    places: &[NodeId],
+    names: &[&[u8]],
+) -> Result<Children, FormulaKind>
+    ensures { Gives children_view (alike_below tree.now places.now (map (λ name. name.now) names.now)) result }
+{
+    let found = children_below(alloc, tree, places, names)?;
+    match kind_of_all(tree, found.as_slice()) {
+        Some(kind) => Ok(Children {
+            kind,
+            places: Rc::new(alloc, found)?,
+        }),
+        None => Err(FormulaKind::BadType),
+    }
+}
+
+/// These nodes, at this level, chosen by the members that choose so far and one more, of an Enum with so many.
+fn chosen_among(
+    alloc: Global,
+    children: &Children,
+    chosen: &Chosen,
     level: Level,
     member: Node,
-    names: &[&[u8]],
+    size: usize,
 ) -> Result<Thing, FormulaKind>
-    ensures { Gives thing (chosen_by tree.now (chosen_of chosen) level (node member) (map (λ name. name.now) names.now)) result }
+    ensures { Gives thing (among (children_view children.now) (chosen_of chosen.now) level (node member) size) result }
 {
-    let places = children_below(alloc, tree, chosen.places.as_slice(), names)?;
-    let mut indices = chosen.indices;
-    push_index(alloc, &mut indices, member, names.len())?;
+    let mut indices = copy_indices(alloc, chosen.indices.as_slice())?;
+    push_index(alloc, &mut indices, member, size)?;
     let below = Chosen {
         level,
         indices,
-        places,
-        moves: chosen.moves,
+        places: Rc::clone(&children.places)?,
+        moves: chosen.moves.shared()?,
     };
-    thing_chosen(alloc, tree, below)
+    thing_of_kind(alloc, children.kind, below)
+}
+
+/// Nodes with a member of an Enum with so many behind them in brackets, at this level: a child for each member, where
+/// these are what the members' names lead to.
+pub fn chosen_below(
+    alloc: Global,
+    children: &Children,
+    chosen: &Chosen,
+    level: Level,
+    member: Node,
+    size: usize,
+) -> Result<Thing, FormulaKind>
+    ensures { (ns : List TreeNode) (ts : List (List ℕ)) → alike_below ns (chosen_of chosen.now).places ts ≡ Ok (children_view children.now) → size ≡ length ts → Gives thing (chosen_by ns (chosen_of chosen.now) level (node member) ts) result }
+{
+    chosen_among(alloc, children, chosen, level, member, size)
 }

@@ -2,7 +2,6 @@ pub mod Backwards
 pub mod Cells
 pub mod Cuts
 pub mod Numerals
-pub mod Printed
 pub mod ReadBack
 pub mod Readings
 pub mod Worked

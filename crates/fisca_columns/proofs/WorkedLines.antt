@@ -2,7 +2,6 @@
 use Rattle.std.specs.Fmt.{decimal}
 use Rattle.std.proofs.Common.{◌≡◌, ℕ, ◌*◌, List, [], ◌∷◌, ◌++◌, codes, refl}
 use Rattle.std.specs.Prelude.{true, Some, None, Result, Ok, Err, if◌then◌else◌, ◌==◌}
-use Rattle.fisca_columns.specs.Shown.{shown}
 use Rattle.fisca_writer.specs.Row.{Row, Nothing, Line, Fault}
 use Rattle.fisca_inputs.specs.Entries.{key}
 use Rattle.fisca_model.specs.declared.value.Value.{Value}
@@ -46,10 +45,10 @@ columns = key 0 1 year ∷ key 1 0 year ∷ key 1 1 year ∷ []
 abbrev row : ℕ → Row ℕ
 row = column_row_in None None country persons answer columns
 
-a_bool : row 0 ≡ Line (((shown (codes "owns") ++ codes "\t") ++ ((shown (codes "Bob") ++ codes "\t") ++ period_text year)) ++ codes "\ttrue\n")
+a_bool : row 0 ≡ Line (((codes "owns" ++ codes "\t") ++ ((codes "Bob" ++ codes "\t") ++ period_text year)) ++ codes "\ttrue\n")
 a_bool = refl
 
-a_member : row 1 ≡ Line (((shown (codes "occupancy") ++ codes "\t") ++ ((shown (codes "Ann") ++ codes "\t") ++ period_text year)) ++ (codes "\t" ++ (shown (codes "owner") ++ codes "\n")))
+a_member : row 1 ≡ Line (((codes "occupancy" ++ codes "\t") ++ ((codes "Ann" ++ codes "\t") ++ period_text year)) ++ (codes "\t" ++ (codes "owner" ++ codes "\n")))
 a_member = refl
 
 no_value : row 2 ≡ Fault 7
@@ -63,7 +62,7 @@ no_column = refl
 abbrev led : ℕ → Row ℕ
 led = column_row_in None (Some 3) country persons answer columns
 
-a_bool_behind_a_number : led 0 ≡ Line ((decimal 3 ++ codes "\t") ++ (((shown (codes "owns") ++ codes "\t") ++ ((shown (codes "Bob") ++ codes "\t") ++ period_text year)) ++ codes "\ttrue\n"))
+a_bool_behind_a_number : led 0 ≡ Line ((decimal 3 ++ codes "\t") ++ (((codes "owns" ++ codes "\t") ++ ((codes "Bob" ++ codes "\t") ++ period_text year)) ++ codes "\ttrue\n"))
 a_bool_behind_a_number = refl
 
 no_value_behind_a_number : led 2 ≡ Fault 7

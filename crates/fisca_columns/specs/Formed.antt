@@ -2,7 +2,6 @@
 use Rattle.std.specs.Prelude.{ℕ, List, [], ◌∷◌, ◌++◌, slice_get, Option, Some, None, Result, Ok, Err}
 use Rattle.std.specs.Fmt.{decimal}
 use Rattle.fisca_columns.specs.Lines.{line_of, tab}
-use Rattle.fisca_columns.specs.Shown.{shown}
 use Rattle.fisca_columns.specs.Steps.Texts.{name_of, member_of}
 use Rattle.fisca_columns.specs.Texts.{value_text}
 use Rattle.fisca_forms.specs.Forms.{Cell, Places, bare, quoted}
@@ -34,7 +33,7 @@ lead_text (Some number) = decimal number ++ tab
 abbrev pub formed_line_of : Form → Option ℕ → Tables → List EntityMembers → Key → Value → List ℕ
 formed_line_of form lead c ms k v =
     let x = slice_get c.variables k.variable in
-    line_in form (lead_cells lead ++ (quoted (shown (name_of x)) ∷ quoted (shown (member_of ms k.member x)) ∷ quoted (period_text k.period) ∷ value_cell c form.decimals k.variable v ∷ []))
+    line_in form (lead_cells lead ++ (quoted (name_of x) ∷ quoted (member_of ms k.member x) ∷ quoted (period_text k.period) ∷ value_cell c form.decimals k.variable v ∷ []))
 
 -- the plain line behind the number that leads it, or the line in the form that is given
 abbrev pub line_of_in : Option Form → Option ℕ → Tables → List EntityMembers → Key → Value → List ℕ

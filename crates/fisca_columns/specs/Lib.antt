@@ -7,7 +7,6 @@ pub mod Formed
 pub mod Lines
 pub mod Named
 pub mod Outcomes
-pub mod Shown
 pub mod Steps
 pub mod Texts
 pub mod Views

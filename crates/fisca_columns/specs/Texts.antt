@@ -7,12 +7,11 @@ use Rattle.fisca_groups.specs.declared.entity_members.EntityMembers.{EntityMembe
 use Rattle.fisca_num.specs.Text.{text_of as number_text}
 use Rattle.fisca_time.specs.PeriodText.{text_of as period_text}
 use Rattle.fisca_model.specs.Tables.{Tables}
-use Rattle.fisca_columns.specs.Shown.{shown}
 use Rattle.fisca_columns.specs.Steps.Texts.{name_of, member_of, choice_at}
 
 -- a name, and a text behind it
 abbrev pub named : List ℕ → List ℕ → List ℕ
-named between name = shown name ++ between
+named between name = name ++ between
 
 abbrev pub key_by : List ℕ → List ℕ → List ℕ → List ℕ → List ℕ
 key_by between name member period = named between name ++ (named between member ++ period)
@@ -29,4 +28,4 @@ bool_text b = if b then codes "true" else codes "false"
 abbrev pub value_text : Tables → ℕ → Value → List ℕ
 value_text c place (v.Number n) = number_text n
 value_text c place (v.Bool b) = bool_text b
-value_text c place (v.Member i) = shown (choice_at c (slice_get c.variables place) i)
+value_text c place (v.Member i) = choice_at c (slice_get c.variables place) i

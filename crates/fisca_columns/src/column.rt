@@ -76,7 +76,7 @@ fn key_of(
 ) -> Option<Key>
     ensures { result ≡ spec.key_of_parts (known tables.now) (situation_view situation.now).members default (parts_view parts.entry) }
 {
-    let (variable, declared) = tables.variable_named(parts.name.as_bytes())?;
+    let (variable, declared) = tables.variable_named(parts.name)?;
     if !is_usable(declared.value_type) {
         return None;
     }

@@ -7,7 +7,7 @@ ghost use Rattle.fisca_forms.specs.LineForms.{before_cell, cells_from, name_at};
 ghost use Rattle.fisca_situations.specs.Steps.Views.{situation as situation_view};
 ghost use Rattle.fisca_symbols.specs.Known.{tables as known};
 
-use crate::pieces::{write_name, write_period};
+use crate::pieces::write_period;
 use crate::texts::names_of;
 use crate::write_value;
 use fisca_forms::LineForm;
@@ -19,7 +19,6 @@ use std::alloc::{AllocError, Global};
 /// Appends the cell of a value of the variable at a place, as the cell at a place of the line: a number exact or to so many places, and in JSON as
 /// it stands where it is a numeral, as `true` and `false` are. The room is for its text.
 pub fn write_value_cell(
-    alloc: Global,
     tables: &Tables<'_>,
     form: &LineForm,
     place: usize,
@@ -34,7 +33,7 @@ pub fn write_value_cell(
         Value::Number(number) => form.write_number_cell(place, number, room, line),
         Value::Bool(_) | Value::Member(_) => {
             room.clear();
-            write_value(alloc, tables, variable, value, room)?;
+            write_value(tables, variable, value, room)?;
             let is_bare = matches!(&value, Value::Bool(_));
             form.write_cell(place, is_bare, room.as_str(), line)
         }
@@ -57,16 +56,12 @@ pub(crate) fn write_formed_line(
     let (name, member) = names_of(tables, situation, key);
     let mut room = String::new(alloc);
     let first = write_lead_cell(form, lead, line)?;
-    write_name(alloc, name, &mut room)?;
-    form.write_cell(first, false, room.as_str(), line)?;
-    room.clear();
-    write_name(alloc, member, &mut room)?;
-    form.write_cell(first + 1, false, room.as_str(), line)?;
-    room.clear();
+    form.write_cell(first, false, name, line)?;
+    form.write_cell(first + 1, false, member, line)?;
     write_period(alloc, key.period, &mut room)?;
     form.write_cell(first + 2, false, room.as_str(), line)?;
     let (at, variable) = (first + 3, key.variable);
-    write_value_cell(alloc, tables, form, at, variable, value, &mut room, line)?;
+    write_value_cell(tables, form, at, variable, value, &mut room, line)?;
     form.write_end(line)
 }
 

@@ -63,7 +63,7 @@ fn write_line(
 {
     write_key(alloc, tables, situation, key, "\t", line)?;
     line.push('\t')?;
-    write_value(alloc, tables, key.variable, value, line)?;
+    write_value(tables, key.variable, value, line)?;
     line.push('\n')
 }
 

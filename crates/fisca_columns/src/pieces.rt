@@ -2,24 +2,9 @@
 
 ghost use Rattle.std.specs.Prelude.{◌≡◌, ◌++◌, OnOk, string_bytes};
 ghost use Rattle.fisca_time.specs.PeriodText.{text_of as period_text};
-ghost use Rattle.fisca_columns.specs.Shown.{shown};
 
 use fisca_time::Period;
 use std::alloc::{AllocError, Global};
-
-/// Appends a name.
-#[tactic(auto, using(crate::proofs::Printed::stays))]
-pub(crate) fn write_name(alloc: Global, name: &[u8], line: &mut String) -> Result<(), AllocError>
-    ensures { OnOk result (string_bytes line.new ≡ string_bytes line.old ++ shown name.now) }
-{
-    match str::from_utf8(name) {
-        Ok(text) => line.push_str(text),
-        Err(_) => {
-            let text = String::from_utf8_lossy(alloc, name)?;
-            line.push_str(text.as_str())
-        }
-    }
-}
 
 /// Appends a period.
 pub(crate) fn write_period(

@@ -8,7 +8,7 @@ ghost use Rattle.fisca_columns.specs.Texts as spec;
 ghost use Rattle.fisca_columns.specs.Steps.Texts as steps;
 ghost use Rattle.fisca_situations.specs.Steps.Views.{situation as situation_view};
 
-use crate::pieces::{write_name, write_period};
+use crate::pieces::write_period;
 use fisca_model::{Key, Value};
 use fisca_situations::Situation;
 use fisca_symbols::{DeclaredType, Tables, Variable};
@@ -16,22 +16,22 @@ use fisca_time::Period;
 use std::alloc::{AllocError, Global};
 
 /// The name of a variable, if there is one.
-fn name_of<'v>(variable: Option<&'v Variable<'_>>) -> &'v [u8]
+fn name_of<'v>(variable: Option<&'v Variable<'_>>) -> &'v str
     ensures { result.now ≡ steps.name_of (option_map (λ v. known_variable v.now) variable.entry) }
 {
     match variable {
-        Some(variable) => variable.name.as_bytes(),
-        None => b"",
+        Some(variable) => variable.name.as_str(),
+        None => "",
     }
 }
 
 /// The name of a member of the variable's entity, if there is one.
-fn member_of<'s>(situation: &'s Situation, member: u32, variable: Option<&Variable<'_>>) -> &'s [u8]
+fn member_of<'s>(situation: &'s Situation, member: u32, variable: Option<&Variable<'_>>) -> &'s str
     ensures { result.now ≡ steps.member_of (situation_view situation.now).members member (option_map (λ v. known_variable v.now) variable.entry) }
 {
     match variable {
-        Some(variable) => situation.name(variable.entity, member).unwrap_or(b""),
-        None => b"",
+        Some(variable) => situation.name(variable.entity, member).unwrap_or(""),
+        None => "",
     }
 }
 
@@ -40,7 +40,7 @@ pub(crate) fn names_of<'t>(
     tables: &'t Tables<'_>,
     situation: &'t Situation,
     key: &Key,
-) -> (&'t [u8], &'t [u8])
+) -> (&'t str, &'t str)
     ensures variable { result.0.now ≡ steps.name_of (slice_get (known tables.now).variables key.now.variable) }
     ensures member { result.1.now ≡ steps.member_of (situation_view situation.now).members key.now.member (slice_get (known tables.now).variables key.now.variable) }
 {
@@ -51,31 +51,26 @@ pub(crate) fn names_of<'t>(
 }
 
 /// Appends a name, and a text behind it.
-fn write_named(
-    alloc: Global,
-    name: &[u8],
-    between: &str,
-    line: &mut String,
-) -> Result<(), AllocError>
+fn write_named(name: &str, between: &str, line: &mut String) -> Result<(), AllocError>
     ensures { OnOk result (string_bytes line.new ≡ string_bytes line.old ++ spec.named between.now name.now) }
 {
-    write_name(alloc, name, line)?;
+    line.push_str(name)?;
     line.push_str(between)
 }
 
 /// Appends the names of a variable and of a member, and a period, with a text between them.
 fn write_parts(
     alloc: Global,
-    name: &[u8],
-    member: &[u8],
+    name: &str,
+    member: &str,
     period: Period,
     between: &str,
     line: &mut String,
 ) -> Result<(), AllocError>
     ensures { OnOk result (string_bytes line.new ≡ string_bytes line.old ++ spec.key_by between.now name.now member.now (period_text period)) }
 {
-    write_named(alloc, name, between, line)?;
-    write_named(alloc, member, between, line)?;
+    write_named(name, between, line)?;
+    write_named(member, between, line)?;
     write_period(alloc, period, line)
 }
 
@@ -111,35 +106,34 @@ pub fn key_text(
 }
 
 /// The name of the member at a place of the variable's Enum, if there is one.
-fn choice_of<'t>(tables: &'t Tables<'_>, value_type: DeclaredType, place: usize) -> &'t [u8]
+fn choice_of<'t>(tables: &'t Tables<'_>, value_type: DeclaredType, place: usize) -> &'t str
     ensures { result.now ≡ steps.choice_of (known tables.now) (known_type value_type) place }
 {
     let DeclaredType::Enum(choices) = value_type else {
-        return b"";
+        return "";
     };
     let Some(choices) = tables.enums.as_slice().get(choices) else {
-        return b"";
+        return "";
     };
     match choices.members.as_slice().get(place) {
-        Some(member) => member.0.as_bytes(),
-        None => b"",
+        Some(member) => member.0.as_str(),
+        None => "",
     }
 }
 
 /// The same of the variable at a place.
-fn choice_at<'t>(tables: &'t Tables<'_>, variable: usize, place: usize) -> &'t [u8]
+pub(crate) fn choice_at<'t>(tables: &'t Tables<'_>, variable: usize, place: usize) -> &'t str
     ensures { result.now ≡ steps.choice_at (known tables.now) (slice_get (known tables.now).variables variable) place }
 {
     match tables.variables.as_slice().get(variable) {
         Some(variable) => choice_of(tables, variable.value_type, place),
-        None => b"",
+        None => "",
     }
 }
 
 /// Appends the text of a value of the variable at a place: that of a number, `true` or `false`, or the name of the member of its Enum,
 /// where there is one.
 pub fn write_value(
-    alloc: Global,
     tables: &Tables<'_>,
     variable: usize,
     value: Value,
@@ -151,7 +145,7 @@ pub fn write_value(
         Value::Number(number) => number.write_text(line),
         Value::Bool(true) => line.push_str("true"),
         Value::Bool(false) => line.push_str("false"),
-        Value::Member(place) => write_name(alloc, choice_at(tables, variable, place), line),
+        Value::Member(place) => line.push_str(choice_at(tables, variable, place)),
     }
 }
 
@@ -165,6 +159,6 @@ pub fn value_text(
     ensures { IfOk result (λ text. string_bytes text ≡ spec.value_text (known tables.now) variable value) }
 {
     let mut line = String::new(alloc);
-    write_value(alloc, tables, variable, value, &mut line)?;
+    write_value(tables, variable, value, &mut line)?;
     Ok(line)
 }

@@ -14,7 +14,7 @@ use Rattle.fisca_writer.specs.Run.{IsBrokenOff, IsRun, texts}
 use Rattle.fisca_writer.specs.declared.fault.RunEnd.{RunEnd}
 use Rattle.fisca_writer.specs.declared.fault.RunFault.{RunFault}
 use Rattle.fisca_writer.specs.declared.fault.RunFault.TheVariants as run
-use Rattle.fisca_commands.specs.Forms.{header_of, line_form_of}
+use Rattle.fisca_grid_run.specs.Forms.{header_of, line_form_of}
 use Rattle.fisca_commands.specs.Listed.{AreListed, IsListedIn}
 use Rattle.fisca_command_line.specs.declared.options.TableForm.{TableForm}
 

@@ -19,7 +19,7 @@ use Rattle.fisca_writer.specs.declared.fault.RunEnd.{RunEnd}
 use Rattle.fisca_writer.specs.declared.fault.RunFault.{RunFault}
 use Rattle.fisca_writer.specs.declared.fault.RunFault.TheVariants as run_fault
 use Rattle.fisca_writer.specs.declared.limit.Limit.{Limit}
-use Rattle.fisca_commands.specs.Forms.{IsBegunTable, IsHeaderRefused, asked_names, line_form_of, shown_form}
+use Rattle.fisca_grid_run.specs.Forms.{IsBegunTable, IsHeaderRefused, asked_names, line_form_of, shown_form}
 use Rattle.fisca_command_line.specs.declared.options.RunOptions.{RunOptions}
 use Rattle.std.specs.declared.convert.Infallible.{Infallible}
 use Rattle.fisca_rule_files.specs.declared.refusal.Refusal.{Refusal}

@@ -25,10 +25,10 @@ use Rattle.fisca_symbols.specs.Known.{tables as known}
 use Rattle.fisca_yaml.specs.Grouping.{document}
 use Rattle.fisca_yaml.specs.Node.{Node}
 use Rattle.fisca_rule_files.specs.RuleFiles.{IsAccepted, RefusesFiles}
-use Rattle.fisca_commands.specs.Forms.{IsHeaderRefused, header_of, line_form_of, shown_form}
-use Rattle.fisca_commands.specs.Unanswered.{IsUnanswered}
+use Rattle.fisca_grid_run.specs.Forms.{IsHeaderRefused, header_of, line_form_of, shown_form}
+use Rattle.fisca_grid_run.specs.Unanswered.{IsUnanswered}
 use Rattle.fisca_command_line.specs.declared.options.TableForm.{TableForm}
-use Rattle.fisca_commands.specs.Yaml.{IsYamlRefused}
+use Rattle.fisca_grid_run.specs.Yaml.{IsYamlRefused}
 use Rattle.fisca_rule_files.specs.declared.refusal.Refusal.{Refusal}
 use Rattle.fisca_rule_files.specs.declared.refusal.Refusal.TheVariants.{RunFile, Eval, Write, Memory}
 use Rattle.fisca_rule_files.specs.declared.refusal.Unanswered.{Unanswered}

@@ -16,7 +16,7 @@ use Rattle.fisca_writer.specs.Run.{AppendsPart}
 use Rattle.fisca_writer.specs.Sink.{CountsFailure}
 use Rattle.fisca_commands.specs.Calc.{Calculation, IsAsked, IsCalculated, RefusesText, calc_names}
 use Rattle.fisca_rule_files.specs.Ending.{IsTold, IsUnreadTold, TaskOutcome, told_of}
-use Rattle.fisca_commands.specs.Forms.{IsHeaderRefused, header_of, line_form_of, shown_form}
+use Rattle.fisca_grid_run.specs.Forms.{IsHeaderRefused, header_of, line_form_of, shown_form}
 use Rattle.fisca_commands.specs.declared.many_files.LineFault.{LineFault}
 use Rattle.fisca_commands.specs.declared.many_files.LineFault.TheVariants as fault
 use Rattle.fisca_commands.specs.declared.many_files.LineStop.{LineStop}

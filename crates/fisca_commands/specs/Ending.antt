@@ -14,10 +14,10 @@ use Rattle.fisca_commands.specs.AxesRun.{IsAxesAnswer}
 use Rattle.fisca_commands.specs.Calc.{IsCalc}
 use Rattle.fisca_commands.specs.Explain.{IsExplain}
 use Rattle.fisca_rule_files.specs.Check.{IsCheck}
-use Rattle.fisca_commands.specs.Forms.{is_table}
+use Rattle.fisca_grid_run.specs.Forms.{is_table}
 use Rattle.fisca_writer.specs.LastLine.{last_line}
 use Rattle.fisca_commands.specs.Listed.{IsList}
-use Rattle.fisca_commands.specs.Run.{IsCounted, IsRunAnswer}
+use Rattle.fisca_grid_run.specs.Run.{IsCounted, IsRunAnswer}
 use Rattle.fisca_commands.specs.Size.{IsSize}
 use Rattle.fisca_command_line.specs.declared.options.RunOptions.{RunOptions}
 use Rattle.fisca_forms.specs.declared.form.Format.{Format}

@@ -12,7 +12,7 @@ use Rattle.fisca_rule_files.specs.Steps.Modules.{modules_in}
 use Rattle.fisca_rule_files.specs.declared.refusal.Refusal.{Refusal}
 use Rattle.fisca_rule_files.specs.declared.refusal.Refusal.TheVariants.{Run}
 use Rattle.fisca_commands.specs.Calc.{WritesFirst}
-use Rattle.fisca_commands.specs.Forms.{IsHeaderRefused, header_of, line_form_of}
+use Rattle.fisca_grid_run.specs.Forms.{IsHeaderRefused, header_of, line_form_of}
 use Rattle.fisca_command_line.specs.declared.options.TableForm.{TableForm}
 
 -- what is answered of these lines, and what a sink that held `old` then holds: all are written; or the sink failed in one of them; or memory was

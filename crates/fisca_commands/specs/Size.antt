@@ -10,8 +10,8 @@ use Rattle.fisca_run.specs.Counted.{size_line}
 use Rattle.fisca_run_file.specs.RunFiles.{RunFile}
 use Rattle.fisca_rule_files.specs.RuleFiles.{IsAccepted}
 use Rattle.fisca_rules.specs.Views.{rule_set}
-use Rattle.fisca_commands.specs.Run.{RefusesRunning, SaysRun}
-use Rattle.fisca_commands.specs.Runs.{positions}
+use Rattle.fisca_grid_run.specs.Run.{RefusesRunning, SaysRun}
+use Rattle.fisca_grid_run.specs.Runs.{positions}
 
 -- the text says a run file with so many positions under the rule set
 abbrev pub IsSizeIn : RuleSet → List ℕ → ℕ → Type 0

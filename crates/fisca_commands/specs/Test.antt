@@ -24,7 +24,7 @@ use Rattle.fisca_test_file.specs.declared.fault.TestFault.{TestFault}
 use Rattle.fisca_test_file.specs.declared.fault.TestKind.TheVariants as kind
 use Rattle.fisca_yaml.specs.Grouping.{document}
 use Rattle.fisca_yaml.specs.Node.{Node}
-use Rattle.fisca_commands.specs.Yaml.{IsYamlRefused}
+use Rattle.fisca_grid_run.specs.Yaml.{IsYamlRefused}
 
 -- a rule set, as it stands in memory, and the tests that a file says under it
 pub record Testing : Type 0 where

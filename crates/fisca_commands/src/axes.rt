@@ -7,16 +7,16 @@ ghost use Rattle.fisca_grid.specs.Steps.NamedAxes.{name_of, own_groups};
 ghost use Rattle.fisca_writer.specs.Run.{IsRun, is_write as is_write_of_run};
 ghost use Rattle.fisca_writer.specs.Sink.{CountsFailure};
 ghost use Rattle.fisca_commands.specs.AxesRun.{axes_of_words, axes_row_in, axes_within_limits, named_fault, axes_names, optional_filter, IsAxesAnswer, IsAxesRun};
-ghost use Rattle.fisca_commands.specs.Forms.{asked_names, shown_form};
+ghost use Rattle.fisca_grid_run.specs.Forms.{asked_names, shown_form};
 ghost use Rattle.fisca_rule_files.specs.Refusal.{is_write};
 
-use super::forms::{begin_table, is_asked};
 use fisca_command_line::{RunOptions, TableForm};
 use fisca_forms::LineForm;
 use fisca_grid::{
     Axes, AxesFault, AxisRows, AxisSpec, Filter, axis_names, has_twins, own_groups, read_axes,
     read_filter,
 };
+use fisca_grid_run::{begin_table, is_asked};
 use fisca_rule_files::Refusal;
 use fisca_writer::{Limit, RowSink, RunEnd, RunFault, write_lines};
 use std::alloc::{AllocError, Global};

@@ -1,25 +1,21 @@
 //! `fisca calc`: the values of the columns of a file.
 
-ghost use Rattle.std.specs.Prelude.{◌≡◌, Some, IfOk, IfErr, map, option_map, string_bytes};
+ghost use Rattle.std.specs.Prelude.{◌≡◌, IfOk, IfErr, map, option_map, string_bytes};
 ghost use Rattle.fisca_columns.specs.Views.{calc};
 ghost use Rattle.fisca_simulation.specs.Told.{IsReady};
 ghost use Rattle.fisca_writer.specs.Sink.{CountsFailure};
 ghost use Rattle.fisca_situations.specs.Steps.Views.{situation as situation_view};
-ghost use Rattle.fisca_yaml.specs.Grouping.{document};
-ghost use Rattle.fisca_yaml.specs.Views.{node};
 ghost use Rattle.fisca_commands.specs.Calc.{IsAsked, IsCalc, IsCalculated, IsKeyTold, RefusesText, calc_names, simulation_of};
-ghost use Rattle.fisca_commands.specs.Forms.{shown_form};
-ghost use Rattle.fisca_commands.specs.Yaml.{IsYamlRefused};
+ghost use Rattle.fisca_grid_run.specs.Forms.{shown_form};
 ghost use Rattle.fisca_rule_files.specs.Refusal.{is_write};
 ghost use Rattle.fisca_run.specs.Cells.{named_first};
 
-use super::forms::begin_table;
-use super::unanswered::unanswered;
 use crate::calc_inputs_fit;
 use fisca_columns::{CalcFile, RunFileKind, write_columns};
 use fisca_command_line::TableForm;
 use fisca_evaluator::{Evaluator, IndexRecall};
 use fisca_forms::LineForm;
+use fisca_grid_run::{begin_table, read_tree, unanswered};
 use fisca_model::EvalFault;
 use fisca_params::SourceFile;
 use fisca_rule_files::{Refusal, rules_of};
@@ -28,20 +24,7 @@ use fisca_run::first_name;
 use fisca_simulation::rule_sets_are_safe;
 use fisca_situations::Situation;
 use fisca_writer::{RowSink, RunFault};
-use fisca_yaml::{Tree, YamlKind, read};
 use std::alloc::{AllocError, Global};
-
-/// The tree of a text.
-pub(crate) fn read_tree(alloc: Global, text: &str) -> Result<Tree<'_>, Refusal>
-    ensures ok { IfOk result (λ tree. document text.now ≡ Some (node tree)) }
-    ensures err { IfErr result (IsYamlRefused text.now) }
-{
-    match read(alloc, text) {
-        Ok(tree) => Ok(tree),
-        Err(fault) if fault.kind == YamlKind::Memory => Err(Refusal::Memory),
-        Err(fault) => Err(Refusal::Yaml(fault)),
-    }
-}
 
 /// What a text asks for under a rule set.
 pub(crate) fn read_file(alloc: Global, rules: &RuleSet<'_>, text: &str) -> Result<CalcFile, Refusal>

@@ -15,11 +15,12 @@ ghost use Rattle.fisca_situations.specs.Steps.Views.{situation as situation_view
 ghost use Rattle.fisca_writer.specs.Sink.{CountsFailure};
 ghost use Rattle.fisca_yaml.specs.Views.{node};
 
-use super::calc::{read_file, read_tree, tell};
+use super::calc::{read_file, tell};
 use crate::calc_inputs_fit;
 use fisca_columns::{CalcFile, default_in, read_column};
 use fisca_explain::{ExplainFault, Explained, RuleFiles, explain_columns, explain_names};
 use fisca_forms::{Format, LineForm};
+use fisca_grid_run::read_tree;
 use fisca_model::Key;
 use fisca_params::SourceFile;
 use fisca_rule_files::{Refusal, modules_of, rules_of};

@@ -7,9 +7,9 @@ ghost use Rattle.fisca_rule_files.specs.Refusal.{is_write};
 ghost use Rattle.fisca_rules.specs.Views.{rule_set};
 ghost use Rattle.fisca_writer.specs.Sink.{CountsFailure};
 
-use super::forms::begin_table;
 use fisca_command_line::TableForm;
 use fisca_forms::LineForm;
+use fisca_grid_run::begin_table;
 use fisca_params::SourceFile;
 use fisca_rule_files::{
     Refusal, each_variable_has_its_line, list_names, modules_of, rules_of, write_listing,

@@ -3,17 +3,17 @@
 ghost use Rattle.std.specs.Prelude.{◌≡◌, ◌++◌, ℕ, IfOk, IfErr, string_bytes};
 ghost use Rattle.std.specs.Io.KnownBytes.{Appends};
 ghost use Rattle.fisca_commands.specs.CalcLines.{AreWorkedOut, IsCalcLines, IsEndedBy, IsFile, IsHanded, line_names, line_told, streams_of};
-ghost use Rattle.fisca_commands.specs.Forms.{IsHeaderRefused, header_of, line_form_of, shown_form};
+ghost use Rattle.fisca_grid_run.specs.Forms.{IsHeaderRefused, header_of, line_form_of, shown_form};
 ghost use Rattle.fisca_commands.specs.Steps.CalcLines.{AreFew, AreReady, IsLineDone, IsNextDone, IsTelling, IsTextWritten, stop_of};
 ghost use Rattle.fisca_rule_files.specs.Refusal.{is_write, key_of, reason_of, status_of};
 ghost use Rattle.fisca_writer.specs.Sink.{CountsFailure};
 
 use super::calc::{calc_names, read_file, write_values};
-use super::forms::begin_table;
 use crate::calc_inputs_fit;
 use fisca_command_line::TableForm;
 use fisca_folder::{LONGEST, ToldPath, write_shown};
 use fisca_forms::LineForm;
+use fisca_grid_run::begin_table;
 use fisca_params::SourceFile;
 use fisca_rule_files::{Ending, Refusal, rules_of};
 use fisca_rules::RuleSet;

@@ -2,12 +2,11 @@
 
 ghost use Rattle.std.specs.Prelude.{IfOk, IfErr};
 ghost use Rattle.fisca_writer.specs.Sink.{CountsFailure};
-ghost use Rattle.fisca_commands.specs.Run.{RefusesRunText};
+ghost use Rattle.fisca_grid_run.specs.Run.{RefusesRunText};
 ghost use Rattle.fisca_commands.specs.Size.{IsSize, IsSizeIn};
 ghost use Rattle.fisca_rule_files.specs.Refusal.{is_write};
 
-use super::calc::read_tree;
-use super::run::read_run;
+use fisca_grid_run::{read_run, read_tree};
 use fisca_params::SourceFile;
 use fisca_rule_files::{Refusal, rules_of};
 use fisca_rules::RuleSet;

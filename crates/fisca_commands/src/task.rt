@@ -3,21 +3,20 @@
 ghost use Rattle.std.specs.Prelude.{◌≡◌, [], ◌==◌, ◌&&◌, is_ok, map, option_map, string_bytes};
 ghost use Rattle.fisca_writer.specs.Sink.{CountsFailure};
 ghost use Rattle.fisca_commands.specs.Ending.{IsAnswered, IsAxesEnding, IsCalcEnding, IsCheckEnding, IsExplainEnding, IsGridEnding, IsJudged, IsListEnding, IsRunEnding, IsSizeEnding, IsTaskEnding, IsTestEnding};
-ghost use Rattle.fisca_commands.specs.Ends.{end_of};
-ghost use Rattle.fisca_commands.specs.Forms.{is_table};
+ghost use Rattle.fisca_grid_run.specs.Ends.{end_of};
+ghost use Rattle.fisca_grid_run.specs.Forms.{is_table};
 ghost use Rattle.fisca_rule_files.specs.Refusal.{paths_of};
 
 use super::axes::axes_words;
 use super::calc::calc_rules;
 use super::explain::{ExplainOptions, explain_rules};
-use super::forms::is_table;
 use super::list::list_rules;
-use super::run::run_rules;
 use super::size::size_rules;
 use super::test::test_rules;
 use fisca_command_line::{RunOptions, TableForm, Task};
 use fisca_evaluator::Counts;
 use fisca_folder::ToldPath;
+use fisca_grid_run::{is_table, run_rules};
 use fisca_params::SourceFile;
 use fisca_rule_files::{Ending, Refusal, check_rules};
 use fisca_test_file::Verdict;

@@ -8,8 +8,8 @@ ghost use Rattle.fisca_writer.specs.Sink.{CountsFailure};
 ghost use Rattle.fisca_rule_files.specs.Refusal.{is_write};
 ghost use Rattle.fisca_yaml.specs.Views.{node};
 
-use super::calc::read_tree;
 use fisca_evaluator::{Evaluator, IndexRecall};
+use fisca_grid_run::read_tree;
 use fisca_params::SourceFile;
 use fisca_rule_files::{Refusal, rules_of};
 use fisca_rules::RuleSet;

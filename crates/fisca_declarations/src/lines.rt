@@ -58,7 +58,7 @@ fn behind_attribute<'a>(
     }
     read_attribute(alloc, declared, types, said, name, &attribute.value)?;
     let Before { mut names, days } = before;
-    names.push(Slice::new(name))?;
+    names.push(Slice::new(attribute.name.as_str()))?;
     Ok(Before { names, days })
 }
 

@@ -13,7 +13,7 @@ use fisca_attributes::{Dotted, dotted_value};
 use fisca_symbols::{Choices, DefaultValue};
 
 /// The place of the first member of this name.
-fn member_named(choices: &Choices<'_>, name: &[u8]) -> Option<usize>
+fn member_named(choices: &Choices<'_>, name: &str) -> Option<usize>
     ensures { result ≡ place_in (λ m. bytes_eq m.0 name.now) choices.now.members }
 {
     choices.members.of_name(name)
@@ -24,7 +24,7 @@ fn member_place(choices: &Choices<'_>, dotted: &Dotted<'_>) -> Option<usize>
     ensures { result ≡ spec.member_place choices.now dotted.now }
 {
     if dotted.left.as_bytes() == choices.name.as_bytes() {
-        member_named(choices, dotted.right.as_bytes())
+        member_named(choices, dotted.right.as_str())
     } else {
         None
     }

@@ -14,7 +14,7 @@ use fisca_attributes::{TypeName, name_value, period_value, type_value, value_at}
 use fisca_time::Unit;
 
 /// The place of the first entity with this constant.
-fn entity_named(declared: &Declared<'_>, constant: &[u8]) -> Option<usize>
+fn entity_named(declared: &Declared<'_>, constant: &str) -> Option<usize>
     ensures { result ≡ spec.place_of_constant declared.now constant.now }
 {
     declared.constants.place_of(constant)
@@ -25,14 +25,14 @@ pub(crate) fn entity_value(declared: &Declared<'_>, value: &Expr<'_>) -> Result<
     ensures { result ≡ steps.entity_value declared.now (tree value.now) }
 {
     let name = name_value(value)?;
-    match entity_named(declared, name.as_bytes()) {
+    match entity_named(declared, name.as_str()) {
         Some(place) => Ok(place),
         None => Err(FormulaKind::UnknownName),
     }
 }
 
 /// The place of the first Enum of this name.
-fn enum_named(declared: &Declared<'_>, name: &[u8]) -> Option<usize>
+fn enum_named(declared: &Declared<'_>, name: &str) -> Option<usize>
     ensures { result ≡ spec.place_of_enum declared.now name.now }
 {
     declared.enums.of_name(name)
@@ -43,7 +43,7 @@ pub(crate) fn enum_value(declared: &Declared<'_>, value: &Expr<'_>) -> Result<us
     ensures { result ≡ steps.enum_value declared.now (tree value.now) }
 {
     let name = name_value(value)?;
-    match enum_named(declared, name.as_bytes()) {
+    match enum_named(declared, name.as_str()) {
         Some(place) => Ok(place),
         None => Err(FormulaKind::UnknownName),
     }

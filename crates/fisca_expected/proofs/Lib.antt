@@ -1,4 +1,5 @@
 pub mod Counts
+pub mod Names
 pub mod Places
 mod Kept
 mod Worked

@@ -29,7 +29,7 @@ fn entry_read(
 ) -> Result<Outputs, OutputFault>
     ensures { Tells (λ o. o) (spec.entry_read tables.now (situation_view situation.now).members default scope roles.now outputs entry.now.key entry.now.line (node entry.now.value)) result }
 {
-    if roles.of_name(entry.key.as_str().as_bytes()).is_some() {
+    if roles.of_name(entry.key.as_str()).is_some() {
         return Err(OutputFault::BadOutput { line: entry.line });
     }
     variable_at(tables, situation, default, scope, outputs, entry)

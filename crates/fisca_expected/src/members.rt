@@ -17,13 +17,12 @@ use crate::member_scope::MemberScope;
 use crate::outputs::Outputs;
 use fisca_members::{MemberNames, RoleTable, Section};
 use fisca_situations::Situation;
-use fisca_symbols::{Entity, Role, Tables};
+use fisca_symbols::{Entity, Roles, Tables};
 use fisca_time::Period;
 use fisca_yaml::{Entry, Tree};
-use std::alloc::Global;
 
 /// Whether the name at a place is this one.
-fn is_at(names: &MemberNames, place: usize, name: &[u8]) -> bool
+fn is_at(names: &MemberNames, place: usize, name: &str) -> bool
     ensures { (k : List ℕ) → slice_get names.now place ≡ Some k → result ≡ bytes_eq k name.now }
 {
     match names.get(place) {
@@ -33,7 +32,7 @@ fn is_at(names: &MemberNames, place: usize, name: &[u8]) -> bool
 }
 
 /// The first place of a name.
-fn place_among(names: &MemberNames, name: &[u8]) -> Option<u32>
+fn place_among(names: &MemberNames, name: &str) -> Option<u32>
     ensures { result ≡ place_in (λ k. bytes_eq k name.now) names.now }
 {
     for place in 0..names.len() {
@@ -45,11 +44,11 @@ fn place_among(names: &MemberNames, name: &[u8]) -> Option<u32>
 }
 
 /// The place of the first member of this name.
-fn member_named(situation: &Situation, entity: usize, name: &[u8]) -> Option<u32>
+fn member_named(situation: &Situation, entity: usize, name: &str) -> Option<u32>
     ensures { result ≡ spec.member_named (situation_view situation.now).members entity name.now }
 {
-    match situation.members.as_slice().get(entity) {
-        Some(members) => place_among(&members.names, name),
+    match situation.members.names(entity) {
+        Some(names) => place_among(names, name),
         None => None,
     }
 }
@@ -103,7 +102,7 @@ fn members_read(
 {
     let mut found = outputs;
     for entry in entries {
-        let member = member_named(situation, entity, entry.key.as_str().as_bytes());
+        let member = member_named(situation, entity, entry.key.as_str());
         found = member_read(
             tables,
             situation,
@@ -149,17 +148,16 @@ fn all_members(
 /// The outputs so far, and those of a section of an entity with these roles.
 #[tactic(auto, unfolding(crate::specs::Steps::Reading::section_by))]
 fn section_by(
-    alloc: Global,
     tables: &Tables<'_>,
     situation: &Situation,
     default: Option<Period>,
     outputs: Outputs,
     section: &Section<'_, '_>,
-    roles: &[Role<'_>],
+    roles: &Roles<'_>,
 ) -> Result<Outputs, OutputFault>
     ensures { Tells (λ o. o) (spec.section_by tables.now (situation_view situation.now).members default outputs (section_view section.now) (known_roles roles.now)) result }
 {
-    let table = RoleTable::new(alloc, roles)?;
+    let table = RoleTable::new(roles);
     let entity = section.named.entity;
     let line = section.line;
     let tree = section.value;
@@ -184,7 +182,6 @@ fn entity_at<'e, 'r>(entities: &'e [Entity<'r>], place: usize) -> Option<&'e Ent
 /// The outputs so far, and those of a section.
 #[tactic(auto, unfolding(crate::specs::Steps::Reading::section_read))]
 fn section_read(
-    alloc: Global,
     tables: &Tables<'_>,
     situation: &Situation,
     default: Option<Period>,
@@ -196,20 +193,11 @@ fn section_read(
     let Some(entity) = entity_at(tables.entities.as_slice(), section.named.entity) else {
         return Ok(outputs);
     };
-    section_by(
-        alloc,
-        tables,
-        situation,
-        default,
-        outputs,
-        section,
-        entity.roles.as_slice(),
-    )
+    section_by(tables, situation, default, outputs, section, &entity.roles)
 }
 
 /// The outputs so far, and those of sections from top to bottom.
 pub(crate) fn sections_read(
-    alloc: Global,
     tables: &Tables<'_>,
     situation: &Situation,
     default: &Option<Period>,
@@ -220,7 +208,7 @@ pub(crate) fn sections_read(
 {
     let mut found = outputs;
     for section in sections {
-        found = section_read(alloc, tables, situation, *default, found, section)?;
+        found = section_read(tables, situation, *default, found, section)?;
     }
     Ok(found)
 }

@@ -50,7 +50,7 @@ fn form_of<'t, 'a>(
     match tree {
         Tree::Null => Err(bad(line, tree)),
         Tree::Scalar { .. } | Tree::List(_) | Tree::Map(_) => {
-            let titles = titles_of(alloc, tables.entities.as_slice())?;
+            let titles = titles_of(&tables.entities);
             match input_of(alloc, &titles, line, tree) {
                 Ok(input) => Ok(input),
                 Err(fault) => Err(fault_of(fault)),
@@ -70,7 +70,7 @@ fn direct_read(
     ensures { Tells (λ o. o) (spec.entries_read tables.now (situation_view situation.now).members default MemberScope.All [] [] (entries_in (node tree.now))) result }
 {
     let none = Outputs::new(alloc);
-    let roles = RoleTable::new(alloc, &[])?;
+    let roles = RoleTable::none();
     match tree {
         Tree::Map(entries) => entries_read(
             tables,
@@ -100,14 +100,7 @@ fn outputs_in(
         Input::OnePerson(tree) => direct_read(alloc, tables, situation, default, tree),
         Input::Sections(sections) => {
             let none = Outputs::new(alloc);
-            sections_read(
-                alloc,
-                tables,
-                situation,
-                &default,
-                none,
-                sections.as_slice(),
-            )
+            sections_read(tables, situation, &default, none, sections.as_slice())
         }
     }
 }

@@ -12,7 +12,7 @@ fn is_name_of(tables: &Tables<'_>, variable: usize, tree: &Tree<'_>) -> bool
     ensures { result ≡ spec.is_name_of tables.now variable (node tree.now) }
 {
     match tree.as_text() {
-        Some(name) => match tables.variable_named(name.as_bytes()) {
+        Some(name) => match tables.variable_named(name) {
             Some((place, _)) => place == variable,
             None => false,
         },

@@ -124,7 +124,7 @@ fn whom_if_usable(
 }
 
 /// The place of the variable that a key names.
-fn place_of(tables: &Tables<'_>, key: &[u8]) -> Option<usize>
+fn place_of(tables: &Tables<'_>, key: &str) -> Option<usize>
     ensures { result ≡ spec.place_of tables.now key.now }
 {
     match tables.variable_named(key) {
@@ -175,7 +175,7 @@ pub(crate) fn variable_at(
 ) -> Result<Outputs, OutputFault>
     ensures { Tells (λ o. o) (spec.named_read tables.now (situation_view situation.now).members default scope outputs entry.now.line (node entry.now.value) (spec.place_of tables.now entry.now.key)) result }
 {
-    let place = place_of(tables, entry.key.as_str().as_bytes());
+    let place = place_of(tables, entry.key.as_str());
     named_read(
         tables,
         situation,

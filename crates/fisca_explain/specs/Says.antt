@@ -15,7 +15,7 @@ use Rattle.fisca_time.specs.PeriodText.{date_text, text_of as period_text}
 use Rattle.fisca_simulation.specs.declared.note.Reading.{Reading}
 use Rattle.fisca_explain.specs.Explained.{Entry, of_key, of_reading}
 use Rattle.fisca_explain.specs.LineTexts.{cells_text, text_of}
-use Rattle.fisca_rule_files.specs.Listing.{text_of as source_text}
+use Rattle.fisca_folder.specs.Shown.{shown}
 use Rattle.fisca_explain.specs.declared.line.Kind.TheVariants as kind
 use Rattle.fisca_explain.specs.declared.line.Line.{Line}
 use Rattle.fisca_explain.specs.declared.line.Source.TheVariants as source
@@ -38,8 +38,8 @@ HasAnswer n variable v l = AreAnswer n variable v l.fault.now (string_bytes l.va
 -- the line names the key
 abbrev pub NamesKey : Names → Key → Line → Type 0
 NamesKey n k l =
-    (string_bytes l.name ≡ source_text (name_of (slice_get n.tables.variables k.variable)))
-    × (string_bytes l.member ≡ source_text (member_of n.members k.member (slice_get n.tables.variables k.variable))) × (string_bytes l.period ≡ period_text k.period)
+    (string_bytes l.name ≡ shown (name_of (slice_get n.tables.variables k.variable)))
+    × (string_bytes l.member ≡ shown (member_of n.members k.member (slice_get n.tables.variables k.variable))) × (string_bytes l.period ≡ period_text k.period)
 
 -- a key that was explained above says so
 abbrev pub IfAbove : Reason → Line → Type 0

@@ -21,7 +21,7 @@ use fisca_columns::write_value;
 use fisca_declarations::Declaration;
 use fisca_folder::write_shown;
 use fisca_model::{EvalFault, Key, Value};
-use fisca_rule_files::{text_of, text_told, write_day, write_source};
+use fisca_rule_files::{text_of, text_told, write_day};
 use fisca_situations::Situation;
 use fisca_symbols::Tables;
 use fisca_time::{Instant, Period};
@@ -31,22 +31,22 @@ use std::alloc::AllocError;
 const VALUE_ROOM: usize = 16;
 
 /// The name of the variable at a place, and nothing where there is none.
-fn name_at<'t>(tables: &'t Tables<'_>, variable: usize) -> &'t [u8]
+fn name_at<'t>(tables: &'t Tables<'_>, variable: usize) -> &'t str
     ensures { result.now ≡ name_of (slice_get (known tables.now).variables variable) }
 {
     match tables.variables.as_slice().get(variable) {
-        Some(variable) => variable.name.as_bytes(),
-        None => b"",
+        Some(variable) => variable.name.as_str(),
+        None => "",
     }
 }
 
 /// The name of a key's member, and nothing where there is none.
-fn member_at<'s>(tables: &Tables<'_>, situation: &'s Situation, key: &Key) -> &'s [u8]
+fn member_at<'s>(tables: &Tables<'_>, situation: &'s Situation, key: &Key) -> &'s str
     ensures { result.now ≡ member_of (situation_view situation.now).members key.now.member (slice_get (known tables.now).variables key.now.variable) }
 {
     match tables.variables.as_slice().get(key.variable) {
-        Some(variable) => situation.name(variable.entity, key.member).unwrap_or(b""),
-        None => b"",
+        Some(variable) => situation.name(variable.entity, key.member).unwrap_or(""),
+        None => "",
     }
 }
 
@@ -86,7 +86,7 @@ fn put_told(
 {
     line.label = text_told(view.alloc, &declaration.label)?;
     match declaration.reference.as_slice().first() {
-        Some(reference) => write_source(view.alloc, reference.as_bytes(), &mut line.reference),
+        Some(reference) => write_shown(reference.as_str(), &mut line.reference),
         None => Ok(()),
     }
 }
@@ -194,13 +194,7 @@ fn value_text(view: &View<'_, '_, '_, '_>, key: &Key, value: Value) -> Result<St
     ensures { IfOk result (λ text. string_bytes text ≡ value_text (known view.now.rules.now.tables) key.now.variable value) }
 {
     let mut text = String::with_capacity(view.alloc, VALUE_ROOM)?;
-    write_value(
-        view.alloc,
-        &view.rules.tables,
-        key.variable,
-        value,
-        &mut text,
-    )?;
+    write_value(&view.rules.tables, key.variable, value, &mut text)?;
     Ok(text)
 }
 

@@ -66,24 +66,16 @@ fn dated_input(entries: &[Entry<'_>], unit: Unit, period: Period) -> Option<Stat
     found
 }
 
-/// The bytes of a name, as a key of a map.
-fn entry_named<'t, 'a>(tree: &'t Tree<'a>, name: &[u8]) -> Option<&'t Entry<'a>> {
-    match str::from_utf8(name) {
-        Ok(name) => tree.entry(name),
-        Err(_) => None,
-    }
-}
-
 /// The member of this name in a map of members: they stand in their order there, so it is looked for at its own place first.
-fn member_named<'t, 'a>(members: &'t Tree<'a>, member: u32, name: &[u8]) -> Option<&'t Entry<'a>> {
+fn member_named<'t, 'a>(members: &'t Tree<'a>, member: u32, name: &str) -> Option<&'t Entry<'a>> {
     if let Tree::Map(entries) = members {
         if let Some(entry) = entries.as_slice().get(member as usize) {
-            if entry.key.as_str().as_bytes() == name {
+            if entry.key.as_str() == name {
                 return Some(entry);
             }
         }
     }
-    entry_named(members, name)
+    members.entry(name)
 }
 
 /// What is stated of a member of an entity: in a map of the members under the plural, or of the only one under the key.
@@ -91,12 +83,12 @@ fn member_in<'t, 'a>(
     tree: &'t Tree<'a>,
     entity: &Entity<'_>,
     member: u32,
-    name: &[u8],
+    name: &str,
 ) -> Option<&'t Tree<'a>> {
-    if let Some(members) = entry_named(tree, entity.plural.as_bytes()) {
+    if let Some(members) = tree.entry(entity.plural.as_str()) {
         return Some(&member_named(&members.value, member, name)?.value);
     }
-    match entry_named(tree, entity.key.as_bytes()) {
+    match tree.entry(entity.key.as_str()) {
         Some(only) => Some(&only.value),
         None => Some(tree),
     }
@@ -132,7 +124,7 @@ impl<'t, 'a> StatedInputs<'t, 'a> {
         let entity = rules.entities().get(variable.entity)?;
         let name = situation.name(variable.entity, key.member)?;
         let member = member_in(self.tree, entity, key.member, name)?;
-        let entry = entry_named(member, variable.name.as_bytes())?;
+        let entry = member.entry(variable.name.as_str())?;
         self.input_at(entry, variable, key.period)
     }
 }

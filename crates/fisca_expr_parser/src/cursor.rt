@@ -17,7 +17,7 @@ use std::marker::Model;
 /// The tokens of a text that are left, seen as signs.
 #[derive(Drop)]
 pub struct Cursor<'a, 't> {
-    text: &'a [u8],
+    text: &'a str,
     rest: &'t [Token],
 }
 
@@ -33,7 +33,7 @@ impl<'a, 't> Model for Cursor<'a, 't> {
 
 impl<'a, 't> Cursor<'a, 't> {
     /// At the first of these tokens of a text.
-    pub fn new(text: &'a [u8], tokens: &'t [Token]) -> Cursor<'a, 't>
+    pub fn new(text: &'a str, tokens: &'t [Token]) -> Cursor<'a, 't>
         ensures { result ≡ signs text.now tokens.now }
     {
         Cursor { text, rest: tokens }

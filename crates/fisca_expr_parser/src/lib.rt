@@ -14,7 +14,7 @@ mod sign;
 mod words;
 
 pub use cursor::Cursor;
-pub use law::each_list_of_tokens_has_one_tree;
+pub use law::{each_list_of_tokens_has_one_tree, each_token_is_read_whole};
 pub use mode::{Mode, Place};
 pub use reader::{read_all, read_expression};
 pub use refusal::ParseRefusal;

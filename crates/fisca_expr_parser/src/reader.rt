@@ -359,7 +359,7 @@ pub fn read_expression<'a>(
     // Else the fault is the first one from the left, with its line.
     ensures told { IfErr result (λ f. f.kind ≢ FormulaKind.Memory → told mode limit text.now tokens.now ≡ Some f) }
 {
-    let mut cursor = Cursor::new(text.as_bytes(), tokens);
+    let mut cursor = Cursor::new(text, tokens);
     match read_all(alloc, &mut cursor, mode, limit) {
         Ok(expr) => Ok(expr),
         Err(refusal) => Err(placed(tokens, refusal)),

@@ -1,6 +1,6 @@
 //! Tokens without their places, as definitions see them.
 
-ghost use Rattle.std.specs.Prelude.{◌≡◌};
+ghost use Rattle.std.specs.Prelude.{◌≡◌, true, IsCharBoundary};
 ghost use Rattle.fisca_expr_parser.specs.Steps.Signs as spec;
 
 use fisca_ast::Slice;
@@ -19,18 +19,27 @@ pub enum Sign<'a> {
     Mark(Mark),
 }
 
-/// The piece of a text between two places, or nothing where there is none.
-fn piece(text: &[u8], start: usize, end: usize) -> &[u8]
+/// Whether a character of a text begins at a place, or the text ends there.
+#[tactic(auto, using(crate::proofs::Characters::begins_is))]
+fn begins_character(text: &str, at: usize) -> bool
+    ensures value { result ≡ spec.begins_character text.now at }
+    ensures boundary { result ≡ true → IsCharBoundary text.now at }
+{
+    text.is_char_boundary(at)
+}
+
+/// The piece of a text between two places, or nothing where they are none between its characters.
+fn piece(text: &str, start: usize, end: usize) -> &str
     ensures { result.now ≡ spec.piece text.now start end }
 {
-    if start > end || end > text.len() {
-        return &[];
+    if start <= end && begins_character(text, start) && begins_character(text, end) {
+        return &text[start..end];
     }
-    text.split_at(end).0.split_at(start).1
+    ""
 }
 
 /// What a token of a text is.
-pub(crate) fn sign_of<'a>(text: &'a [u8], token: &Token) -> Sign<'a>
+pub(crate) fn sign_of<'a>(text: &'a str, token: &Token) -> Sign<'a>
     ensures { result ≡ spec.sign_of text.now token.now }
 {
     let slice = Slice::new(piece(text, token.start as usize, token.end as usize));

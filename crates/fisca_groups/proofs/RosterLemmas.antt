@@ -1,11 +1,7 @@
 -- Groups without persons, and persons put into groups.
-use Rattle.std.proofs.Common.{◌≡◌, ◌≤◌, ◌<◌, ◌⊎◌, inl, inr, ⊎_elim, ◌∙◌, ℕ, zero, suc, ◌+◌, List, [], ◌∷◌, ◌++◌, append_assoc, arith, drop, drop-cons, get_or, length, slice_get, Bool, true, false, Option, refl, sym, subst, ap, add-one, if◌then◌else◌}
-use Rattle.std.proofs.lemmas.List.{append-nil}
-use Rattle.fisca_groups.specs.declared.entity_members.EntityMembers.{EntityMembers}
+use Rattle.std.proofs.Common.{◌≡◌, ◌≤◌, ◌<◌, ◌⊎◌, inl, inr, ⊎_elim, ◌∙◌, ℕ, zero, suc, ◌+◌, List, [], ◌∷◌, ◌++◌, append_assoc, arith, drop, drop-cons, get_or, length, Bool, true, false, Option, refl, ap, add-one, if◌then◌else◌}
 use Rattle.fisca_groups.specs.declared.home.Home.{Home}
-use Rattle.fisca_groups.specs.Grouped.{persons_of}
 use Rattle.fisca_groups.specs.Lookup.{holders_from, is_in}
-use Rattle.fisca_groups.specs.Rosters.{AreRosters, IsRoster}
 
 -- one more without persons
 pub none_more : (rows : List (List ℕ)) → ((g : ℕ) → get_or rows g [] ≡ []) → (g : ℕ) → get_or (rows ++ [] ∷ []) g [] ≡ []
@@ -38,29 +34,3 @@ past : (rows : List (List ℕ)) (g : ℕ) → length rows ≤ g → get_or rows 
 past [] g h = refl
 past (r ∷ rows) zero h = absurd (omega (arith, h))
 past (r ∷ rows) (suc g) h = past rows g (omega (arith, h))
-
--- the members at hand come first of those that are left
-pub roster_step : (all : List EntityMembers) (i : ℕ) (k : EntityMembers) (done new : List (List (List ℕ))) (r : List (List ℕ)) → i < length all → k ≡ get_or all i k
-    → IsRoster k.homes r → new ≡ done ++ r ∷ [] → ((rs : List (List (List ℕ))) → AreRosters (drop i all) rs → AreRosters all (done ++ rs))
-    → (rs : List (List (List ℕ))) → AreRosters (drop (i + 1) all) rs → AreRosters all (new ++ rs)
-roster_step all i k done new r below here is e h rs z =
-    rw (e, append_assoc done (r ∷ []) rs) (h (r ∷ rs) (subst (λ xs. AreRosters xs (r ∷ rs)) (sym (drop-cons all i k below ∙ ap (λ j. j ∷ drop (suc i) all) (sym here))) (is, rw add-one at z)))
-
-pub roster_end : (all : List EntityMembers) (i : ℕ) (done : List (List (List ℕ))) → length all ≤ i
-    → ((rs : List (List (List ℕ))) → AreRosters (drop i all) rs → AreRosters all (done ++ rs)) → AreRosters all done
-roster_end all i done h all_left = rw (append-nil done) at (all_left [] (subst (λ xs. AreRosters xs []) (sym (none_left all i h)) tt))
-  where
-    none_left : (xs : List EntityMembers) (i : ℕ) → length xs ≤ i → drop i xs ≡ []
-    none_left [] zero h = refl
-    none_left [] (suc i) h = refl
-    none_left (x ∷ xs) zero h = absurd (omega (arith, h))
-    none_left (x ∷ xs) (suc i) h = none_left xs i (omega (arith, h))
-
--- the persons of a group by the tables
-pub persons_at : (ks : List EntityMembers) (rosters : List (List (List ℕ))) (entity group : ℕ) → AreRosters ks rosters
-    → get_or (get_or rosters entity []) group [] ≡ persons_of group (slice_get ks entity)
-persons_at [] [] entity group h = refl
-persons_at [] (r ∷ rs) entity group h = absurd h
-persons_at (k ∷ ks) [] entity group h = absurd h
-persons_at (k ∷ ks) (r ∷ rs) zero group h = h.0 group
-persons_at (k ∷ ks) (r ∷ rs) (suc entity) group h = persons_at ks rs entity group h.1

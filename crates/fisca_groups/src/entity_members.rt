@@ -1,35 +1,35 @@
 //! The members of one entity.
 
-ghost use Rattle.std.specs.Prelude.{◌≡◌, ◌<◌, ◌≤◌, [], ◌∷◌, ◌++◌, length, map, slice_get, option_map, IfOk, OnOk};
+ghost use Rattle.std.specs.Prelude.{◌≡◌, ◌<◌, ◌≤◌, [], ◌∷◌, ◌++◌, length, map, slice_get, option_map, IfOk, OnOk, string_bytes};
 
 use crate::home::Homes;
 use std::alloc::{AllocError, Global};
 use std::marker::Model;
 
-/// Names of members in order, at most 1,000 of them, seen as a list.
+/// Names of members in order, which are UTF-8, at most 1,000 of them, seen as a list.
 #[derive(Drop)]
 pub struct MemberNames {
-    items: Vec<Vec<u8>>,
+    items: Vec<String>,
 }
 
 impl Model for MemberNames {
-    ghost use Rattle.std.specs.Prelude.{◌≤◌, ℕ, List, map, length};
+    ghost use Rattle.std.specs.Prelude.{◌≤◌, ℕ, List, map, length, string_bytes};
 
     ghost Value = { List (List ℕ) };
 
-    ghost view = { λ n. map (λ v. v.items) n.items.items };
+    ghost view = { λ n. map (λ s. string_bytes s) n.items.items };
 
     ghost invariant = { λ n. length n.items.items ≤ 1000 };
 }
 
 /// Copies of names.
-fn copies_of(alloc: Global, names: &[Vec<u8>]) -> Result<MemberNames, AllocError>
+fn copies_of(alloc: Global, names: &[String]) -> Result<MemberNames, AllocError>
     requires { length names.now ≤ 1000 }
-    ensures { IfOk result (λ n. n ≡ map (λ v. v.items) names.now) }
+    ensures { IfOk result (λ n. n ≡ map (λ s. string_bytes s) names.now) }
 {
     let mut copies = MemberNames::with_capacity(alloc, names.len())?;
     for name in names {
-        copies.push(alloc, name.as_slice())?;
+        copies.push(alloc, name.as_str())?;
     }
     Ok(copies)
 }
@@ -54,11 +54,11 @@ impl MemberNames {
     }
 
     /// One name more.
-    pub fn push(&mut self, alloc: Global, name: &[u8]) -> Result<(), AllocError>
+    pub fn push(&mut self, alloc: Global, name: &str) -> Result<(), AllocError>
         requires { length self.old < 1000 }
         ensures { OnOk result (self.new ≡ self.old ++ name.now ∷ []) }
     {
-        let copy = name.to_vec(alloc)?;
+        let copy = String::from_str(alloc, name)?;
         self.items.push(copy).map_err(AllocError::from)
     }
 
@@ -78,11 +78,11 @@ impl MemberNames {
     }
 
     /// The name of the member at a place.
-    pub fn get(&self, place: usize) -> Option<&[u8]>
+    pub fn get(&self, place: usize) -> Option<&str>
         ensures { option_map (λ n. n.now) result ≡ slice_get self.now place }
     {
         match self.items.as_slice().get(place) {
-            Some(name) => Some(name.as_slice()),
+            Some(name) => Some(name.as_str()),
             None => None,
         }
     }

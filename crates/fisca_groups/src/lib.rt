@@ -7,4 +7,4 @@ mod roster;
 
 pub use entity_members::{EntityMembers, MemberNames};
 pub use home::{Home, Homes};
-pub use roster::Rosters;
+pub use roster::Roster;

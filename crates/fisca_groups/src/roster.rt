@@ -2,9 +2,8 @@
 
 ghost use Rattle.std.specs.Prelude.{◌≡◌, ◌≤◌, ◌<◌, ℕ, [], ◌∷◌, ◌++◌, length, get_or, false, if◌then◌else◌, IfOk, OnOk};
 ghost use Rattle.fisca_groups.specs.Lookup.{holders_from, is_in};
-ghost use Rattle.fisca_groups.specs.Rosters.{AreRosters, IsRoster};
+ghost use Rattle.fisca_groups.specs.Rosters.{IsRoster};
 
-use crate::entity_members::EntityMembers;
 use crate::home::{Home, Homes};
 use std::alloc::{AllocError, Global};
 use std::cmp::max;
@@ -51,7 +50,7 @@ impl PersonList {
 
 /// The persons of each group of a kind, seen as a list of lists.
 #[derive(Drop)]
-struct Roster {
+pub struct Roster {
     rows: Vec<PersonList>,
 }
 
@@ -118,7 +117,7 @@ fn count_with(count: usize, home: &Option<Home>) -> usize
 impl Roster {
     /// The persons of each group, by where persons belong.
     #[tactic(auto, using(crate::proofs::RosterLemmas::holder_step))]
-    fn of(alloc: Global, homes: &Homes) -> Result<Roster, AllocError>
+    pub fn of(alloc: Global, homes: &Homes) -> Result<Roster, AllocError>
         ensures { IfOk result (λ r. IsRoster homes.now r) }
     {
         let homes = homes.as_slice();
@@ -130,58 +129,11 @@ impl Roster {
     }
 
     /// The persons of a group, in order.
-    fn persons(&self, group: u32) -> &[u32]
+    pub fn persons(&self, group: u32) -> &[u32]
         ensures { result.now ≡ get_or self.now group [] }
     {
         match self.rows.get(group as usize) {
             Some(persons) => persons.as_slice(),
-            None => &[],
-        }
-    }
-}
-
-/// The persons of each group of each entity, seen as a list.
-#[derive(Drop)]
-pub struct Rosters {
-    items: Vec<Roster>,
-}
-
-impl Model for Rosters {
-    ghost use Rattle.std.specs.Prelude.{ℕ, List};
-
-    ghost Value = { List (List (List ℕ)) };
-
-    ghost view = { λ r. r.items.items };
-}
-
-impl Rosters {
-    /// One entity more.
-    fn push(&mut self, roster: Roster) -> Result<(), AllocError>
-        ensures { OnOk result (self.new ≡ self.old ++ roster ∷ []) }
-    {
-        self.items.push(roster).map_err(AllocError::from)
-    }
-
-    /// Those of the members of each entity.
-    pub fn of(alloc: Global, members: &[EntityMembers]) -> Result<Rosters, AllocError>
-        ensures { IfOk result (λ r. AreRosters members.now r) }
-    {
-        let mut rosters = Rosters {
-            items: Vec::with_capacity(alloc, members.len())?,
-        };
-        for entity in members {
-            let roster = Roster::of(alloc, &entity.homes)?;
-            rosters.push(roster)?;
-        }
-        Ok(rosters)
-    }
-
-    /// The persons of a group of an entity, in order.
-    pub fn persons(&self, entity: usize, group: u32) -> &[u32]
-        ensures { result.now ≡ get_or (get_or self.now entity []) group [] }
-    {
-        match self.items.as_slice().get(entity) {
-            Some(roster) => roster.persons(group),
             None => &[],
         }
     }

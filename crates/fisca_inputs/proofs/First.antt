@@ -94,7 +94,7 @@ all_in (x ∷ xs) es up = (up x.0 own, all_in xs es (λ q h. up q (by q (same_ke
 
 -- The first members are passed over
 
-skipped : (line : ℕ) (x : Value) (ks : List Key) (es : Entries) (n : ℕ) → ((i : ℕ) (k : Key) → i < n → slice_get ks i ≡ Some k → has es k ≡ true)
+pub skipped : (line : ℕ) (x : Value) (ks : List Key) (es : Entries) (n : ℕ) → ((i : ℕ) (k : Key) → i < n → slice_get ks i ≡ Some k → has es k ≡ true)
     → put_all line x (drop n ks) es ≡ put_all line x ks es
 skipped line x ks es zero h = refl
 skipped line x [] es (suc n) h = refl

@@ -2,6 +2,7 @@ pub mod Alone
 pub mod Anew
 pub mod Beside
 pub mod Days
+pub mod Filled
 pub mod First
 pub mod Looked
 pub mod Noted

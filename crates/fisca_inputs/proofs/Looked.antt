@@ -49,7 +49,7 @@ looked-like q k e [] = refl
 looked-like q k e (x ∷ es) = λ i. cond (same-like q k e x.0 i) (Some x.1) (looked-like q k e es i)
 
 -- an entry that is put unless it is there
-looked-put_free : (line : ℕ) (x : Value) (k : Key) (es new : Entries) (q : Key) → put_free line x k es ≡ Ok new
+pub looked-put_free : (line : ℕ) (x : Value) (k : Key) (es new : Entries) (q : Key) → put_free line x k es ≡ Ok new
     → value_at new q ≡ otherwise (value_at es q) (if same_key q k then Some x else None)
 looked-put_free line x k es new q h = by (value_at es k) refl h
   where

@@ -23,7 +23,7 @@ module _ (m n : ℕ) (x : Value) (k : Key) (es : Entries) where
       by false true e = e
       by false false e = cc
 
-range_at : (a n i : ℕ) → i < n → slice_get (range_with_len a n) i ≡ Some (a + i)
+pub range_at : (a n i : ℕ) → i < n → slice_get (range_with_len a n) i ≡ Some (a + i)
 range_at a zero i h = absurd (omega arith)
 range_at a (suc n) zero h = let e : a ≡ a + 0 = omega arith in ap Some e
 range_at a (suc n) (suc i) h = let e : a + 1 + i ≡ a + suc i = omega arith in range_at (a + 1) n i (omega arith) ∙ ap Some e
@@ -33,11 +33,11 @@ row_at x count p m h =
     let e : 0 + m ≡ m = omega arith in
     slice_get-map (λ j. key x j p) (range_with_len 0 count) m ∙ ap (option_map (λ j. key x j p)) (range_at 0 count m h ∙ ap Some e)
 
-length-range : (a n : ℕ) → length (range_with_len a n) ≡ n
+pub length-range : (a n : ℕ) → length (range_with_len a n) ≡ n
 length-range a zero = refl
 length-range a (suc n) = ap suc (length-range (a + 1) n)
 
-length-map : {X Y : Type 0} (f : X → Y) (xs : List X) → length (map f xs) ≡ length xs
+pub length-map : {X Y : Type 0} (f : X → Y) (xs : List X) → length (map f xs) ≡ length xs
 length-map f [] = refl
 length-map f (x ∷ xs) = ap suc (length-map f xs)
 

@@ -4,4 +4,5 @@ pub mod Inputs
 pub mod Order
 pub mod Overlaps
 pub mod Rules
+pub mod Runs
 pub mod Sharing

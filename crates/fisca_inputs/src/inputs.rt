@@ -1,6 +1,6 @@
 //! The table of inputs.
 
-ghost use Rattle.std.specs.Prelude.{◌≡◌, ◌<◌, ◌⊎◌, ◌==◌, ℕ, [], ◌∷◌, false, true, IfOk, OnOk};
+ghost use Rattle.std.specs.Prelude.{◌≡◌, ◌<◌, ◌⊎◌, ◌==◌, ℕ, [], ◌∷◌, false, true, length, IfOk, OnOk};
 ghost use Rattle.std.specs.List.{AllByRecursion, list_all};
 ghost use Rattle.std.specs.Map.{keys_of};
 ghost use Rattle.fisca_inputs.specs.Anew.{set_keys};
@@ -53,6 +53,13 @@ impl Inputs {
         ensures { self.new ≡ self.old }
     {
         self.table.reserve(count)
+    }
+
+    /// How many there are.
+    pub(crate) fn count(&self) -> usize
+        ensures { result ≡ length self.now }
+    {
+        self.table.entries.len()
     }
 
     /// The value of a key, by one look-up and without memory.

@@ -13,6 +13,7 @@ mod marks;
 mod order;
 mod page;
 mod periods;
+mod runs;
 mod share;
 mod sharing;
 mod table;

@@ -1,21 +1,25 @@
 //! All given inputs, one after another.
 
-ghost use Rattle.std.specs.Prelude.{◌≡◌, map, nat_lt, slice_get};
+ghost use Rattle.std.specs.Prelude.{◌≡◌, map, nat_lt, slice_get, OnOk};
 ghost use Rattle.std.specs.List.{list_all};
 ghost use Rattle.fisca_inputs.specs.Defaults.{rows_of, with_defaults};
 ghost use Rattle.fisca_inputs.specs.Outcomes.{Becomes, Tells};
 ghost use Rattle.fisca_inputs.specs.Inputs.{inputs_of};
+ghost use Rattle.fisca_inputs.specs.Entries.{Entries};
 ghost use Rattle.fisca_inputs.specs.Rules.{rule_of};
+ghost use Rattle.fisca_inputs.specs.Steps.Runs.{AreFilled, AreKept};
 ghost use Rattle.fisca_inputs.specs.Sharing as spec;
 
 use crate::fault::{SituationFault, SituationKind};
 use crate::given::Given;
+use crate::hashed::Numbers;
 use crate::inputs::{Inputs, LIMIT};
 use crate::order::{Rank, in_order};
 use crate::sharing::fault;
 use fisca_symbols::Variable;
 use std::alloc::Global;
 use std::collections::BTreeMap;
+use std::hash::BuildHasherDefault;
 
 /// How many parts the period of a given input has.
 fn parts_of(variables: &[Variable<'_>], given: &Given) -> usize {
@@ -71,7 +75,7 @@ impl Inputs {
         let sorted = in_order(alloc, variables, givens)?;
         let mut inputs = Inputs::new(alloc)?;
         inputs.reserve(room_for(variables, givens))?;
-        inputs.put_givens(variables, &sorted)?;
+        inputs.put_givens(alloc, variables, &sorted)?;
         inputs.put_all_defaults(alloc, variables, counts, givens)?;
         Ok(inputs)
     }
@@ -97,13 +101,16 @@ impl Inputs {
     /// Puts a given input by what its variable says. `UnknownVariable` at its line where there is none.
     fn put_by_variable(
         &mut self,
+        runs: &mut Numbers,
         variables: &[Variable<'_>],
         given: &Given,
     ) -> Result<(), SituationFault>
-        ensures { Becomes (spec.shared_by (slice_get (map rule_of variables.now) given.now.variable) given.now self.old) self.new result }
+        requires { AreFilled self.old runs.old.entries }
+        ensures value { Becomes (spec.shared_by (slice_get (map rule_of variables.now) given.now.variable) given.now self.old) self.new result }
+        ensures runs { OnOk result ((es : Entries) → AreKept self.new es → AreFilled es runs.old.entries → AreFilled es runs.new.entries) }
     {
         match variables.get(given.variable) {
-            Some(variable) => self.put_given(variable, given),
+            Some(variable) => self.put_given(runs, variable, given),
             None => Err(fault(given.line, SituationKind::UnknownVariable)),
         }
     }
@@ -111,13 +118,15 @@ impl Inputs {
     /// Puts given inputs one after another, in this order.
     pub(crate) fn put_givens(
         &mut self,
+        alloc: Global,
         variables: &[Variable<'_>],
         givens: &BTreeMap<Rank, &Given>,
     ) -> Result<(), SituationFault>
         ensures { Becomes (spec.all_shared (map rule_of variables.now) (map (λ e. e.1.now) givens.now.entries) self.old) self.new result }
     {
+        let mut runs = Numbers::with_hasher(alloc, BuildHasherDefault::new());
         for (_rank, given) in givens.iter() {
-            self.put_by_variable(variables, given)?;
+            self.put_by_variable(&mut runs, variables, given)?;
         }
         Ok(())
     }

@@ -1,20 +1,27 @@
 //! Given inputs over the parts of their periods.
 
-ghost use Rattle.std.specs.Prelude.{◌≡◌, ◌≢◌, ◌<◌, length, slice_get, Some, Ok, IfOk, IfErr};
+ghost use Rattle.std.specs.Prelude.{◌≡◌, ◌≢◌, ◌<◌, ◌≤◌, ◌+◌, drop, length, slice_get, Some, Ok, Err, IfOk, IfErr, OnOk};
 ghost use Rattle.fisca_inputs.specs.Steps.Entries as entries;
 ghost use Rattle.fisca_inputs.specs.Outcomes.{Answers, Becomes};
 ghost use Rattle.fisca_inputs.specs.Rules.{rule_of};
 ghost use Rattle.fisca_inputs.specs.Sharing as spec;
+ghost use Rattle.fisca_inputs.specs.Entries.{Entries};
+ghost use Rattle.fisca_inputs.specs.Steps.Runs.{AreFilled, AreKept};
 ghost use Rattle.fisca_inputs.specs.Steps.Sharing as steps;
 
 use crate::fault::{SituationFault, SituationKind};
 use crate::given::Given;
+use crate::hashed::Numbers;
 use crate::inputs::Inputs;
 use crate::periods::key_period;
+use crate::runs::{note_parts, run_from};
 use fisca_model::{Key, Value, fits};
 use fisca_num::{Fraction, NumFault};
 use fisca_symbols::{SetInput, Variable};
 use fisca_time::Unit;
+
+/// From how many parts on it is noted that all of them have values. Fewer are sooner walked through.
+const LONG: u32 = 32;
 
 /// The fault of this kind at a line.
 pub(crate) fn fault(line: usize, kind: SituationKind) -> SituationFault
@@ -44,7 +51,7 @@ fn without(line: usize, value: Value, number: Fraction) -> Result<Fraction, Situ
 }
 
 /// The key of the part of a given input at a place in order of time.
-fn part_at(given: &Given, unit: Unit, i: u32) -> Key
+pub(crate) fn part_at(given: &Given, unit: Unit, i: u32) -> Key
     requires { i < length (steps.parts_by unit given.now) }
     ensures { slice_get (steps.parts_by unit given.now) i ≡ Some result }
 {
@@ -87,6 +94,77 @@ impl Inputs {
     {
         for i in 0..count {
             self.put_free(given.line, *value, part_at(given, unit, i))?;
+        }
+        Ok(())
+    }
+
+    /// Puts the value of a given input for its part at a place, where it has none, or passes over those that are noted from there on. How many
+    /// parts that is.
+    fn put_from(
+        &mut self,
+        runs: &Numbers,
+        given: &Given,
+        unit: Unit,
+        i: u32,
+        count: u32,
+    ) -> Result<u32, SituationFault>
+        requires count { count ≡ length (steps.parts_by unit given.now) }
+        requires here { i < count }
+        requires runs { AreFilled self.old runs.now.entries }
+        ensures some { IfOk result (λ places. (0 < places) × (i + places ≤ count)) }
+        ensures ok { IfOk result (λ places. entries.put_all given.now.line given.now.value (drop i (steps.parts_by unit given.now)) self.old ≡ entries.put_all given.now.line given.now.value (drop (i + places) (steps.parts_by unit given.now)) self.new) }
+        ensures err { IfErr result (λ f. (f.kind ≢ SituationKind.Memory → entries.put_all given.now.line given.now.value (drop i (steps.parts_by unit given.now)) self.old ≡ Err f) × (f.kind ≡ SituationKind.Memory → f.line ≡ 0)) }
+        ensures runs { OnOk result (AreFilled self.new runs.now.entries) }
+    {
+        let key = part_at(given, unit, i);
+        let run = run_from(runs, &key).min(count - i);
+        if run > 0 {
+            return Ok(run);
+        }
+        self.put_free(given.line, given.value, key)?;
+        Ok(1)
+    }
+
+    /// Puts the value of a given input for each of its parts that has none, and passes over those that are noted.
+    fn put_long(
+        &mut self,
+        runs: &Numbers,
+        given: &Given,
+        unit: Unit,
+        count: u32,
+    ) -> Result<(), SituationFault>
+        requires count { count ≡ length (steps.parts_by unit given.now) }
+        requires runs { AreFilled self.old runs.now.entries }
+        ensures { Becomes (entries.put_all given.now.line given.now.value (steps.parts_by unit given.now) self.old) self.new result }
+    {
+        let mut i = 0;
+        while i < count {
+            i += self.put_from(runs, given, unit, i, count)?;
+        }
+        Ok(())
+    }
+
+    /// Puts the value of a given input for each of its parts that has none. Of many parts, some of which had one, it is noted that all have
+    /// values then: so inputs that do not overlap cost no more.
+    fn dispatch(
+        &mut self,
+        runs: &mut Numbers,
+        given: &Given,
+        unit: Unit,
+        count: u32,
+    ) -> Result<(), SituationFault>
+        requires count { count ≡ length (steps.parts_by unit given.now) }
+        requires runs { AreFilled self.old runs.old.entries }
+        ensures value { Becomes (entries.put_all given.now.line given.now.value (steps.parts_by unit given.now) self.old) self.new result }
+        ensures runs { OnOk result ((es : Entries) → AreKept self.new es → AreFilled es runs.old.entries → AreFilled es runs.new.entries) }
+    {
+        if count < LONG {
+            return self.put_all(given, unit, count, &given.value);
+        }
+        let full = self.count().saturating_add(count as usize);
+        self.put_long(runs, given, unit, count)?;
+        if self.count() < full {
+            note_parts(runs, given, unit, count)?;
         }
         Ok(())
     }
@@ -151,17 +229,20 @@ impl Inputs {
     /// Shares a given input over the parts of its period by a rule.
     fn put_over_parts(
         &mut self,
+        runs: &mut Numbers,
         rule: Option<SetInput>,
         given: &Given,
         unit: Unit,
         count: u32,
     ) -> Result<(), SituationFault>
-        requires { count ≡ length (steps.parts_by unit given.now) }
-        ensures { Becomes (spec.over_parts rule given.now (steps.parts_by unit given.now) self.old) self.new result }
+        requires count { count ≡ length (steps.parts_by unit given.now) }
+        requires runs { AreFilled self.old runs.old.entries }
+        ensures value { Becomes (spec.over_parts rule given.now (steps.parts_by unit given.now) self.old) self.new result }
+        ensures runs { OnOk result ((es : Entries) → AreKept self.new es → AreFilled es runs.old.entries → AreFilled es runs.new.entries) }
     {
         match rule {
             Some(SetInput::DivideByPeriod) => self.divide(given, unit, count),
-            Some(SetInput::DispatchByPeriod) => self.put_all(given, unit, count, &given.value),
+            Some(SetInput::DispatchByPeriod) => self.dispatch(runs, given, unit, count),
             None => Err(fault(given.line, SituationKind::PeriodMismatch)),
         }
     }
@@ -188,17 +269,22 @@ impl Inputs {
     /// there would be more than 100,000 inputs; all at its line.
     pub(crate) fn put_given(
         &mut self,
+        runs: &mut Numbers,
         variable: &Variable<'_>,
         given: &Given,
     ) -> Result<(), SituationFault>
-        ensures { Becomes (spec.shared (rule_of variable.now) given.now self.old) self.new result }
+        requires { AreFilled self.old runs.old.entries }
+        ensures value { Becomes (spec.shared (rule_of variable.now) given.now self.old) self.new result }
+        ensures runs { OnOk result ((es : Entries) → AreKept self.new es → AreFilled es runs.old.entries → AreFilled es runs.new.entries) }
     {
         let unit = variable.definition_period;
         if fits(unit, given.period) {
             return self.put_alone(variable, given);
         }
         match given.period.sub_count(unit) {
-            Ok(count) if count > 1 => self.put_over_parts(variable.set_input, given, unit, count),
+            Ok(count) if count > 1 => {
+                self.put_over_parts(runs, variable.set_input, given, unit, count)
+            }
             Ok(_) | Err(_) => Err(fault(given.line, SituationKind::PeriodMismatch)),
         }
     }

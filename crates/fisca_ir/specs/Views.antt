@@ -1,5 +1,5 @@
 -- The nodes and the things of the theory that those in memory stand for.
-use Rattle.std.specs.Prelude.{ℕ, List, [], ◌∷◌, map, Option, option_map}
+use Rattle.std.specs.Prelude.{ℕ, List, [], ◌∷◌, map, Option, option_map, string_bytes}
 use Rattle.fisca_model.specs.declared.role_place.RolePlace.{RolePlace}
 use Rattle.fisca_typing.specs.declared.moves.Move.{Move}
 use Rattle.fisca_typing.specs.Nodes as spec
@@ -70,7 +70,7 @@ abbrev pub pair_step : Pair-F spec.Node Indexed Paired Parametric Scaled Summed 
 pair_step p = record { left = p.left; right = p.right }
 
 abbrev pub parameter_step : Parameter-F spec.Node Indexed Paired Parametric Scaled Summed → Parametric
-parameter_step p = record { indices = in_order p.indices.items; places = p.places.items; moves = p.moves.items }
+parameter_step p = record { indices = in_order p.indices.items; places = p.places.value.items; moves = p.moves.items }
 
 abbrev pub scale_step : ScaleSum-F spec.Node Indexed Paired Parametric Scaled Summed → Scaled
 scale_step s = record { place = s.place; moves = s.moves.items; base = s.base }
@@ -93,7 +93,7 @@ abbrev pub typed : Typed → things.Typed
 typed t = record { value_type = t.value_type; level = t.level; node = node t.node }
 
 abbrev pub chosen : Chosen → things.Chosen
-chosen c = record { level = c.level; indices = indices c.indices.items; places = c.places.items; moves = c.moves.items }
+chosen c = record { level = c.level; indices = indices c.indices.items; places = c.places.value.items; moves = c.moves }
 
 abbrev pub relation : Relation → things.Relation
 relation r = record { whom = r.whom; entity = r.entity }
@@ -104,13 +104,13 @@ all_things (x ∷ xs) = things.more x (all_things xs)
 
 abbrev pub thing_step : Thing-F things.Thing → things.Thing
 thing_step (Thing-F.Value v) = things.value (typed v)
-thing_step (Thing-F.Period ms) = things.period ms.items
-thing_step (Thing-F.Start ms) = things.start ms.items
-thing_step (Thing-F.Offset ms) = things.offset ms.items
+thing_step (Thing-F.Period ms) = things.period ms
+thing_step (Thing-F.Start ms) = things.start ms
+thing_step (Thing-F.Offset ms) = things.offset ms
 thing_step Thing-F.Reader = things.reader
 thing_step (Thing-F.Nodes c) = things.nodes (chosen c.value)
-thing_step (Thing-F.Scale n ms) = things.scale n ms.items
-thing_step (Thing-F.Calculation n ms) = things.calculation n ms.items
+thing_step (Thing-F.Scale n ms) = things.scale n ms
+thing_step (Thing-F.Calculation n ms) = things.calculation n ms
 thing_step (Thing-F.Enumeration e) = things.enumeration e
 thing_step (Thing-F.Choices e) = things.choices e
 thing_step (Thing-F.Entity g) = things.entity g
@@ -121,7 +121,7 @@ thing_step (Thing-F.GroupCount g) = things.group_count g
 thing_step Thing-F.Library = things.library
 thing_step (Thing-F.Function f) = things.function f
 thing_step (Thing-F.Asking a) = things.option a
-thing_step (Thing-F.Text t) = things.text t.items
+thing_step (Thing-F.Text t) = things.text (string_bytes t)
 thing_step (Thing-F.Listed xs) = things.listed (all_things xs.items)
 
 abbrev pub thing : Thing → things.Thing

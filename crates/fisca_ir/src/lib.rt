@@ -2,6 +2,7 @@
 #![tactic(auto)]
 
 mod made;
+mod moves;
 mod node;
 mod operations;
 mod parts;
@@ -13,6 +14,7 @@ pub use made::{
     arithmetic, ask, choose, comparison, copy_indices, count, date_part, has_role, logic,
     parameter_node, push_index, same, scale_sum, total, unary,
 };
+pub use moves::Moves;
 pub use node::{Ask, Index, Node, Pair, Parameter, ScaleSum, Totalled};
 pub use operations::{
     Dyadic, common_all, highest, numeric_of, operated, prefixed_value, unary_of, where_of,

@@ -131,10 +131,10 @@ pub fn choose(
 pub fn parameter_node(
     alloc: Global,
     indices: Vec<Index>,
-    places: Vec<NodeId>,
+    places: Rc<Vec<NodeId>>,
     moves: Vec<Move>,
 ) -> Result<Node, AllocError>
-    ensures { IfOk result (λ n. node n ≡ spec.parameter (all_indices indices.items) places.items moves.items) }
+    ensures { IfOk result (λ n. node n ≡ spec.parameter (all_indices indices.items) places.value.items moves.items) }
 {
     let parameter = Parameter {
         indices,

@@ -94,12 +94,12 @@ pub struct Totalled {
 }
 
 /// Parameters at the start of a period, of which members of Enums choose one. They stand in order of the first member,
-/// then of the second, and so on.
+/// then of the second, and so on, and many parameters may share them.
 #[cycle(node)]
 #[derive(Drop)]
 pub struct Parameter {
     pub indices: Vec<Index>,
-    pub places: Vec<NodeId>,
+    pub places: Rc<Vec<NodeId>>,
     pub moves: Vec<Move>,
 }
 

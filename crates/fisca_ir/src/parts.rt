@@ -4,10 +4,12 @@ ghost use Rattle.fisca_ast.specs.Outcomes.{Gives};
 ghost use Rattle.fisca_ir.specs.Views.{chosen, listed, thing as thing_of, typed};
 ghost use Rattle.fisca_typing.specs.Things as spec;
 
+use crate::moves::Moves;
 use crate::thing::{Chosen, Thing, Typed};
 use fisca_ast::FormulaKind;
 use fisca_model::RolePlace;
 use fisca_typing::{Asking, Move};
+use std::rc::Rc;
 
 /// The value that a thing is, or `BadType`.
 pub fn value_of(thing: Thing) -> Result<Typed, FormulaKind>
@@ -30,8 +32,8 @@ pub fn period_of(thing: &Thing) -> Result<&[Move], FormulaKind>
 }
 
 /// The moves to the period at whose start parameters are read: a period, or the start of one; else `BadType`.
-pub fn instant_of(thing: Thing) -> Result<Vec<Move>, FormulaKind>
-    ensures { Gives (λ ms. ms.items) (spec.instant_of (thing_of thing)) result }
+pub fn instant_of(thing: Thing) -> Result<Moves, FormulaKind>
+    ensures { Gives (λ ms. ms) (spec.instant_of (thing_of thing)) result }
 {
     match thing {
         Thing::Period(moves) | Thing::Start(moves) => Ok(moves),
@@ -40,11 +42,11 @@ pub fn instant_of(thing: Thing) -> Result<Vec<Move>, FormulaKind>
 }
 
 /// The text that a thing is, or `BadType`.
-pub fn text_of(thing: &Thing) -> Result<&[u8], FormulaKind>
+pub fn text_of(thing: &Thing) -> Result<&str, FormulaKind>
     ensures { Gives (λ t. t.now) (spec.text_of (thing_of thing.now)) result }
 {
     match thing {
-        Thing::Text(text) => Ok(text.as_slice()),
+        Thing::Text(text) => Ok(text.as_str()),
         _ => Err(FormulaKind::BadType),
     }
 }
@@ -80,11 +82,11 @@ pub fn role_of(thing: &Thing) -> Result<(usize, RolePlace), FormulaKind>
 }
 
 /// The parameters that a thing is, or `BadType`.
-pub fn nodes_of(thing: Thing) -> Result<Chosen, FormulaKind>
-    ensures { Gives chosen (spec.nodes_of (thing_of thing)) result }
+pub fn nodes_of(thing: Thing) -> Result<Rc<Chosen>, FormulaKind>
+    ensures { Gives (λ c. chosen c.value) (spec.nodes_of (thing_of thing)) result }
 {
     match thing {
-        Thing::Nodes(nodes) => Ok(Box::into_inner(nodes)),
+        Thing::Nodes(nodes) => Ok(nodes),
         _ => Err(FormulaKind::BadType),
     }
 }

@@ -8,6 +8,7 @@ ghost use Rattle.fisca_typing.specs.Calls.{places_of as places_written};
 ghost use Rattle.fisca_typing.specs.Periods as spec;
 
 use crate::made;
+use crate::moves::Moves;
 use crate::thing::{Thing, Typed};
 use fisca_ast::{Argument, Arguments, Delimiter, Expr, FormulaKind, Prefix};
 use fisca_model::ValueType;
@@ -17,32 +18,31 @@ use fisca_typing::{DatePart, Level, Move, is_places};
 use std::alloc::Global;
 
 /// One move further.
-fn moved(mut moves: Vec<Move>, step: Move) -> Result<Thing, FormulaKind>
-    ensures { Gives thing (spec.moved moves.items step) result }
+fn moved(alloc: Global, moves: &Moves, step: Move) -> Result<Thing, FormulaKind>
+    ensures { Gives thing (spec.moved moves.now step) result }
 {
-    moves.push(step)?;
-    Ok(Thing::Period(moves))
+    Ok(Thing::Period(moves.with(alloc, step)?))
 }
 
 /// What a name behind a period stands for, or `UnknownName`.
 #[tactic(auto, unfolding(fisca_typing::specs::Periods::period_attribute))]
-pub fn period_attribute(name: &[u8], moves: Vec<Move>) -> Result<Thing, FormulaKind>
-    ensures { Gives thing (spec.period_attribute name.now moves.items) result }
+pub fn period_attribute(alloc: Global, name: &[u8], moves: Moves) -> Result<Thing, FormulaKind>
+    ensures { Gives thing (spec.period_attribute name.now moves) result }
 {
     if name == b"this_year".as_slice() {
-        moved(moves, Move::ThisYear)
+        moved(alloc, &moves, Move::ThisYear)
     } else if name == b"first_month".as_slice() {
-        moved(moves, Move::FirstMonth)
+        moved(alloc, &moves, Move::FirstMonth)
     } else if name == b"first_day".as_slice() {
-        moved(moves, Move::FirstDay)
+        moved(alloc, &moves, Move::FirstDay)
     } else if name == b"last_month".as_slice() {
-        moved(moves, Move::LastMonth)
+        moved(alloc, &moves, Move::LastMonth)
     } else if name == b"last_3_months".as_slice() {
-        moved(moves, Move::LastThreeMonths)
+        moved(alloc, &moves, Move::LastThreeMonths)
     } else if name == b"last_year".as_slice() {
-        moved(moves, Move::LastYear)
+        moved(alloc, &moves, Move::LastYear)
     } else if name == b"n_2".as_slice() {
-        moved(moves, Move::TwoYearsAgo)
+        moved(alloc, &moves, Move::TwoYearsAgo)
     } else if name == b"start".as_slice() {
         Ok(Thing::Start(moves))
     } else if name == b"offset".as_slice() {
@@ -53,20 +53,20 @@ pub fn period_attribute(name: &[u8], moves: Vec<Move>) -> Result<Thing, FormulaK
 }
 
 /// A part of the start of a period.
-fn part_of(alloc: Global, part: DatePart, moves: Vec<Move>) -> Result<Thing, FormulaKind>
-    ensures { Gives thing (spec.part_of part moves.items) result }
+fn part_of(alloc: Global, part: DatePart, moves: &Moves) -> Result<Thing, FormulaKind>
+    ensures { Gives thing (spec.part_of part moves.now) result }
 {
     Ok(Thing::Value(Typed {
         value_type: ValueType::Number,
         level: Level::Constant,
-        node: made::date_part(alloc, part, moves)?,
+        node: made::date_part(alloc, part, moves.to_vec(alloc)?)?,
     }))
 }
 
 /// What a name behind the start of a period stands for, or `UnknownName`.
 #[tactic(auto, unfolding(fisca_typing::specs::Periods::start_attribute))]
-pub fn start_attribute(alloc: Global, name: &[u8], moves: Vec<Move>) -> Result<Thing, FormulaKind>
-    ensures { Gives thing (spec.start_attribute name.now moves.items) result }
+pub fn start_attribute(alloc: Global, name: &[u8], moves: &Moves) -> Result<Thing, FormulaKind>
+    ensures { Gives thing (spec.start_attribute name.now moves.now) result }
 {
     if name == b"year".as_slice() {
         part_of(alloc, DatePart::Year, moves)
@@ -221,18 +221,23 @@ fn unit_named(name: &[u8]) -> Option<Unit>
 }
 
 /// So many of a period's own unit further, or `BadType` where the number is not written as a whole one.
-pub fn offset_by(moves: Vec<Move>, count: &Expr) -> Result<Thing, FormulaKind>
-    ensures { Gives thing (spec.offset_by moves.items (tree_of count.now)) result }
+pub fn offset_by(alloc: Global, moves: &Moves, count: &Expr) -> Result<Thing, FormulaKind>
+    ensures { Gives thing (spec.offset_by moves.now (tree_of count.now)) result }
 {
     let Some(number) = whole(count) else {
         return Err(FormulaKind::BadType);
     };
-    moved(moves, Move::Offset(number.numerator()))
+    moved(alloc, moves, Move::Offset(number.numerator()))
 }
 
 /// So many of a unit further, or `BadType` where the number is not written as a whole one or no unit has the name.
-pub fn offset_by_unit(moves: Vec<Move>, count: &Expr, unit: &[u8]) -> Result<Thing, FormulaKind>
-    ensures { Gives thing (spec.offset_by_unit moves.items (tree_of count.now) unit.now) result }
+pub fn offset_by_unit(
+    alloc: Global,
+    moves: &Moves,
+    count: &Expr,
+    unit: &[u8],
+) -> Result<Thing, FormulaKind>
+    ensures { Gives thing (spec.offset_by_unit moves.now (tree_of count.now) unit.now) result }
 {
     let Some(number) = whole(count) else {
         return Err(FormulaKind::BadType);
@@ -240,7 +245,7 @@ pub fn offset_by_unit(moves: Vec<Move>, count: &Expr, unit: &[u8]) -> Result<Thi
     let Some(unit) = unit_named(unit) else {
         return Err(FormulaKind::BadType);
     };
-    moved(moves, Move::OffsetBy(number.numerator(), unit))
+    moved(alloc, moves, Move::OffsetBy(number.numerator(), unit))
 }
 
 /// How many decimal places are written, from -9 to 9, or `BadType`.

@@ -1,8 +1,10 @@
 //! What an expression of a formula may stand for.
+use crate::moves::Moves;
 use crate::node::{Index, Node};
 use fisca_model::{RolePlace, ValueType};
 use fisca_params::NodeId;
-use fisca_typing::{Asking, Function, Level, Method, Move, Whom};
+use fisca_typing::{Asking, Function, Level, Method, Whom};
+use std::rc::Rc;
 
 /// A value: its type, its level, and what is worked out for it.
 #[derive(Drop)]
@@ -13,13 +15,13 @@ pub struct Typed {
 }
 
 /// Parameters that are chosen among, at the start of a period: those that the members of the indices lead to, at the
-/// indices' highest level.
+/// indices' highest level. The places are shared.
 #[derive(Drop)]
 pub struct Chosen {
     pub level: Level,
     pub indices: Vec<Index>,
-    pub places: Vec<NodeId>,
-    pub moves: Vec<Move>,
+    pub places: Rc<Vec<NodeId>>,
+    pub moves: Moves,
 }
 
 /// Whom a variable is asked for by a name behind the entity, and the place of the variable's entity.
@@ -34,18 +36,18 @@ pub struct Relation {
 pub enum Thing {
     Value(Typed),
     /// A period, by the moves to it.
-    Period(Vec<Move>),
+    Period(Moves),
     /// `period.start`
-    Start(Vec<Move>),
+    Start(Moves),
     /// `period.offset`
-    Offset(Vec<Move>),
+    Offset(Moves),
     /// The formula's third argument.
     Reader,
-    /// `parameters(period)`, and what stands below it.
-    Nodes(Box<Chosen>),
-    Scale(NodeId, Vec<Move>),
+    /// `parameters(period)`, and what stands below it; a local's are shared.
+    Nodes(Rc<Chosen>),
+    Scale(NodeId, Moves),
     /// `scale.calc`
-    Calculation(NodeId, Vec<Move>),
+    Calculation(NodeId, Moves),
     Enumeration(usize),
     /// `x.possible_values`
     Choices(usize),
@@ -62,6 +64,6 @@ pub enum Thing {
     Function(Function),
     /// `ADD` and `DIVIDE`
     Asking(Asking),
-    Text(Vec<u8>),
+    Text(String),
     Listed(Vec<Thing>),
 }

@@ -1,4 +1,7 @@
 pub mod Ascii
 pub mod Beside
+pub mod Cut
+pub mod CutMarks
+pub mod CutPieces
 pub mod Steps
 pub mod Worked

@@ -1,3 +1,4 @@
+pub mod Cuts
 pub mod Layout
 pub mod Pieces
 pub mod Steps

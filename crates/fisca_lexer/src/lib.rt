@@ -3,6 +3,7 @@
 #![tactic(auto)]
 
 mod front;
+mod law;
 mod layout;
 mod levels;
 mod lexer;
@@ -12,6 +13,7 @@ mod strings;
 mod texts;
 mod token;
 
+pub use law::tokens_stand_between_characters;
 pub use lexer::tokens;
 pub use texts::join_texts;
 pub use token::{Class, Mark, Token};

@@ -10,7 +10,7 @@ use Rattle.fisca_machine.specs.Running.{from, parametric}
 
 -- the whole
 
-seen : (p : Parameter) → parametric p ≡ record { indices = indices (out-Parameter p).indices.items; places = (out-Parameter p).places.items; moves = (out-Parameter p).moves.items }
+seen : (p : Parameter) → parametric p ≡ record { indices = indices (out-Parameter p).indices.items; places = (out-Parameter p).places.value.items; moves = (out-Parameter p).moves.items }
 seen p = search (the_lemmas, rules)
 
 member_seen : (i : Index) → index_view i ≡ record { member = node i.member.value; size = i.size }
@@ -45,10 +45,10 @@ some_there p n is i m e h d =
 
 -- its places
 
-pub none_placed : (p : Parameter) (n : ℕ) (ps : List ℕ) → ps ≡ (out-Parameter p).places.items → slice_get ps n ≡ None → slice_get (parametric p).places n ≡ None
+pub none_placed : (p : Parameter) (n : ℕ) (ps : List ℕ) → ps ≡ (out-Parameter p).places.value.items → slice_get ps n ≡ None → slice_get (parametric p).places n ≡ None
 none_placed p n ps e h = ap (λ q. slice_get q.places n) (seen p) ∙ ap (λ qs. slice_get qs n) (sym e) ∙ h
 
-pub some_placed : (p : Parameter) (n : ℕ) (ps : List ℕ) (i : ℕ) → ps ≡ (out-Parameter p).places.items → slice_get ps n ≡ Some i → slice_get (parametric p).places n ≡ Some i
+pub some_placed : (p : Parameter) (n : ℕ) (ps : List ℕ) (i : ℕ) → ps ≡ (out-Parameter p).places.value.items → slice_get ps n ≡ Some i → slice_get (parametric p).places n ≡ Some i
 some_placed p n ps i e h = ap (λ q. slice_get q.places n) (seen p) ∙ ap (λ qs. slice_get qs n) (sym e) ∙ h
 
 -- one place, and nothing that chooses
@@ -67,10 +67,10 @@ one_place (q ∷ []) place a b e = ap (λ x. x ∷ []) (sym e)
 one_place (q ∷ r ∷ qs) place a b e = absurd (omega (arith, b))
 
 pub not_alone : (p : Parameter) (is : List Index) → is ≡ (out-Parameter p).indices.items → 1 ≤ length is → is_alone (parametric p).indices (parametric p).places ≡ false
-not_alone p is e h = ap (λ q. is_alone q.indices q.places) (seen p) ∙ (λ i. is_alone (indices (sym e i)) (out-Parameter p).places.items) ∙ some_choose is (out-Parameter p).places.items h
+not_alone p is e h = ap (λ q. is_alone q.indices q.places) (seen p) ∙ (λ i. is_alone (indices (sym e i)) (out-Parameter p).places.value.items) ∙ some_choose is (out-Parameter p).places.value.items h
 
 pub nothing_chooses : (p : Parameter) (is : List Index) → is ≡ (out-Parameter p).indices.items → length is < 1 → (parametric p).indices ≡ no_index
 nothing_chooses p is e h = indices_of p is e ∙ none_choose is h
 
-pub placed_alone : (p : Parameter) (ps : List ℕ) (place : ℕ) → ps ≡ (out-Parameter p).places.items → 1 ≤ length ps → length ps < 2 → place ≡ slice_index_or ps 0 place → (parametric p).places ≡ place ∷ []
+pub placed_alone : (p : Parameter) (ps : List ℕ) (place : ℕ) → ps ≡ (out-Parameter p).places.value.items → 1 ≤ length ps → length ps < 2 → place ≡ slice_index_or ps 0 place → (parametric p).places ≡ place ∷ []
 placed_alone p ps place e a b h = ap (λ q. q.places) (seen p) ∙ sym e ∙ one_place ps place a b h

@@ -3,6 +3,7 @@ pub mod Groups
 pub mod Kinds
 pub mod Naming
 pub mod Outcomes
+pub mod Owned
 pub mod Persons
 pub mod Sections
 pub mod Steps

@@ -15,7 +15,7 @@ use crate::role_table::RoleTable;
 use crate::section::Section;
 use crate::shapes::entries_at;
 use fisca_groups::{EntityMembers, Homes};
-use fisca_symbols::Role;
+use fisca_symbols::Roles;
 use fisca_yaml::{Entry, Tree};
 use std::alloc::Global;
 
@@ -52,7 +52,7 @@ fn roles_from(
     ensures { Leaves homes.new (spec.roles_from roles.now persons.now group homes.old (entries_view entries.now)) result }
 {
     for entry in entries {
-        let place = roles.of_name(entry.key.as_str().as_bytes());
+        let place = roles.of_name(entry.key.as_str());
         role_at(
             roles,
             persons,
@@ -82,7 +82,7 @@ fn with_group(
     room(line, count)?;
     let entries = entries_at(line, tree)?;
     roles_from(roles, persons, count as u32, &mut groups.homes, entries)?;
-    groups.names.push(alloc, name.as_bytes())?;
+    groups.names.push(alloc, name)?;
     Ok(())
 }
 
@@ -139,13 +139,13 @@ fn groups_of(
 /// The same of a section of groups with these roles.
 pub(crate) fn groups_at(
     alloc: Global,
-    roles: &[Role<'_>],
+    roles: &Roles<'_>,
     persons: &Persons<'_>,
     groups: &mut EntityMembers,
     section: &Section<'_, '_>,
 ) -> Result<(), MembersFault>
     ensures { Leaves groups.new (spec.groups_of (known_roles roles.now) persons.now groups.old (section_view section.now)) result }
 {
-    let table = RoleTable::new(alloc, roles)?;
+    let table = RoleTable::new(roles);
     groups_of(alloc, &table, persons, groups, section)
 }

@@ -90,7 +90,7 @@ fn name_given(
 {
     match tree {
         Tree::Scalar { text, line, .. } => {
-            let person = persons.of_name(text.as_str().as_bytes());
+            let person = persons.of_name(text.as_str());
             given_to(post, count, homes, *line, person)
         }
         Tree::Null | Tree::List(_) | Tree::Map(_) => Err(bad_value(line, tree)),

@@ -1,10 +1,12 @@
 //! The members of a situation: its persons, the groups that hold them and in which roles, as an input names them.
 #![tactic(auto)]
 
+mod draft;
 mod fault;
 mod few;
 mod groups;
 mod holders;
+mod kind;
 mod members;
 mod own;
 mod person;

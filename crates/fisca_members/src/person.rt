@@ -52,7 +52,7 @@ fn names_of<'t>(alloc: Global, persons: &[Person<'t>]) -> Result<Names<'t>, Allo
 fn table_of<'t>(
     alloc: Global,
     names: Option<Names<'t>>,
-    name: &'t [u8],
+    name: &'t str,
     persons: &[Person<'t>],
 ) -> Result<Option<Names<'t>>, AllocError>
     requires { IfSome names (λ n. n ++ name.now ∷ [] ≡ steps.names_of persons.now) }
@@ -66,11 +66,11 @@ fn table_of<'t>(
 }
 
 /// The place of the first person of this name.
-fn place_among(persons: &[Person<'_>], name: &[u8]) -> Option<usize>
+fn place_among(persons: &[Person<'_>], name: &str) -> Option<usize>
     ensures { result ≡ steps.person_named persons.now name.now }
 {
     for (place, person) in persons.iter().enumerate() {
-        if person.name.as_bytes() == name {
+        if person.name.as_str() == name {
             return Some(place);
         }
     }
@@ -92,7 +92,7 @@ impl<'t> Persons<'t> {
     pub(crate) fn with(
         self,
         alloc: Global,
-        name: &'t [u8],
+        name: &'t str,
         line: usize,
     ) -> Result<Persons<'t>, AllocError>
         requires { length self < 1000 }
@@ -125,7 +125,7 @@ impl<'t> Persons<'t> {
     }
 
     /// The place of the person of this name.
-    pub fn of_name(&self, name: &[u8]) -> Option<usize>
+    pub fn of_name(&self, name: &str) -> Option<usize>
         ensures { result ≡ steps.person_named self.now name.now }
     {
         match &self.names {

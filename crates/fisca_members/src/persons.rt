@@ -48,7 +48,7 @@ fn with_person<'t>(
 {
     room(line, persons.len())?;
     let _variables = entries_at(line, tree)?;
-    Ok(persons.with(alloc, name.as_bytes(), line)?)
+    Ok(persons.with(alloc, name, line)?)
 }
 
 /// The persons so far and those of a map.
@@ -143,7 +143,7 @@ fn person_alone<'t>(
     let Some(entity) = entity_of_persons(entities) else {
         return Err(nobody(line));
     };
-    Ok(Persons::new(alloc).with(alloc, entity.key.as_bytes(), line)?)
+    Ok(Persons::new(alloc).with(alloc, entity.key.as_str(), line)?)
 }
 
 /// The persons of sections, from top to bottom.

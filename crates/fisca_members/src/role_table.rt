@@ -1,21 +1,19 @@
 //! The roles of a group, by the names that inputs give them.
 
-ghost use Rattle.std.specs.Prelude.{◌≡◌, ◌<◌, map, length, option_map, slice_get, IfOk};
+ghost use Rattle.std.specs.Prelude.{◌≡◌, ◌<◌, [], map, length, option_map, slice_get};
 ghost use Rattle.fisca_symbols.specs.KnownRoles.{role as known_role, roles as known_roles};
 ghost use Rattle.fisca_members.specs.Steps.Groups as spec;
 
 use crate::few::FEW;
 use fisca_model::RolePlace;
-use fisca_symbols::{Names, Role, SourceText};
-use std::alloc::{AllocError, Global};
+use fisca_symbols::{Names, Role, Roles};
 use std::marker::Model;
 
-/// The roles of a group, seen as a list. Each is found by its plural, or by its key if it has none: a few are looked through, more found
-/// by a table.
+/// The roles of a group, seen as a list. Each is found by its title: a few are looked through, more found by the rule set's table.
 #[derive(Drop)]
 pub struct RoleTable<'e, 'r> {
     items: &'e [Role<'r>],
-    names: Option<Names<'e>>,
+    names: Option<&'e Names<'r>>,
 }
 
 impl<'e, 'r> Model for RoleTable<'e, 'r> {
@@ -28,36 +26,15 @@ impl<'e, 'r> Model for RoleTable<'e, 'r> {
 
     ghost view = { λ t. roles t.items.now };
 
-    ghost invariant = { λ t. IfSome t.names (λ n. n ≡ role_titles (roles t.items.now)) };
-}
-
-/// The name that inputs give a role: its plural, or its key if it has none.
-fn title<'e>(role: &'e Role<'_>) -> SourceText<'e>
-    ensures { result ≡ spec.title (known_role role.now) }
-{
-    match &role.plural {
-        Some(plural) => SourceText::borrowed(plural.as_bytes()),
-        None => SourceText::borrowed(role.key.as_bytes()),
-    }
-}
-
-/// The names that inputs give roles.
-fn titles_of<'e>(alloc: Global, roles: &'e [Role<'_>]) -> Result<Names<'e>, AllocError>
-    ensures { IfOk result (λ n. n ≡ spec.role_titles (known_roles roles.now)) }
-{
-    let mut names = Names::new(alloc);
-    for role in roles {
-        names = names.with(alloc, title(role))?;
-    }
-    Ok(names)
+    ghost invariant = { λ t. IfSome t.names (λ n. n.now ≡ role_titles (roles t.items.now)) };
 }
 
 /// The place of the first role of this name.
-fn place_among(roles: &[Role<'_>], name: &[u8]) -> Option<usize>
+fn place_among(roles: &[Role<'_>], name: &str) -> Option<usize>
     ensures { result ≡ spec.role_named (known_roles roles.now) name.now }
 {
     for (place, role) in roles.iter().enumerate() {
-        if title(role).as_bytes() == name {
+        if role.title().as_str() == name {
             return Some(place);
         }
     }
@@ -93,26 +70,34 @@ pub(crate) fn first_role(roles: &[Role<'_>]) -> RolePlace
 }
 
 impl<'e, 'r> RoleTable<'e, 'r> {
-    /// These roles.
-    pub fn new(alloc: Global, roles: &'e [Role<'r>]) -> Result<RoleTable<'e, 'r>, AllocError>
-        ensures { IfOk result (λ t. t ≡ known_roles roles.now) }
+    /// No roles.
+    pub fn none() -> RoleTable<'e, 'r>
+        ensures { result ≡ [] }
     {
-        let names = if roles.len() > FEW {
-            Some(titles_of(alloc, roles)?)
+        RoleTable {
+            items: &[],
+            names: None,
+        }
+    }
+
+    /// These roles.
+    pub fn new(roles: &'e Roles<'r>) -> RoleTable<'e, 'r>
+        ensures { result ≡ known_roles roles.now }
+    {
+        let items = roles.as_slice();
+        let names = if items.len() > FEW {
+            Some(roles.titles())
         } else {
             None
         };
-        Ok(RoleTable {
-            items: roles,
-            names,
-        })
+        RoleTable { items, names }
     }
 
     /// The place of the role of this name.
-    pub fn of_name(&self, name: &[u8]) -> Option<usize>
+    pub fn of_name(&self, name: &str) -> Option<usize>
         ensures { result ≡ spec.role_named self.now name.now }
     {
-        match &self.names {
+        match self.names {
             Some(names) => names.place_of(name),
             None => place_among(self.items, name),
         }

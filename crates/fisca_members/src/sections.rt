@@ -18,7 +18,7 @@ fn names_some(titles: &Titles<'_, '_>, entries: &[Entry<'_>]) -> bool
     ensures { result ≡ spec.names_some titles.now (entries_view entries.now) }
 {
     for entry in entries {
-        if titles.named(entry.key.as_str().as_bytes()).is_some() {
+        if titles.named(entry.key.as_str()).is_some() {
             return true;
         }
     }
@@ -46,7 +46,7 @@ fn section_of<'t, 'a>(
     ensures { Tells section (spec.section_by (map section sections.now) entry.now.key entry.now.line (node entry.now.value) (spec.named titles.now entry.now.key)) result }
 {
     let key = entry.key.as_str();
-    match titles.named(key.as_bytes()) {
+    match titles.named(key) {
         Some(named) if !is_given(sections, named.entity) => Ok(Section {
             named,
             key,

@@ -1,6 +1,6 @@
 //! The names under which inputs speak of entities.
 
-ghost use Rattle.std.specs.Prelude.{◌≡◌, map, IfOk};
+ghost use Rattle.std.specs.Prelude.{◌≡◌, map};
 ghost use Rattle.std.specs.Str.{bytes_eq};
 ghost use Rattle.fisca_symbols.specs.KnownEntities.{entities as known, entity as known_entity};
 ghost use Rattle.fisca_model.specs.Tables.{place_in};
@@ -9,8 +9,7 @@ ghost use Rattle.fisca_members.specs.Steps.Sections as spec;
 
 use crate::few::FEW;
 use crate::section::Named;
-use fisca_symbols::{Entity, Names, SourceText};
-use std::alloc::{AllocError, Global};
+use fisca_symbols::{Entities, Entity, Names};
 use std::marker::Model;
 
 /// Which name of an entity is meant.
@@ -22,12 +21,12 @@ pub enum Naming {
     Key,
 }
 
-/// The plurals of entities or their keys, in order, seen as a list. A few are looked through, more are found by a table.
+/// The plurals of entities or their keys, in order, seen as a list. A few are looked through, more are found by the rule set's table.
 #[derive(Drop)]
 pub struct EntityNames<'e, 'r> {
     items: &'e [Entity<'r>],
     naming: Naming,
-    names: Option<Names<'e>>,
+    names: Option<&'e Names<'r>>,
 }
 
 impl<'e, 'r> Model for EntityNames<'e, 'r> {
@@ -39,7 +38,7 @@ impl<'e, 'r> Model for EntityNames<'e, 'r> {
 
     ghost view = { λ n. map (name_by n.naming) (entities n.items.now) };
 
-    ghost invariant = { λ n. IfSome n.names (λ ns. ns ≡ map (name_by n.naming) (entities n.items.now)) };
+    ghost invariant = { λ n. IfSome n.names (λ ns. ns.now ≡ map (name_by n.naming) (entities n.items.now)) };
 }
 
 /// The plurals and the keys of all entities, in order.
@@ -52,32 +51,27 @@ pub struct Titles<'e, 'r> {
 }
 
 /// A name of an entity.
-fn name_of<'e>(entity: &'e Entity<'_>, naming: Naming) -> &'e [u8]
+fn name_of<'e>(entity: &'e Entity<'_>, naming: Naming) -> &'e str
     ensures { result.now ≡ name_by naming (known_entity entity.now) }
 {
     match naming {
-        Naming::Plural => entity.plural.as_bytes(),
-        Naming::Key => entity.key.as_bytes(),
+        Naming::Plural => entity.plural.as_str(),
+        Naming::Key => entity.key.as_str(),
     }
 }
 
 /// The names of entities.
-fn names_of<'e>(
-    alloc: Global,
-    entities: &'e [Entity<'_>],
-    naming: Naming,
-) -> Result<Names<'e>, AllocError>
-    ensures { IfOk result (λ n. n ≡ map (name_by naming) (known entities.now)) }
+fn names_of<'e, 'r>(entities: &'e Entities<'r>, naming: Naming) -> &'e Names<'r>
+    ensures { result.now ≡ map (name_by naming) (known entities.now) }
 {
-    let mut names = Names::new(alloc);
-    for entity in entities {
-        names = names.with(alloc, SourceText::borrowed(name_of(entity, naming)))?;
+    match naming {
+        Naming::Plural => entities.plurals(),
+        Naming::Key => entities.keys(),
     }
-    Ok(names)
 }
 
 /// The place of the first entity of this name.
-fn place_among(entities: &[Entity<'_>], naming: Naming, name: &[u8]) -> Option<usize>
+fn place_among(entities: &[Entity<'_>], naming: Naming, name: &str) -> Option<usize>
     ensures { result ≡ place_in (λ k. bytes_eq k name.now) (map (name_by naming) (known entities.now)) }
 {
     for (place, entity) in entities.iter().enumerate() {
@@ -90,30 +84,27 @@ fn place_among(entities: &[Entity<'_>], naming: Naming, name: &[u8]) -> Option<u
 
 impl<'e, 'r> EntityNames<'e, 'r> {
     /// Those of these entities.
-    fn of(
-        alloc: Global,
-        entities: &'e [Entity<'r>],
-        naming: Naming,
-    ) -> Result<EntityNames<'e, 'r>, AllocError>
-        ensures { IfOk result (λ n. n ≡ map (name_by naming) (known entities.now)) }
+    fn of(entities: &'e Entities<'r>, naming: Naming) -> EntityNames<'e, 'r>
+        ensures { result ≡ map (name_by naming) (known entities.now) }
     {
-        let names = if entities.len() > FEW {
-            Some(names_of(alloc, entities, naming)?)
+        let items = entities.as_slice();
+        let names = if items.len() > FEW {
+            Some(names_of(entities, naming))
         } else {
             None
         };
-        Ok(EntityNames {
-            items: entities,
+        EntityNames {
+            items,
             naming,
             names,
-        })
+        }
     }
 
     /// The first place of a name.
-    fn place_of(&self, name: &[u8]) -> Option<usize>
+    fn place_of(&self, name: &str) -> Option<usize>
         ensures { result ≡ place_in (λ k. bytes_eq k name.now) self.now }
     {
-        match &self.names {
+        match self.names {
             Some(names) => names.place_of(name),
             None => place_among(self.items, self.naming, name),
         }
@@ -121,21 +112,18 @@ impl<'e, 'r> EntityNames<'e, 'r> {
 }
 
 /// The names under which inputs speak of these entities.
-pub fn titles_of<'e, 'r>(
-    alloc: Global,
-    entities: &'e [Entity<'r>],
-) -> Result<Titles<'e, 'r>, AllocError>
-    ensures { IfOk result (λ t. t ≡ spec.titles_of (known entities.now)) }
+pub fn titles_of<'e, 'r>(entities: &'e Entities<'r>) -> Titles<'e, 'r>
+    ensures { result ≡ spec.titles_of (known entities.now) }
 {
-    Ok(Titles {
-        plurals: EntityNames::of(alloc, entities, Naming::Plural)?,
-        keys: EntityNames::of(alloc, entities, Naming::Key)?,
-    })
+    Titles {
+        plurals: EntityNames::of(entities, Naming::Plural),
+        keys: EntityNames::of(entities, Naming::Key),
+    }
 }
 
 impl Titles<'_, '_> {
     /// The entity that a key names: by its plural, which stands for all its members, or by its key, which stands for the only one.
-    pub fn named(&self, key: &[u8]) -> Option<Named>
+    pub fn named(&self, key: &str) -> Option<Named>
         ensures { result ≡ spec.named self.now key.now }
     {
         if let Some(entity) = self.plurals.place_of(key) {

@@ -86,7 +86,7 @@ impl Line {
     pub fn cursor<'a, 't>(&'t self, text: &'a str) -> Cursor<'a, 't>
         ensures { result ≡ signs text.now self.now.tokens }
     {
-        Cursor::new(text.as_bytes(), self.tokens())
+        Cursor::new(text, self.tokens())
     }
 
     /// This fault on its first line.

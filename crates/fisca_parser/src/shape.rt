@@ -113,7 +113,7 @@ fn begun_by(word: &[u8], behind: &Cursor) -> Shape
 pub(crate) fn shape_of(text: &str, tokens: &[Token]) -> Shape
     ensures { result ≡ spec.shape_of (signs text.now tokens.now) }
 {
-    let mut cursor = Cursor::new(text.as_bytes(), tokens);
+    let mut cursor = Cursor::new(text, tokens);
     let Some(sign) = cursor.sign() else {
         return Shape::Other(FormulaKind::Syntax);
     };

@@ -2,7 +2,6 @@
 use Rattle.std.proofs.Common.{◌≡◌, ℕ, ◌*◌, List, [], ◌∷◌, ◌++◌, codes, refl}
 use Rattle.std.specs.Prelude.{true, false, Some, Result, Ok, Err, if◌then◌else◌, ◌==◌}
 use Rattle.std.specs.Fmt.{decimal}
-use Rattle.fisca_columns.specs.Shown.{shown}
 use Rattle.fisca_grid.specs.declared.condition.AxisComparison.{AxisComparison}
 use Rattle.fisca_grid.specs.declared.condition.AxisComparison.TheVariants.{AtLeast, AtMost, Equal, NotEqual, Above, Below}
 use Rattle.fisca_inputs.specs.Entries.{key}
@@ -106,7 +105,7 @@ first_fault = refl
 -- Rows
 
 whole : row [] (owns ∷ occupancy ∷ [])
-    ≡ Line ((((decimal 7 ++ (9 ∷ number_text one_number)) ++ codes "\ttrue") ++ (9 ∷ shown (codes "owner"))) ++ codes "\n")
+    ≡ Line ((((decimal 7 ++ (9 ∷ number_text one_number)) ++ codes "\ttrue") ++ (9 ∷ codes "owner")) ++ codes "\n")
 whole = refl
 
 no_column : row (if_is rent Above (v.Number zero_number) ∷ []) [] ≡ Line ((decimal 7 ++ (9 ∷ number_text one_number)) ++ codes "\n")

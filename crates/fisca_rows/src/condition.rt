@@ -105,9 +105,7 @@ fn constant_of(
         DeclaredType::Bool if is_of_order(comparison) => None,
         DeclaredType::Bool => Some(Value::Bool(bool_of(text)?)),
         DeclaredType::Enum(_) if is_of_order(comparison) => None,
-        DeclaredType::Enum(choices) => {
-            Some(Value::Member(tables.member_named(choices, text.as_bytes())?))
-        }
+        DeclaredType::Enum(choices) => { Some(Value::Member(tables.member_named(choices, text)?)) }
         DeclaredType::Date | DeclaredType::Text => None,
     }
 }

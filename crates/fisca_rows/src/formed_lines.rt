@@ -21,7 +21,6 @@ use std::alloc::{AllocError, Global};
 
 /// Appends the cells of the number of a position and of the inputs that axes move.
 pub(crate) fn write_front_cells(
-    alloc: Global,
     tables: &Tables<'_>,
     form: &LineForm,
     position: u64,
@@ -36,7 +35,7 @@ pub(crate) fn write_front_cells(
     for place in 0..moved.len() {
         let given = &moved[place];
         let (variable, value) = (given.variable, given.value);
-        write_value_cell(alloc, tables, form, place + 1, variable, value, room, line)?;
+        write_value_cell(tables, form, place + 1, variable, value, room, line)?;
     }
     Ok(())
 }
@@ -45,7 +44,6 @@ pub(crate) fn write_front_cells(
 ///
 /// `Eval` where a column has no value: the fault of the first. `Memory` only where memory was refused.
 fn write_column_cells<A: Answers>(
-    alloc: Global,
     tables: &Tables<'_>,
     form: &LineForm,
     first: usize,
@@ -67,16 +65,7 @@ fn write_column_cells<A: Answers>(
         let key = &columns[place];
         let variable = key.variable;
         let value = answers.value(*key)?;
-        let cell = write_value_cell(
-            alloc,
-            tables,
-            form,
-            first + place,
-            variable,
-            value,
-            room,
-            line,
-        );
+        let cell = write_value_cell(tables, form, first + place, variable, value, room, line);
         if cell.is_err() {
             return Err(RowFault::Memory);
         }
@@ -103,20 +92,11 @@ pub(crate) fn write_formed_line<A: Answers>(
 {
     let mut room = String::new(alloc);
     let (position, moved) = (asked.position, asked.moved);
-    if write_front_cells(alloc, tables, form, position, moved, &mut room, line).is_err() {
+    if write_front_cells(tables, form, position, moved, &mut room, line).is_err() {
         return Err(RowFault::Memory);
     }
     let first = moved.len() + 1;
-    write_column_cells(
-        alloc,
-        tables,
-        form,
-        first,
-        answers,
-        asked.columns,
-        &mut room,
-        line,
-    )?;
+    write_column_cells(tables, form, first, answers, asked.columns, &mut room, line)?;
     match form.write_end(line) {
         Ok(()) => Ok(Selection::Kept),
         Err(_) => Err(RowFault::Memory),

@@ -79,7 +79,6 @@ fn told_value<A: Answers<Fault = EvalFault>>(
 
 /// Appends the cell of a value, or of the word of the fault for which there is none, as the cell at a place of the line.
 fn write_told_cell(
-    alloc: Global,
     tables: &Tables<'_>,
     form: &LineForm,
     place: usize,
@@ -91,7 +90,7 @@ fn write_told_cell(
     ensures { OnOk result (string_bytes line.new ≡ string_bytes line.old ++ (before_cell form.now.format place ++ cell_in form.now.format (name_at form.now.names place) (told_cell (known tables.now) form.now.decimals variable told))) }
 {
     match told {
-        Ok(value) => write_value_cell(alloc, tables, form, place, variable, value, room, line),
+        Ok(value) => write_value_cell(tables, form, place, variable, value, room, line),
         Err(fault) => form.write_cell(place, false, fault.name(), line),
     }
 }
@@ -99,7 +98,6 @@ fn write_told_cell(
 /// Appends the cells of columns, in order, from a place of the line on. Each column is worked out once. `lacks` is set where one has no value. The
 /// error is want of memory alone.
 fn write_told_cells<A: Answers<Fault = EvalFault>>(
-    alloc: Global,
     tables: &Tables<'_>,
     form: &LineForm,
     first: usize,
@@ -124,7 +122,7 @@ fn write_told_cells<A: Answers<Fault = EvalFault>>(
         let variable = key.variable;
         let told = told_value(answers, *key, lacks)?;
         let at = first + place;
-        write_told_cell(alloc, tables, form, at, variable, told, room, line)?;
+        write_told_cell(tables, form, at, variable, told, room, line)?;
     }
     Ok(())
 }
@@ -187,10 +185,10 @@ fn write_told_line<A: Answers<Fault = EvalFault>>(
 {
     let mut room = String::new(alloc);
     let (position, moved, columns) = (asked.position, asked.moved, asked.columns);
-    write_front_cells(alloc, tables, form, position, moved, &mut room, line)?;
+    write_front_cells(tables, form, position, moved, &mut room, line)?;
     let first = moved.len() + 1;
     write_told_cells(
-        alloc, tables, form, first, answers, columns, lacks, &mut room, line,
+        tables, form, first, answers, columns, lacks, &mut room, line,
     )?;
     if form.write_end(line).is_err() {
         return Err(AllocError);
@@ -212,7 +210,7 @@ fn write_word_line(
 {
     let mut room = String::new(alloc);
     let (position, moved, columns) = (asked.position, asked.moved, asked.columns);
-    write_front_cells(alloc, tables, form, position, moved, &mut room, line)?;
+    write_front_cells(tables, form, position, moved, &mut room, line)?;
     write_word_cells(form, moved.len() + 1, columns.len(), word, line)?;
     form.write_end(line)
 }

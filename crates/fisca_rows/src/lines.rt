@@ -14,11 +14,10 @@ use fisca_model::{Key, Value};
 use fisca_situations::Answers;
 use fisca_symbols::Tables;
 use fisca_writer::RowFault;
-use std::alloc::{AllocError, Global};
+use std::alloc::AllocError;
 
 /// Appends a tab and the value of the variable at a place.
 fn write_cell(
-    alloc: Global,
     tables: &Tables<'_>,
     variable: usize,
     value: Value,
@@ -27,20 +26,15 @@ fn write_cell(
     ensures { OnOk result (string_bytes line.new ≡ string_bytes line.old ++ spec.cell (known tables.now) variable value) }
 {
     line.push('\t')?;
-    write_value(alloc, tables, variable, value, line)
+    write_value(tables, variable, value, line)
 }
 
 /// Appends the cells of inputs.
-fn write_moved(
-    alloc: Global,
-    tables: &Tables<'_>,
-    moved: &[Given],
-    line: &mut String,
-) -> Result<(), AllocError>
+fn write_moved(tables: &Tables<'_>, moved: &[Given], line: &mut String) -> Result<(), AllocError>
     ensures { OnOk result (string_bytes line.new ≡ spec.with_moved (known tables.now) moved.now (string_bytes line.old)) }
 {
     for given in moved {
-        write_cell(alloc, tables, given.variable, given.value, line)?;
+        write_cell(tables, given.variable, given.value, line)?;
     }
     Ok(())
 }
@@ -54,7 +48,6 @@ fn write_position(position: u64, line: &mut String) -> Result<(), AllocError>
 
 /// Appends the number of a position and the cells of the inputs that axes move, to an empty line.
 pub(crate) fn write_front(
-    alloc: Global,
     tables: &Tables<'_>,
     position: u64,
     moved: &[Given],
@@ -64,14 +57,13 @@ pub(crate) fn write_front(
     ensures { OnOk result (string_bytes line.new ≡ spec.front_of (known tables.now) position moved.now) }
 {
     write_position(position, line)?;
-    write_moved(alloc, tables, moved, line)
+    write_moved(tables, moved, line)
 }
 
 /// Appends the cells of columns, in order. Each column is worked out once, up to the first that has no value.
 ///
 /// `Eval` where a column has no value: the fault of the first. `Memory` only where memory was refused.
 pub(crate) fn write_columns<A: Answers>(
-    alloc: Global,
     tables: &Tables<'_>,
     answers: &mut A,
     columns: &[Key],
@@ -86,7 +78,7 @@ pub(crate) fn write_columns<A: Answers>(
 {
     for key in columns {
         let value = answers.value(*key)?;
-        if write_cell(alloc, tables, key.variable, value, line).is_err() {
+        if write_cell(tables, key.variable, value, line).is_err() {
             return Err(RowFault::Memory);
         }
     }

@@ -36,7 +36,6 @@ pub struct Asked<'a> {
 
 /// Appends the whole line of a position to an empty line. Of the conditions nothing is asked.
 pub(crate) fn write_line<A: Answers>(
-    alloc: Global,
     tables: &Tables<'_>,
     asked: &Asked<'_>,
     answers: &mut A,
@@ -50,10 +49,10 @@ pub(crate) fn write_line<A: Answers>(
     ensures same_answers { A.answer answers.new ≡ A.answer answers.old }
     ensures same_members { A.members answers.new ≡ A.members answers.old }
 {
-    if write_front(alloc, tables, asked.position, asked.moved, line).is_err() {
+    if write_front(tables, asked.position, asked.moved, line).is_err() {
         return Err(RowFault::Memory);
     }
-    write_columns(alloc, tables, answers, asked.columns, line)?;
+    write_columns(tables, answers, asked.columns, line)?;
     match line.push('\n') {
         Ok(()) => Ok(Selection::Kept),
         Err(_) => Err(RowFault::Memory),
@@ -79,7 +78,7 @@ pub fn write_line_in<A: Answers>(
     ensures same_members { A.members answers.new ≡ A.members answers.old }
 {
     match form {
-        None => write_line(alloc, tables, asked, answers, line),
+        None => write_line(tables, asked, answers, line),
         Some(form) => write_formed_line(alloc, tables, form, asked, answers, line),
     }
 }

@@ -2,7 +2,6 @@
 -- each. A line has eight cells, all of them texts.
 use Rattle.std.specs.Prelude.{ℕ, ◌+◌, List, [], ◌∷◌, ◌++◌, map, codes, slice_get, Option, Some, None}
 use Rattle.std.specs.Fmt.{decimal}
-use Rattle.std.specs.Str.Lossy.{utf8_lossy}
 use Rattle.std.specs.declared.convert.Infallible.{Infallible}
 use Rattle.fisca_declarations.specs.VariableForms.{Written}
 use Rattle.fisca_folder.specs.Shown.{shown}
@@ -25,24 +24,20 @@ abbrev pub list_names : List (List ℕ)
 list_names =
     codes "variable" ∷ codes "entity" ∷ codes "value_type" ∷ codes "definition_period" ∷ codes "formulas" ∷ codes "unit" ∷ codes "label" ∷ codes "declared" ∷ []
 
--- a text of a module, in one line
-abbrev pub text_of : List ℕ → List ℕ
-text_of t = shown (utf8_lossy t)
-
--- what is told of a variable, and nothing where nothing is told
+-- what is told of a variable, in one line, and nothing where nothing is told
 abbrev pub text_told : Option (List ℕ) → List ℕ
 text_told None = []
-text_told (Some t) = text_of t
+text_told (Some t) = shown t
 
 -- an entity by its key
 abbrev pub entity_text : Option Entity → List ℕ
 entity_text None = []
-entity_text (Some e) = text_of e.key
+entity_text (Some e) = shown e.key
 
 -- an Enum by its name
 abbrev pub enum_text : Option Choices → List ℕ
 enum_text None = []
-enum_text (Some e) = text_of e.name
+enum_text (Some e) = shown e.name
 
 -- a type as modules write it, but an Enum by its own name
 abbrev pub type_text : List Choices → DeclaredType → List ℕ
@@ -92,7 +87,7 @@ texts_declared modules (Some d) = text_told d.unit ∷ text_told d.label ∷ pla
 -- the cells of the variable at a place
 abbrev pub texts_of : List Source → Rules → ℕ → Variable → List (List ℕ)
 texts_of modules r place v =
-    text_of v.name ∷ entity_text (slice_get r.entities v.entity) ∷ type_text r.enums v.value_type ∷ period_text v.definition_period
+    shown v.name ∷ entity_text (slice_get r.entities v.entity) ∷ type_text r.enums v.value_type ∷ period_text v.definition_period
     ∷ formulas_text (formulas_in (slice_get r.formulas place)) ∷ texts_declared modules (slice_get r.declarations place)
 
 -- its line

@@ -65,7 +65,7 @@ fn texts_of(
     ensures { IfOk result (λ texts. map (λ t. string_bytes t) texts.items ≡ spec.texts_of (map (λ f. f.now) modules.now) (rule_set rules.now) place variable.now) }
 {
     let mut texts = Vec::new(alloc);
-    texts.push(text_of(alloc, variable.name.as_bytes())?)?;
+    texts.push(text_of(alloc, variable.name.as_str())?)?;
     texts.push(entity_text(alloc, rules, variable.entity)?)?;
     texts.push(type_text(alloc, rules, variable.value_type)?)?;
     texts.push(period_text(alloc, variable.definition_period)?)?;

@@ -25,4 +25,4 @@ pub use parameter_files::{
 };
 pub use refusal::{Refusal, Unanswered};
 pub use rule_files::rules_of;
-pub use texts::{text_of, text_told, write_source};
+pub use texts::{text_of, text_told};

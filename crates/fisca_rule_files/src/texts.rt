@@ -2,6 +2,7 @@
 
 ghost use Rattle.std.specs.Prelude.{◌≡◌, ◌++◌, IfOk, OnOk, map, option_map, slice_get, string_bytes};
 ghost use Rattle.fisca_declarations.specs.VariableForms.{written};
+ghost use Rattle.fisca_folder.specs.Shown.{shown};
 ghost use Rattle.fisca_rule_files.specs.Listing as spec;
 ghost use Rattle.fisca_rules.specs.Views.{dated, rule_set};
 
@@ -14,26 +15,12 @@ use fisca_symbols::{DeclaredType, SourceText};
 use fisca_time::Unit;
 use std::alloc::{AllocError, Global};
 
-/// Appends a text of a module, in one line: a byte that is no UTF-8 as U+FFFD, and what would move a cursor as `write_shown` does.
-/// `AllocError` only where no memory is left.
-pub fn write_source(alloc: Global, bytes: &[u8], text: &mut String) -> Result<(), AllocError>
-    ensures { OnOk result (string_bytes text.new ≡ string_bytes text.old ++ spec.text_of bytes.now) }
-{
-    match str::from_utf8(bytes) {
-        Ok(whole) => write_shown(whole, text),
-        Err(_) => {
-            let whole = String::from_utf8_lossy(alloc, bytes)?;
-            write_shown(whole.as_str(), text)
-        }
-    }
-}
-
-/// A text of a module, in one line, as `write_source` has it. `AllocError` only where no memory is left.
-pub fn text_of(alloc: Global, bytes: &[u8]) -> Result<String, AllocError>
-    ensures { IfOk result (λ text. string_bytes text ≡ spec.text_of bytes.now) }
+/// A text of a module, in one line, as `write_shown` has it. `AllocError` only where no memory is left.
+pub fn text_of(alloc: Global, said: &str) -> Result<String, AllocError>
+    ensures { IfOk result (λ text. string_bytes text ≡ shown said.now) }
 {
     let mut text = String::new(alloc);
-    write_source(alloc, bytes, &mut text)?;
+    write_shown(said, &mut text)?;
     Ok(text)
 }
 
@@ -42,7 +29,7 @@ pub fn text_told(alloc: Global, told: &Option<SourceText<'_>>) -> Result<String,
     ensures { IfOk result (λ text. string_bytes text ≡ spec.text_told told.now) }
 {
     match told {
-        Some(said) => text_of(alloc, said.as_bytes()),
+        Some(said) => text_of(alloc, said.as_str()),
         None => Ok(String::new(alloc)),
     }
 }
@@ -56,7 +43,7 @@ pub(crate) fn entity_text(
     ensures { IfOk result (λ text. string_bytes text ≡ spec.entity_text (slice_get (rule_set rules.now).entities place)) }
 {
     match rules.entities().get(place) {
-        Some(entity) => text_of(alloc, entity.key.as_bytes()),
+        Some(entity) => text_of(alloc, entity.key.as_str()),
         None => Ok(String::new(alloc)),
     }
 }
@@ -66,7 +53,7 @@ fn enum_text(alloc: Global, rules: &RuleSet<'_>, place: usize) -> Result<String,
     ensures { IfOk result (λ text. string_bytes text ≡ spec.enum_text (slice_get (rule_set rules.now).enums place)) }
 {
     match rules.enums().get(place) {
-        Some(choices) => text_of(alloc, choices.name.as_bytes()),
+        Some(choices) => text_of(alloc, choices.name.as_str()),
         None => Ok(String::new(alloc)),
     }
 }

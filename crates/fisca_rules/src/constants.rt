@@ -23,7 +23,7 @@ fn with_constant<'a>(
 {
     match statement {
         Statement::Entity(written) => {
-            constants.with(alloc, SourceText::borrowed(written.name.as_bytes()))
+            constants.with(alloc, SourceText::borrowed(written.name.as_str()))
         }
         Statement::Entities(_) | Statement::Enum(_) | Statement::Variable(_) => Ok(constants),
     }

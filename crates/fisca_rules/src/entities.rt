@@ -14,7 +14,7 @@ use fisca_attributes::items_of;
 use fisca_declarations::Declared;
 
 /// Whether this is the constant of an entity.
-fn is_constant(declared: &Declared<'_>, name: &[u8]) -> bool
+fn is_constant(declared: &Declared<'_>, name: &str) -> bool
     ensures { result ≡ is_among declared.now.constants name.now }
 {
     declared.constants.contains(name)
@@ -25,7 +25,7 @@ fn is_entity(declared: &Declared<'_>, value: &Expr<'_>) -> bool
     ensures { result ≡ spec.names_known declared.now (unwrapped (tree value.now)) }
 {
     match bare(value) {
-        Expr::Name(name) => is_constant(declared, name.as_bytes()),
+        Expr::Name(name) => is_constant(declared, name.as_str()),
         Expr::Number(_)
         | Expr::Text(_)
         | Expr::Bracketed(_, _)

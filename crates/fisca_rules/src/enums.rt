@@ -55,8 +55,8 @@ fn with_member<'a>(
     if is_order(member) {
         return Ok(found);
     }
-    let name = SourceText::borrowed(member.name.as_bytes());
-    let text = SourceText::owned(content(alloc, member.text.as_bytes())?);
+    let name = SourceText::borrowed(member.name.as_str());
+    let text = SourceText::owned(content(alloc, member.text.as_str())?);
     found.push((name, text)).map_err(AllocError::from)?;
     Ok(found)
 }
@@ -81,7 +81,7 @@ fn choices_of<'a>(alloc: Global, class: &EnumClass<'a>) -> Result<Choices<'a>, A
 {
     let members = members_of(alloc, class.members.as_slice())?;
     Ok(Choices {
-        name: SourceText::borrowed(class.name.as_bytes()),
+        name: SourceText::borrowed(class.name.as_str()),
         members: EnumMembers::new(alloc, members)?,
     })
 }

@@ -92,7 +92,7 @@ pub(crate) fn variable_in<'a>(
 {
     let (types, said) = items_read(alloc, declared, place, class.items.as_slice())?;
     let VariableClass { line, name, items } = class;
-    let named = SourceText::borrowed(name.as_bytes());
+    let named = SourceText::borrowed(name.as_str());
     match variable_of(alloc, place, line, named, types, said, items) {
         Ok(made) => Ok(made),
         Err(kind) => Err(fault_at(place, line, kind)),

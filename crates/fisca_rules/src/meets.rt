@@ -15,7 +15,7 @@ fn title_is_variable<'a>(
     alloc: Global,
     titles: &mut IndexSet<Within<'a>>,
     variables: &IndexSet<Within<'a>>,
-    constant: &'a [u8],
+    constant: &'a str,
     title: &SourceText<'a>,
 ) -> Result<bool, AllocError>
     ensures { IfOk result (NotesTitles (contains same_within variables.now)
@@ -37,7 +37,7 @@ fn role_is_variable<'a>(
     alloc: Global,
     titles: &mut IndexSet<Within<'a>>,
     variables: &IndexSet<Within<'a>>,
-    constant: &'a [u8],
+    constant: &'a str,
     role: &Role<'a>,
 ) -> Result<bool, AllocError>
     ensures { IfOk result (NotesTitles (contains same_within variables.now)
@@ -57,7 +57,7 @@ pub(crate) fn some_is_variable<'a>(
     alloc: Global,
     titles: &mut IndexSet<Within<'a>>,
     variables: &IndexSet<Within<'a>>,
-    constant: &'a [u8],
+    constant: &'a str,
     roles: &[Role<'a>],
 ) -> Result<bool, AllocError>
     ensures { IfOk result (NotesTitles (contains same_within variables.now)

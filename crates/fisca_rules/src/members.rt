@@ -18,10 +18,10 @@ pub(crate) fn repeated_member(
 {
     let mut names = IndexSet::new(alloc);
     for member in members {
-        let name = member.name.as_bytes();
-        if name == b"__order__".as_slice() {
+        if member.name.as_bytes() == b"__order__".as_slice() {
             continue;
         }
+        let name = member.name.as_str();
         if comes_again(&mut names, SourceText::borrowed(name))? {
             return Ok(Some(member.line));
         }

@@ -93,7 +93,7 @@ impl<'a> RuleSet<'a> {
     pub fn variable(&self, name: &str) -> Option<usize>
         ensures { result ≡ variable_named (rule_set self.now) name.now }
     {
-        match self.tables.variables.of_name(name.as_bytes()) {
+        match self.tables.variables.of_name(name) {
             Some((place, _)) => Some(place),
             None => None,
         }

@@ -72,7 +72,7 @@ impl<'a> Seen<'a> {
         ensures { IfOk result (Notes self.old self.new (entity (assigned written.now))) }
     {
         let Built { names, roles } = built_by(alloc, written)?;
-        let constant = written.name.as_bytes();
+        let constant = written.name.as_str();
         if entity_comes_again(&mut self.names, SourceText::borrowed(constant), names)? {
             return Ok(true);
         }
@@ -92,7 +92,7 @@ impl<'a> Seen<'a> {
     fn variable_clashes(&mut self, class: &VariableClass<'a>) -> Result<bool, AllocError>
         ensures { IfOk result (Notes self.old self.new (variable class.now.line class.now.name (map item class.now.items.items))) }
     {
-        let name = class.name.as_bytes();
+        let name = class.name.as_str();
         if comes_again(&mut self.names, SourceText::borrowed(name))? {
             return Ok(true);
         }
@@ -118,7 +118,7 @@ impl<'a> Seen<'a> {
     ) -> Result<Option<usize>, AllocError>
         ensures { IfOk result (TellsOne self.old self.new (choices class.now.line class.now.name class.now.members.items)) }
     {
-        if comes_again(&mut self.names, SourceText::borrowed(class.name.as_bytes()))? {
+        if comes_again(&mut self.names, SourceText::borrowed(class.name.as_str()))? {
             return Ok(Some(class.line));
         }
         repeated_member(alloc, class.members.as_slice())

@@ -29,7 +29,7 @@ impl<'r> Titles<'r> {
     }
 
     /// Notes a key, and says whether it came before, perhaps in other case.
-    fn key_comes_again(&mut self, alloc: Global, key: &'r [u8]) -> Result<bool, AllocError>
+    fn key_comes_again(&mut self, alloc: Global, key: &'r str) -> Result<bool, AllocError>
         ensures { IfOk result (NotesOne self.old self.new (subrole key.now)) }
     {
         let capitals = SourceText::owned(key.to_ascii_uppercase(alloc)?);
@@ -48,7 +48,7 @@ impl<'r> Titles<'r> {
         ensures { IfOk result (Notes self.old self.new (map subrole keys.now)) }
     {
         for key in keys {
-            if self.key_comes_again(alloc, key.as_bytes())? {
+            if self.key_comes_again(alloc, key.as_str())? {
                 return Ok(true);
             }
         }
@@ -59,17 +59,17 @@ impl<'r> Titles<'r> {
     fn title_comes_again(&mut self, alloc: Global, role: &'r Role<'_>) -> Result<bool, AllocError>
         ensures { IfOk result (NotesOne self.old self.new (whole role.now)) }
     {
-        let key = role.key.as_bytes();
+        let key = role.key.as_str();
         if self.key_comes_again(alloc, key)? {
             return Ok(true);
         }
         let Some(plural) = &role.plural else {
             return Ok(false);
         };
-        if plural.as_bytes() == key {
+        if plural.as_str() == key {
             return Ok(false);
         }
-        comes_again(&mut self.texts, SourceText::borrowed(plural.as_bytes()))
+        comes_again(&mut self.texts, SourceText::borrowed(plural.as_str()))
     }
 
     /// Notes a role, and says whether a key or a plural came before.

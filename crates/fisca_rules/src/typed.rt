@@ -16,7 +16,7 @@ use crate::BuildFault;
 use crate::dated::DatedFormula;
 use crate::formulas::TypedFormulas;
 use fisca_ast::{ClassLine, Formula};
-use fisca_check::{FormulaRefusal, FormulaScope, TypedFormula as Typed, formula_of};
+use fisca_check::{FormulaRefusal, FormulaScope, Rows, TypedFormula as Typed, formula_of};
 use fisca_check_calls::Locals;
 use fisca_declarations::Declaration;
 use fisca_model::ValueType;
@@ -75,12 +75,22 @@ fn typed<'n, 'a>(
     variable: &'n Variable<'a>,
     value_type: ValueType,
     formula: &'n Formula<'a>,
+    rows: &mut Rows,
 ) -> Result<Typed, FormulaRefusal>
-    ensures { TellsPlace seen (typing.formula_of (steps.names_for (known tables.now) variable.now.entity (formula_view formula.now)) value_type (map spec.assigned_of (formula_view formula.now).locals) (formula_view formula.now).returned.value) result }
+    requires { rows.old ≡ known tables.now }
+    ensures formula { TellsPlace seen (typing.formula_of (steps.names_for (known tables.now) variable.now.entity (formula_view formula.now)) value_type (map spec.assigned_of (formula_view formula.now).locals) (formula_view formula.now).returned.value) result }
+    ensures same { rows.new ≡ rows.old }
 {
     let names = names_for(alloc, tables, variable, formula);
     let locals = formula.locals.as_slice();
-    formula_of(alloc, names, value_type, locals, &formula.returned.value)
+    formula_of(
+        alloc,
+        names,
+        value_type,
+        locals,
+        &formula.returned.value,
+        rows,
+    )
 }
 
 /// The same, of the module at a place, with the day from which on it is in force.
@@ -91,10 +101,13 @@ fn dated_of<'n, 'a>(
     place: usize,
     value_type: ValueType,
     formula: &'n Formula<'a>,
+    rows: &mut Rows,
 ) -> Result<DatedFormula, BuildFault>
-    ensures { Tells dated (steps.dated_of (known tables.now) place variable.now.entity value_type (formula_view formula.now)) result }
+    requires { rows.old ≡ known tables.now }
+    ensures formula { Tells dated (steps.dated_of (known tables.now) place variable.now.entity value_type (formula_view formula.now)) result }
+    ensures same { rows.new ≡ rows.old }
 {
-    match typed(alloc, tables, variable, value_type, formula) {
+    match typed(alloc, tables, variable, value_type, formula, rows) {
         Ok(made) => Ok(DatedFormula {
             start: formula.start,
             formula: made,
@@ -123,8 +136,11 @@ fn formulas_by<'n, 'a>(
     variable: &'n Variable<'a>,
     declaration: &'n Declaration<'a>,
     value_type: ValueType,
+    rows: &mut Rows,
 ) -> Result<Vec<DatedFormula>, BuildFault>
-    ensures { Tells (λ fs. map dated fs.items) (steps.formulas_by (known tables.now) variable.now.entity (written declaration.now) (Some value_type)) result }
+    requires { rows.old ≡ known tables.now }
+    ensures formulas { Tells (λ fs. map dated fs.items) (steps.formulas_by (known tables.now) variable.now.entity (written declaration.now) (Some value_type)) result }
+    ensures same { rows.new ≡ rows.old }
 {
     let mut made = Vec::new(alloc);
     for line in declaration.formulas.lines() {
@@ -139,6 +155,7 @@ fn formulas_by<'n, 'a>(
                         declaration.module,
                         value_type,
                         formula,
+                        rows,
                     )?,
                 )?;
             }
@@ -155,10 +172,13 @@ fn formulas_made<'n, 'a>(
     variable: &'n Variable<'a>,
     declaration: &'n Declaration<'a>,
     value_type: ValueType,
+    rows: &mut Rows,
 ) -> Result<TypedFormulas, BuildFault>
-    ensures { Tells (λ fs. map dated fs.items.items) (steps.formulas_by (known tables.now) variable.now.entity (written declaration.now) (Some value_type)) result }
+    requires { rows.old ≡ known tables.now }
+    ensures formulas { Tells (λ fs. map dated fs.items.items) (steps.formulas_by (known tables.now) variable.now.entity (written declaration.now) (Some value_type)) result }
+    ensures same { rows.new ≡ rows.old }
 {
-    let made = formulas_by(alloc, tables, variable, declaration, value_type)?;
+    let made = formulas_by(alloc, tables, variable, declaration, value_type, rows)?;
     Ok(TypedFormulas::of(alloc, made)?)
 }
 
@@ -180,11 +200,14 @@ fn formulas_of<'n, 'a>(
     tables: &'n Tables<'a>,
     variable: &'n Variable<'a>,
     declaration: &'n Declaration<'a>,
+    rows: &mut Rows,
 ) -> Result<TypedFormulas, BuildFault>
-    ensures { Tells (λ fs. map dated fs.items.items) (steps.formulas_of (known tables.now) (variable.now, written declaration.now)) result }
+    requires { rows.old ≡ known tables.now }
+    ensures formulas { Tells (λ fs. map dated fs.items.items) (steps.formulas_of (known tables.now) (variable.now, written declaration.now)) result }
+    ensures same { rows.new ≡ rows.old }
 {
     match type_in_formulas(variable.value_type) {
-        Some(value_type) => formulas_made(alloc, tables, variable, declaration, value_type),
+        Some(value_type) => formulas_made(alloc, tables, variable, declaration, value_type, rows),
         None => Ok(TypedFormulas::none(alloc)),
     }
 }
@@ -200,8 +223,9 @@ pub(crate) fn formulas_of_all<'n, 'a>(
 {
     let variables = tables.variables.as_slice();
     let mut made = Vec::with_capacity(alloc, variables.len())?;
+    let mut rows = Rows::new(alloc, tables);
     for (variable, declaration) in variables.iter().zip(declarations) {
-        made.push(formulas_of(alloc, tables, variable, declaration)?)?;
+        made.push(formulas_of(alloc, tables, variable, declaration, &mut rows)?)?;
     }
     Ok(made)
 }

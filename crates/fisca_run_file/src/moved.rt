@@ -50,7 +50,7 @@ impl MovedInputs {
 fn variable_of(tables: &Tables<'_>, name: &str) -> Option<usize>
     ensures { result ≡ naming.variable_of tables.now name.now }
 {
-    match tables.variable_named(name.as_bytes()) {
+    match tables.variable_named(name) {
         Some((place, _)) => Some(place),
         None => None,
     }

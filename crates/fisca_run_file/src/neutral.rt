@@ -14,7 +14,7 @@ use std::alloc::{AllocError, Global};
 fn neutral_of(tables: &Tables<'_>, name: &str) -> Option<usize>
     ensures { result ≡ spec.neutral_of tables.now name.now }
 {
-    let (place, declared) = tables.variable_named(name.as_bytes())?;
+    let (place, declared) = tables.variable_named(name)?;
     match declared.value_type {
         DeclaredType::Float | DeclaredType::Int | DeclaredType::Bool | DeclaredType::Enum(_) => {
             Some(place)

@@ -13,7 +13,7 @@ use Rattle.fisca_simulation.specs.NotedFormulas.{at_start, parameter_at, scale_a
 use Rattle.fisca_simulation.specs.Noted.{Noted, behind}
 use Rattle.fisca_simulation.specs.declared.follower.Follower.{Follower}
 
-seen : (p : Parameter) → parametric p ≡ record { indices = indices (out-Parameter p).indices.items; places = (out-Parameter p).places.items; moves = (out-Parameter p).moves.items }
+seen : (p : Parameter) → parametric p ≡ record { indices = indices (out-Parameter p).indices.items; places = (out-Parameter p).places.value.items; moves = (out-Parameter p).moves.items }
 seen p = search (the_lemmas, rules)
 
 -- a parameter on a day

@@ -61,7 +61,7 @@ fn input_told<'t, 'a>(
 ) -> Result<Input<'t, 'a>, SituationFault>
     ensures { Tells input_view (spec.told (input_spec (titles_spec (known tables.now).entities) line (node tree.now))) result }
 {
-    let titles = titles_of(alloc, tables.entities.as_slice())?;
+    let titles = titles_of(&tables.entities);
     match input_of(alloc, &titles, line, tree) {
         Ok(input) => Ok(input),
         Err(fault) => Err(fault_of(fault)),

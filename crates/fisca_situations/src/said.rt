@@ -75,7 +75,7 @@ fn member_in(tables: &Tables<'_>, choices: usize, tree: &Tree<'_>) -> Option<usi
     ensures { result ≡ steps.member_in (known tables.now) choices (node tree.now) }
 {
     let name = tree.as_text()?;
-    tables.member_named(choices, name.as_bytes())
+    tables.member_named(choices, name)
 }
 
 /// Whether a text is a day.

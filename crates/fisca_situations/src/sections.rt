@@ -14,7 +14,7 @@ use crate::given_inputs::GivenInputs;
 use crate::variables::member_given;
 use fisca_inputs::{SituationFault, SituationKind};
 use fisca_members::{Input, RoleTable, Section};
-use fisca_symbols::{Entity, Role, Tables};
+use fisca_symbols::{Entity, Roles, Tables};
 use fisca_time::Period;
 use fisca_yaml::{Entry, Tree};
 use std::alloc::Global;
@@ -86,16 +86,15 @@ fn members_given(
 /// The inputs so far and what is said in a section of an entity with these roles.
 #[tactic(auto, unfolding(crate::specs::Steps::Reading::section_by))]
 fn section_by(
-    alloc: Global,
     tables: &Tables<'_>,
     default: Option<Period>,
     given: GivenInputs,
     section: &Section<'_, '_>,
-    roles: &[Role<'_>],
+    roles: &Roles<'_>,
 ) -> Result<GivenInputs, SituationFault>
     ensures { Tells (λ g. g) (spec.section_by tables.now default given (section_view section.now) (known_roles roles.now)) result }
 {
-    let table = RoleTable::new(alloc, roles)?;
+    let table = RoleTable::new(roles);
     let entity = section.named.entity;
     if !section.named.is_plural {
         return member_below(
@@ -127,7 +126,6 @@ fn entity_at<'e, 'r>(entities: &'e [Entity<'r>], place: usize) -> Option<&'e Ent
 /// The inputs so far and what is said in a section.
 #[tactic(auto, unfolding(crate::specs::Steps::Reading::section_given))]
 fn section_given(
-    alloc: Global,
     tables: &Tables<'_>,
     default: Option<Period>,
     given: GivenInputs,
@@ -138,19 +136,11 @@ fn section_given(
     let Some(entity) = entity_at(tables.entities.as_slice(), section.named.entity) else {
         return Ok(given);
     };
-    section_by(
-        alloc,
-        tables,
-        default,
-        given,
-        section,
-        entity.roles.as_slice(),
-    )
+    section_by(tables, default, given, section, &entity.roles)
 }
 
 /// The inputs so far and what is said in sections, from top to bottom.
 fn sections_given(
-    alloc: Global,
     tables: &Tables<'_>,
     default: &Option<Period>,
     given: GivenInputs,
@@ -160,7 +150,7 @@ fn sections_given(
 {
     let mut found = given;
     for section in sections {
-        found = section_given(alloc, tables, *default, found, section)?;
+        found = section_given(tables, *default, found, section)?;
     }
     Ok(found)
 }
@@ -175,7 +165,7 @@ fn alone_given(
     ensures { Tells (λ g. g) (spec.member_given tables.now default None 0 [] [] (entries_in (node tree.now))) result }
 {
     let given = GivenInputs::new(alloc);
-    let none = RoleTable::new(alloc, &[])?;
+    let none = RoleTable::none();
     match tree {
         Tree::Map(entries) => {
             member_given(tables, &default, None, 0, &none, given, entries.as_slice())
@@ -197,13 +187,8 @@ pub(crate) fn inputs_given(
     match input {
         Input::OnePerson(tree) => alone_given(alloc, tables, default, tree),
         Input::Sections(sections) => {
-            sections_given(
-                alloc,
-                tables,
-                &default,
-                GivenInputs::new(alloc),
-                sections.as_slice(),
-            )
+            let none = GivenInputs::new(alloc);
+            sections_given(tables, &default, none, sections.as_slice())
         }
     }
 }

@@ -70,7 +70,7 @@ impl Situation {
     }
 
     /// The name of a member of the entity at a place, if there is such a member.
-    pub fn name(&self, entity: usize, member: u32) -> Option<&[u8]>
+    pub fn name(&self, entity: usize, member: u32) -> Option<&str>
         ensures { option_map (λ t. t.now) result ≡ name_at (situation self.now).members entity member }
     {
         self.members.name(entity, member)

@@ -25,7 +25,7 @@ fn has_variable(entity: Option<usize>, variable: &Variable<'_>) -> bool
 }
 
 /// The place of the variable that a key names.
-fn variable_of(tables: &Tables<'_>, key: &[u8]) -> Option<usize>
+fn variable_of(tables: &Tables<'_>, key: &str) -> Option<usize>
     ensures { result ≡ spec.variable_of tables.now key.now }
 {
     match tables.variable_named(key) {
@@ -78,7 +78,7 @@ fn entry_given(
 ) -> Result<GivenInputs, SituationFault>
     ensures { Tells (λ g. g) (spec.entry_given tables.now default entity member roles.now given entry.now.key entry.now.line (node entry.now.value)) result }
 {
-    let key = entry.key.as_str().as_bytes();
+    let key = entry.key.as_str();
     if roles.of_name(key).is_some() {
         return Ok(given);
     }

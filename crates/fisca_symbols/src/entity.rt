@@ -1,12 +1,13 @@
 //! Entities: persons and groups of them.
 
-ghost use Rattle.std.specs.Prelude.{◌≡◌, ℕ, List, IfOk};
+ghost use Rattle.std.specs.Prelude.{◌≡◌, ℕ, List, map, IfOk};
 ghost use Rattle.std.specs.Str.{bytes_eq};
 ghost use Rattle.fisca_symbols.specs.KnownEntities.{entities};
 ghost use Rattle.fisca_model.specs.Tables.{place_in, is_group_of, is_person};
 ghost use Rattle.indexmap.specs.IndexMap.{get};
 
 use crate::index::note;
+use crate::names::Names;
 use crate::roles::Roles;
 use crate::text::SourceText;
 use indexmap::IndexMap;
@@ -61,6 +62,28 @@ pub(crate) fn places_of_groups<'a>(
         }
     }
     Ok(places)
+}
+
+/// The plural of each entity.
+pub(crate) fn plurals_of<'a>(alloc: Global, items: &[Entity<'a>]) -> Result<Names<'a>, AllocError>
+    ensures { IfOk result (λ n. n ≡ map (λ e. e.plural) (entities items.now)) }
+{
+    let mut names = Names::new(alloc);
+    for item in items {
+        names = names.with(alloc, item.plural.copied(alloc)?)?;
+    }
+    Ok(names)
+}
+
+/// The key of each entity.
+pub(crate) fn keys_of<'a>(alloc: Global, items: &[Entity<'a>]) -> Result<Names<'a>, AllocError>
+    ensures { IfOk result (λ n. n ≡ map (λ e. e.key) (entities items.now)) }
+{
+    let mut names = Names::new(alloc);
+    for item in items {
+        names = names.with(alloc, item.key.copied(alloc)?)?;
+    }
+    Ok(names)
 }
 
 /// The place of the first entity of persons.

@@ -47,7 +47,7 @@ impl<'a> Enums<'a> {
     }
 
     /// The place of the first Enum of this name.
-    pub fn of_name(&self, name: &[u8]) -> Option<usize>
+    pub fn of_name(&self, name: &str) -> Option<usize>
         ensures { result ≡ place_in (λ c. bytes_eq c.name name.now) (map choices self.now) }
     {
         self.names.get(&SourceText::borrowed(name)).copied()

@@ -72,7 +72,7 @@ impl<'a> EnumMembers<'a> {
     }
 
     /// The place of the first member of this name.
-    pub fn of_name(&self, name: &[u8]) -> Option<usize>
+    pub fn of_name(&self, name: &str) -> Option<usize>
         ensures { result ≡ place_in (λ m. bytes_eq m name.now) (map (λ m. m.0) self.now) }
     {
         self.names.get(&SourceText::borrowed(name)).copied()

@@ -59,14 +59,14 @@ impl<'a> Names<'a> {
     }
 
     /// The first place of a name.
-    pub fn place_of(&self, name: &[u8]) -> Option<usize>
+    pub fn place_of(&self, name: &str) -> Option<usize>
         ensures { result ≡ place_in (λ k. bytes_eq k name.now) self.now }
     {
         self.places.get(&SourceText::borrowed(name)).copied()
     }
 
     /// Whether this name is one of them.
-    pub fn contains(&self, name: &[u8]) -> bool
+    pub fn contains(&self, name: &str) -> bool
         ensures { result ≡ list_any (λ k. bytes_eq k name.now) self.now }
     {
         self.place_of(name).is_some()

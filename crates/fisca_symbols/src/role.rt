@@ -1,13 +1,14 @@
 //! Roles of groups.
 
-ghost use Rattle.std.specs.Prelude.{◌≡◌, ℕ, List, Some, None, IfOk, OnOk, option_map, if◌then◌else◌};
+ghost use Rattle.std.specs.Prelude.{◌≡◌, ℕ, List, Some, None, map, IfOk, OnOk, option_map, if◌then◌else◌};
 ghost use Rattle.std.specs.Str.{bytes_eq};
-ghost use Rattle.fisca_symbols.specs.KnownRoles.{role, roles};
+ghost use Rattle.fisca_symbols.specs.KnownRoles.{role, roles, title};
 ghost use Rattle.fisca_symbols.specs.Steps.Spelling.{spelled};
 ghost use Rattle.fisca_model.specs.Tables.{most, otherwise, place_in, role_from, subrole_of, whole_role};
 ghost use Rattle.indexmap.specs.IndexMap.{get};
 
 use crate::index::note;
+use crate::names::Names;
 use crate::text::{SourceText, Spelling};
 use crate::texts::Texts;
 use fisca_model::RolePlace;
@@ -31,7 +32,7 @@ pub struct Role<'a> {
     pub subroles: Texts<'a>,
 }
 
-impl Role<'_> {
+impl<'a> Role<'a> {
     /// How many persons have it at most, where there is a limit: as many as it has subroles, or its maximum.
     pub fn most(&self) -> Option<u64>
         ensures { result ≡ most (role self.now) }
@@ -41,6 +42,16 @@ impl Role<'_> {
             self.max
         } else {
             Some(subroles.len() as u64)
+        }
+    }
+
+    /// The name that inputs give it: its plural, or its key if it has none.
+    pub fn title(&self) -> &SourceText<'a>
+        ensures { result.now ≡ title (role self.now) }
+    {
+        match &self.plural {
+            Some(plural) => plural,
+            None => &self.key,
         }
     }
 }
@@ -102,4 +113,15 @@ pub(crate) fn places_of_roles<'a>(
         note_role(alloc, &mut places, item, at, spelling)?;
     }
     Ok(places)
+}
+
+/// The names that inputs give roles.
+pub(crate) fn titles_of<'a>(alloc: Global, items: &[Role<'a>]) -> Result<Names<'a>, AllocError>
+    ensures { IfOk result (λ n. n ≡ map title (roles items.now)) }
+{
+    let mut names = Names::new(alloc);
+    for item in items {
+        names = names.with(alloc, item.title().copied(alloc)?)?;
+    }
+    Ok(names)
 }

@@ -27,14 +27,14 @@ pub struct Tables<'a> {
 
 impl<'a> Tables<'a> {
     /// The first variable of this name, and its place.
-    pub fn variable_named(&self, name: &[u8]) -> Option<(usize, &Variable<'a>)>
+    pub fn variable_named(&self, name: &str) -> Option<(usize, &Variable<'a>)>
         ensures { option_map (λ p. (p.0, variable p.1.now)) result ≡ spec.variable_named (known.tables self.now) name.now }
     {
         self.variables.of_name(name)
     }
 
     /// The place of the first member of this name of the Enum at a place.
-    pub fn member_named(&self, choices: usize, name: &[u8]) -> Option<usize>
+    pub fn member_named(&self, choices: usize, name: &str) -> Option<usize>
         ensures { result ≡ spec.member_named (known.tables self.now) choices name.now }
     {
         match self.enums.as_slice().get(choices) {
@@ -54,14 +54,14 @@ impl<'a> Tables<'a> {
     }
 
     /// The first role or subrole of the entity at a place with this key.
-    pub fn role_of_key(&self, entity: usize, key: &[u8]) -> Option<RolePlace>
+    pub fn role_of_key(&self, entity: usize, key: &str) -> Option<RolePlace>
         ensures { result ≡ spec.role_of_key (spec.roles_at (known.tables self.now) entity) key.now }
     {
         self.entities.as_slice().get(entity)?.roles.of_key(key)
     }
 
     /// The first role or subrole of the entity at a place with this constant.
-    pub fn role_of_constant(&self, entity: usize, constant: &[u8]) -> Option<RolePlace>
+    pub fn role_of_constant(&self, entity: usize, constant: &str) -> Option<RolePlace>
         ensures { result ≡ spec.role_of_constant (spec.roles_at (known.tables self.now) entity) constant.now }
     {
         self.entities
@@ -72,7 +72,7 @@ impl<'a> Tables<'a> {
     }
 
     /// The first role or subrole of the entity at a place with this key, where one person at most has it.
-    pub fn single_of_key(&self, entity: usize, key: &[u8]) -> Option<RolePlace>
+    pub fn single_of_key(&self, entity: usize, key: &str) -> Option<RolePlace>
         ensures { let roles = spec.roles_at (known.tables self.now) entity in
             result ≡ spec.if_single roles (spec.role_of_key roles key.now) }
     {

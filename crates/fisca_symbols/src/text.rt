@@ -1,10 +1,10 @@
 //! Texts of a rule set: names, and what stands in quotes.
 
-ghost use Rattle.std.specs.Prelude.{◌≡◌, IfOk};
+ghost use Rattle.std.specs.Prelude.{◌≡◌, IfOk, string_bytes};
 ghost use Rattle.fisca_symbols.specs.Steps.Spelling.{spelled};
 
 use std::alloc::{AllocError, Global};
-use std::borrow::CowSlice;
+use std::borrow::CowStr;
 use std::hash::{Hash, Hasher};
 use std::marker::Model;
 
@@ -17,37 +17,47 @@ pub(crate) enum Spelling {
     Capitals,
 }
 
-/// A text, seen as its bytes: a piece of a module, or a copy where texts side by side are joined.
+/// A text, which is UTF-8, seen as its bytes: a piece of a module, or a copy where texts side by side are joined.
 #[derive(Drop)]
 pub struct SourceText<'a> {
-    inner: CowSlice<'a, u8>,
+    inner: CowStr<'a>,
 }
 
 impl<'a> Model for SourceText<'a> {
     ghost use Rattle.std.specs.Prelude.{ℕ, List};
-    ghost use Rattle.std.specs.Cow.{cow_slice_items};
+    ghost use Rattle.std.specs.Cow.{cow_str_bytes};
 
     ghost Value = { List ℕ };
 
-    ghost view = { λ t. cow_slice_items t.inner };
+    ghost view = { λ t. cow_str_bytes t.inner };
 }
 
 impl<'a> SourceText<'a> {
     /// A piece of a module.
-    pub fn borrowed(bytes: &'a [u8]) -> SourceText<'a>
-        ensures { result ≡ bytes.now }
+    pub fn borrowed(text: &'a str) -> SourceText<'a>
+        ensures { result ≡ text.now }
     {
         SourceText {
-            inner: CowSlice::Borrowed(bytes),
+            inner: CowStr::Borrowed(text),
         }
     }
 
     /// A text of its own.
-    pub fn owned(bytes: Vec<u8>) -> SourceText<'a>
-        ensures { result ≡ bytes.items }
+    pub fn owned(text: String) -> SourceText<'a>
+        ensures { result ≡ string_bytes text }
     {
         SourceText {
-            inner: CowSlice::Owned(bytes),
+            inner: CowStr::Owned(text),
+        }
+    }
+
+    /// The text.
+    pub fn as_str(&self) -> &str
+        ensures { result.now ≡ self.now }
+    {
+        match &self.inner {
+            CowStr::Borrowed(text) => text,
+            CowStr::Owned(text) => text.as_str(),
         }
     }
 
@@ -55,10 +65,7 @@ impl<'a> SourceText<'a> {
     pub fn as_bytes(&self) -> &[u8]
         ensures { result.now ≡ self.now }
     {
-        match &self.inner {
-            CowSlice::Borrowed(bytes) => bytes,
-            CowSlice::Owned(bytes) => bytes.as_slice(),
-        }
+        self.as_str().as_bytes()
     }
 
     /// The same text once more: a piece of a module takes no memory.
@@ -66,8 +73,8 @@ impl<'a> SourceText<'a> {
         ensures { IfOk result (λ t. t ≡ self.now) }
     {
         match &self.inner {
-            CowSlice::Borrowed(bytes) => Ok(SourceText::borrowed(bytes)),
-            CowSlice::Owned(bytes) => Ok(SourceText::owned(bytes.as_slice().to_vec(alloc)?)),
+            CowStr::Borrowed(text) => Ok(SourceText::borrowed(text)),
+            CowStr::Owned(text) => Ok(SourceText::owned(String::from_str(alloc, text.as_str())?)),
         }
     }
 
@@ -81,7 +88,7 @@ impl<'a> SourceText<'a> {
     {
         match spelling {
             Spelling::Written => self.copied(alloc),
-            Spelling::Capitals => Ok(SourceText::owned(self.as_bytes().to_ascii_uppercase(alloc)?)),
+            Spelling::Capitals => Ok(SourceText::owned(self.as_str().to_ascii_uppercase(alloc)?)),
         }
     }
 }

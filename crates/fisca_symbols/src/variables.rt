@@ -47,7 +47,7 @@ impl<'a> Variables<'a> {
     }
 
     /// The place of the first variable of this name.
-    fn place_of(&self, name: &[u8]) -> Option<usize>
+    fn place_of(&self, name: &str) -> Option<usize>
         ensures { result ≡ place_in (λ v. bytes_eq v.name name.now) (map variable self.now) }
     {
         self.names.get(&SourceText::borrowed(name)).copied()
@@ -55,7 +55,7 @@ impl<'a> Variables<'a> {
 
     /// The first variable of this name, and its place.
     #[tactic(auto, using(crate::proofs::First::first_none))]
-    pub fn of_name(&self, name: &[u8]) -> Option<(usize, &Variable<'a>)>
+    pub fn of_name(&self, name: &str) -> Option<(usize, &Variable<'a>)>
         ensures { option_map (λ p. (p.0, variable p.1.now)) result ≡ first_where (λ v. bytes_eq v.name name.now) 0 (map variable self.now) }
     {
         match self.place_of(name) {

@@ -6,7 +6,6 @@ use Rattle.std.proofs.lemmas.Nat.Gcd.{IsGcd-from_mod, IsGcd-from_zero}
 use Rattle.std.specs.Int.{IsGcd}
 use Rattle.fisca_num.specs.Lowest.{IsCoprime}
 use Rattle.std.specs.Fmt.{decimal}
-use Rattle.fisca_columns.specs.Shown.{shown}
 use Rattle.fisca_inputs.specs.Entries.{key}
 use Rattle.fisca_model.specs.declared.value.Value.{Value}
 use Rattle.fisca_model.specs.declared.value.Value.TheVariants as v
@@ -305,7 +304,7 @@ nameless_fault n = test_context country persons (answer n) (λ f. codes "Lost") 
 
 -- a key, as it is told
 abbrev told : List ℕ → List ℕ
-told name = (shown name ++ codes " ") ++ ((shown (codes "person") ++ codes " ") ++ period_text january)
+told name = (name ++ codes " ") ++ ((codes "person" ++ codes " ") ++ period_text january)
 
 near_is_told : verdict_text (where_it_is seventy_one) 1 (Some (codes "near")) (within one) ((at 0, v.Number seventy) ∷ []) ≡ codes "ok near\n" ++ []
 near_is_told = rw one_above refl
@@ -324,7 +323,7 @@ other_bool_is_told : output_line (where_it_is one) exact (at 1, v.Bool false) �
 other_bool_is_told = refl
 
 other_member_is_told : output_line (where_it_is one) exact (at 2, v.Member 0)
-    ≡ (codes "  " ++ (told (codes "occupancy") ++ codes ": ")) ++ ((codes "expected " ++ (shown (codes "tenant") ++ (codes ", got " ++ shown (codes "owner")))) ++ codes "\n")
+    ≡ (codes "  " ++ (told (codes "occupancy") ++ codes ": ")) ++ ((codes "expected " ++ (codes "tenant" ++ (codes ", got " ++ codes "owner"))) ++ codes "\n")
 other_member_is_told = refl
 
 fault_is_told : output_line (where_it_is one) exact (at 3, v.Number one) ≡ (codes "  " ++ (told (codes "bare") ++ codes ": ")) ++ ((codes "ZeroDivisor" ++ (codes " " ++ told (codes "bare"))) ++ codes "\n")

@@ -48,7 +48,6 @@ fn write_fault<F: KeyFault>(
 
 /// Appends the expected value and the one that came out.
 fn write_values(
-    alloc: Global,
     tables: &Tables<'_>,
     variable: usize,
     expected: Value,
@@ -58,9 +57,9 @@ fn write_values(
     ensures { OnOk result (string_bytes line.new ≡ string_bytes line.old ++ spec.values_said (known tables.now) variable expected got) }
 {
     line.push_str("expected ")?;
-    write_value(alloc, tables, variable, expected, line)?;
+    write_value(tables, variable, expected, line)?;
     line.push_str(", got ")?;
-    write_value(alloc, tables, variable, got, line)
+    write_value(tables, variable, got, line)
 }
 
 /// Appends the beginning of the line of an output that failed.
@@ -93,7 +92,7 @@ pub(crate) fn write_outcome<F: KeyFault>(
         Outcome::Passed => Ok(()),
         Outcome::Missed(got) => {
             write_head(alloc, tables, situation, &output.0, line)?;
-            write_values(alloc, tables, output.0.variable, output.1, *got, line)?;
+            write_values(tables, output.0.variable, output.1, *got, line)?;
             line.push('\n')
         }
         Outcome::TooWide => {

@@ -9,7 +9,7 @@ use std::test::Fail;
 
 /// The text of a slice.
 fn shown<'a>(slice: &Slice<'a>) -> &'a str {
-    str::from_utf8(slice.as_bytes()).unwrap_or("?")
+    slice.as_str()
 }
 
 /// Writes a name and its line.

@@ -1,9 +1,16 @@
 -- What texts in quotes say.
-use Rattle.std.specs.Prelude.{ℕ, zero, suc, ◌-◌, List, [], ◌∷◌, ◌++◌, drop, take, length, ◌&&◌, ◌==◌, if◌then◌else◌, Option, Some, None}
+use Rattle.std.specs.Prelude.{◌≡◌, ℕ, zero, suc, ◌-◌, List, [], ◌∷◌, ◌++◌, drop, take, length, ◌&&◌, ◌==◌, if◌then◌else◌, Option, Some, None, IsUtf8}
 use Rattle.std.specs.List.{prefix_len}
 use Rattle.fisca_ast.specs.Strings.{in_comment}
 use Rattle.fisca_ast.specs.Strings.{is_quote}
 use Rattle.fisca_ast.specs.Steps.Strings.{begins, string_len}
+
+-- the end of a text that is UTF-8, from some byte on
+pub record IsEnd (bs : List ℕ) : Type 0 where
+  pub text : List ℕ
+  pub from : ℕ
+  pub utf8 : IsUtf8 text
+  pub is : bs ≡ drop from text
 
 -- the text without so many bytes at both ends
 abbrev pub within : ℕ → List ℕ → List ℕ

@@ -1,10 +1,10 @@
 -- The steps of code behind `Groups`:
 -- The groups of an input, and which person belongs to which, in which role.
 use Rattle.std.specs.Prelude.{ℕ, suc, List, [], ◌∷◌, ◌++◌, map as list_map, length, Bool, false, ◌==◌, nat_le, slice_get, if◌then◌else◌, Option, Some, None, Result, Ok}
-use Rattle.std.specs.Option.{unwrap_or}
 use Rattle.std.specs.Str.{bytes_eq}
 use Rattle.fisca_num.specs.Results.{and_then}
 use Rattle.fisca_model.specs.declared.role_place.RolePlace.{RolePlace}
+use Rattle.fisca_symbols.specs.KnownRoles.{title}
 use Rattle.fisca_model.specs.Tables.{Role, most, place_in, subrole_of, whole_role}
 use Rattle.fisca_yaml.specs.Node.{Node, null, scalar, list, map, Items, no_items, item, Entries, no_entries, entry}
 use Rattle.fisca_groups.specs.Homes.{held_by}
@@ -20,10 +20,6 @@ use Rattle.fisca_members.specs.Sections.{Section}
 use Rattle.fisca_members.specs.Groups.{Post}
 
 -- Roles
-
--- a role is written by its plural, or by its key if it has none
-abbrev pub title : Role → List ℕ
-title r = unwrap_or r.plural r.key
 
 abbrev pub role_titles : List Role → List (List ℕ)
 role_titles = list_map title

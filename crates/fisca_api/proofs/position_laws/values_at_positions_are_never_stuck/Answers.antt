@@ -1,5 +1,5 @@
-use Rattle.fisca_commands.proofs.Fitting.{ready_at}
-use Rattle.fisca_commands.specs.Runs.{simulation_in}
+use Rattle.fisca_grid_run.proofs.Fitting.{ready_at}
+use Rattle.fisca_grid_run.specs.Runs.{simulation_in}
 use Rattle.fisca_api.proofs.position_laws.values_at_positions_are_never_stuck.Goals as goal
 
 pub returns-clause-ready : goal.returns-clause-ready

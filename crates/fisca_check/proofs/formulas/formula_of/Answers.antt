@@ -8,13 +8,13 @@ use Rattle.fisca_check.specs.Formulas.{assigned, formula_view, scope}
 use Rattle.fisca_check.proofs.Behind.{formula_next, tells_same}
 use Rattle.fisca_check.proofs.formulas.formula_of.Goals as goal
 
-pub returns : goal.returns
-returns c =
+pub returns-clause-formula : goal.returns-clause-formula
+returns-clause-formula c =
     let l = c.loop-place in
     let items = c.args.locals.now in
     let all : l.place ≡ length items = omega (arith, c.loop-place-test.false, l.auto.place-end) in
     let after : drop l.place items ≡ [] = drop_of_length-le items (omega (arith, all)) in
-    tells_same formula_view _ _ _ c.made_of.ensures (l.invariant ∙ (λ i. formula_from (all i) (scope l.scope) c.args.value_type (map assigned (after i)) (tree c.args.returned.now)))
+    tells_same formula_view _ _ _ c.made_of.ensures.formula (l.invariant.0 ∙ (λ i. formula_from (all i) (scope l.scope) c.args.value_type (map assigned (after i)) (tree c.args.returned.now)))
 
 pub loop-place-preserved : goal.loop-place-preserved
 loop-place-preserved c =
@@ -24,7 +24,10 @@ loop-place-preserved c =
     let inside : i < length items = c.loop-place-test.true in
     let cut : drop i items ≡ get_or items i item ∷ drop (suc i) items = drop-cons items i item inside in
     let same : get_or items i item ≡ item = sym c.index-locals-place.is in
-    let whole = c.loop-place.invariant
-    ∙ ap (λ (ls : List Assignment). formula_from i (scope c.loop-place.scope) c.args.value_type (map assigned ls) (tree c.args.returned.now)) (cut ∙ ap (λ (a : Assignment). a ∷ drop (suc i) items) same) in
-    formula_next _ i (scope c.loop-place.scope) (scope c.in_ok-scope.scope) c.args.value_type (assigned item) (map assigned (drop (suc i) items)) (tree c.args.returned.now) whole c.in_ok-scope.ensures
-    ∙ ap (λ k. formula_from (i + 1) (scope c.in_ok-scope.scope) c.args.value_type (map assigned (drop k items)) (tree c.args.returned.now)) (sym (add-one i))
+    let whole = c.loop-place.invariant.0
+    ∙ ap (λ (ls : List Assignment). formula_from i (scope c.loop-place.scope) c.args.value_type (map assigned ls) (tree c.args.returned.now)) (cut ∙ ap (λ (a : Assignment). a ∷ drop (suc i) items) same) in (
+      formula_next _ i (scope c.loop-place.scope) (scope c.in_ok-scope.scope) c.args.value_type (assigned item) (map assigned (drop (suc i) items)) (tree c.args.returned.now) whole c.in_ok-scope.ensures.scope
+          ∙ ap (λ k. formula_from (i + 1) (scope c.in_ok-scope.scope) c.args.value_type (map assigned (drop k items)) (tree c.args.returned.now)) (sym (add-one i)),
+      c.in_ok-scope.ensures.same ∙ c.loop-place.invariant.1,
+      c.in_ok-scope.ensures.same ∙ c.loop-place.invariant.2 ∙ sym c.in_ok-scope.ensures.tables,
+    )

@@ -7,4 +7,6 @@ use Rattle.fisca_check.specs.Views.{names}
 use Rattle.fisca_check.proofs.typing.+typing.Given as goal
 
 abbrev pub invariant-all_given-loop-item : goal.invariant-all_given-loop-item
-invariant-all_given-loop-item l = all_given l.found.items ≡ map (given_of (names l.names)) (map argument_view (take l.item-index l.items))
+invariant-all_given-loop-item l =
+    (all_given l.found.items ≡ map (given_of (names l.names)) (map argument_view (take l.item-index l.items)))
+    × (l.rows ≡ l.initial.rows)

@@ -3,7 +3,8 @@ use Rattle.std.proofs.lemmas.Result.{err_from_is_err_and}
 use Rattle.std.specs.Io.KnownBytes.{Keeps}
 use Rattle.fisca_grid.specs.Grid.{size_of}
 use Rattle.fisca_rule_files.specs.declared.refusal.Refusal.TheVariants.{Memory}
-use Rattle.fisca_commands.proofs.Ranged.{axes_answered, axes_told, beyond_at, header_refused}
+use Rattle.fisca_commands.proofs.Ranged.{axes_answered, axes_told, header_refused}
+use Rattle.fisca_grid_run.proofs.Ranged.{beyond_at}
 use Rattle.fisca_commands.specs.AxesRun.{FilteredAxes}
 use Rattle.fisca_commands.proofs.axes.axes_words.Goals as goal
 

@@ -4,7 +4,7 @@ use Rattle.std.specs.Io.KnownBytes.{Keeps}
 use Rattle.fisca_columns.specs.Views.{calc}
 use Rattle.fisca_writer.specs.Steps.Sink.{one_more}
 use Rattle.fisca_commands.specs.Calc.{Calculation}
-use Rattle.fisca_commands.specs.Forms.{IsHeaderRefused}
+use Rattle.fisca_grid_run.specs.Forms.{IsHeaderRefused}
 use Rattle.fisca_rule_files.specs.Refusal.{is_write}
 use Rattle.fisca_rule_files.specs.declared.refusal.Refusal.TheVariants.{Memory}
 use Rattle.fisca_commands.proofs.Calculated.{ready}

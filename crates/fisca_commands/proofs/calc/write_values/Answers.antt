@@ -4,7 +4,7 @@ use Rattle.fisca_evaluator.specs.Evaluators.{simulation_of}
 use Rattle.fisca_situations.specs.Situations.{Situation}
 use Rattle.fisca_simulation.specs.Simulations.{Simulation}
 use Rattle.fisca_commands.specs.Calc.{Calculation, IsColumnsRun, IsKeyTold}
-use Rattle.fisca_commands.specs.Forms.{shown_form}
+use Rattle.fisca_grid_run.specs.Forms.{shown_form}
 use Rattle.fisca_commands.proofs.Calculated.{columns_run, ended, out_of_memory, without_value}
 use Rattle.fisca_commands.proofs.calc.write_values.Goals as goal
 

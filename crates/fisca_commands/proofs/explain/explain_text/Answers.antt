@@ -7,7 +7,8 @@ use Rattle.fisca_yaml.specs.Views.{node}
 use Rattle.fisca_commands.specs.Calc.{Calculation}
 use Rattle.fisca_rule_files.specs.Refusal.{is_write}
 use Rattle.fisca_commands.proofs.Calculated.{ready}
-use Rattle.fisca_commands.proofs.Telling.{text_unwritten, yaml_unwritten}
+use Rattle.fisca_commands.proofs.Telling.{text_unwritten}
+use Rattle.fisca_grid_run.proofs.Telling.{yaml_unwritten}
 use Rattle.fisca_commands.proofs.explain.explain_text.Goals as goal
 
 pub returns-in_err-file-clause-answer : goal.returns-in_err-file-clause-answer

@@ -6,7 +6,7 @@ use Rattle.fisca_rules.specs.Views.{rule_set}
 use Rattle.fisca_writer.specs.Steps.Sink.{one_more}
 use Rattle.fisca_rule_files.specs.Refusal.{is_write}
 use Rattle.fisca_rule_files.specs.declared.refusal.Refusal.TheVariants.{Memory}
-use Rattle.fisca_commands.specs.Forms.{IsHeaderRefused}
+use Rattle.fisca_grid_run.specs.Forms.{IsHeaderRefused}
 use Rattle.fisca_commands.specs.Listed.{AreListed}
 use Rattle.fisca_commands.proofs.Listed.{listed_in}
 use Rattle.fisca_commands.proofs.list.list_rules.Goals as goal

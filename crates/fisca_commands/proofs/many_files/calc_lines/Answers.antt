@@ -2,7 +2,7 @@ use Rattle.std.proofs.Common.{inl, inr, refl, subst}
 use Rattle.std.proofs.KnownBytes.{Appends-nil}
 use Rattle.fisca_forms.specs.LineForms.{Form}
 use Rattle.fisca_commands.specs.CalcLines.{AreWorkedOut, Sink, Streams, streams_of}
-use Rattle.fisca_commands.specs.Forms.{shown_form}
+use Rattle.fisca_grid_run.specs.Forms.{shown_form}
 use Rattle.fisca_commands.proofs.LinesReady.{files_ready}
 use Rattle.fisca_commands.proofs.many_files.calc_lines.Goals as goal
 

@@ -1,7 +1,7 @@
 use Rattle.std.proofs.Common.{◌∙◌, Err, ap}
 use Rattle.std.proofs.lemmas.Result.{err_from_is_err_and}
 use Rattle.fisca_columns.specs.Views.{calc}
-use Rattle.fisca_commands.specs.Forms.{shown_form}
+use Rattle.fisca_grid_run.specs.Forms.{shown_form}
 use Rattle.fisca_commands.proofs.LineWritten.{text_calculated, text_refused}
 use Rattle.fisca_commands.proofs.many_files.calc_text.Goals as goal
 

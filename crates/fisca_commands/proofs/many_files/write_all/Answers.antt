@@ -1,6 +1,6 @@
 use Rattle.std.proofs.Common.{◌<◌, ◌+◌, ◌^◌, arith}
 use Rattle.fisca_commands.specs.CalcLines.{streams_of}
-use Rattle.fisca_commands.specs.Forms.{shown_form}
+use Rattle.fisca_grid_run.specs.Forms.{shown_form}
 use Rattle.fisca_commands.proofs.LinesPassed.{exhausted, so_far_more, so_far_none, stopped}
 use Rattle.fisca_commands.proofs.many_files.write_all.Goals as goal
 

@@ -1,6 +1,6 @@
 use Rattle.std.proofs.Common.{◌≡◌}
 use Rattle.fisca_commands.specs.CalcLines.{streams_of}
-use Rattle.fisca_commands.specs.Forms.{shown_form}
+use Rattle.fisca_grid_run.specs.Forms.{shown_form}
 use Rattle.fisca_commands.proofs.LinesPassed.{AreSoFar}
 use Rattle.fisca_commands.proofs.many_files.write_all.Given as goal
 

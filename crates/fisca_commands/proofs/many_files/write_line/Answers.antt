@@ -1,7 +1,7 @@
 use Rattle.std.proofs.Common.{◌<◌, ◌≤◌, ◌^◌, inl, inr, length, refl, arith}
 use Rattle.fisca_commands.specs.CalcLines.{line_told}
 use Rattle.std.specs.Prelude.{codes}
-use Rattle.fisca_commands.specs.Forms.{shown_form}
+use Rattle.fisca_grid_run.specs.Forms.{shown_form}
 use Rattle.fisca_commands.proofs.LineWritten.{done_told}
 use Rattle.fisca_commands.proofs.many_files.write_line.Goals as goal
 

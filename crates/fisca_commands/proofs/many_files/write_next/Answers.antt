@@ -1,6 +1,6 @@
 use Rattle.std.proofs.Common.{List, ℕ, Ok, Err, arith, subst}
 use Rattle.fisca_commands.specs.CalcLines.{IsNextLine, streams_of}
-use Rattle.fisca_commands.specs.Forms.{shown_form}
+use Rattle.fisca_grid_run.specs.Forms.{shown_form}
 use Rattle.fisca_commands.specs.Steps.CalcLines.{IsLineDone}
 use Rattle.fisca_commands.proofs.LineWritten.{next_lacking, next_line, next_unread}
 use Rattle.fisca_commands.proofs.many_files.write_next.Goals as goal

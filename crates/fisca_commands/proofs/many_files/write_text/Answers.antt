@@ -1,5 +1,5 @@
 use Rattle.std.proofs.Common.{sym, ◌∙◌}
-use Rattle.fisca_commands.specs.Forms.{shown_form}
+use Rattle.fisca_grid_run.specs.Forms.{shown_form}
 use Rattle.fisca_commands.proofs.LineWritten.{done_refused, done_stopped, done_whole}
 use Rattle.fisca_commands.proofs.many_files.write_text.Goals as goal
 

@@ -3,7 +3,7 @@ use Rattle.std.proofs.KnownBytes.{Keeps-refl}
 use Rattle.fisca_rule_files.specs.Refusal.{of_file, paths_of}
 use Rattle.fisca_writer.specs.Steps.Sink.{one_more}
 use Rattle.fisca_commands.proofs.Endings.{of_tests}
-use Rattle.fisca_commands.proofs.Telling.{files_unwritten}
+use Rattle.fisca_grid_run.proofs.Telling.{files_unwritten}
 use Rattle.fisca_commands.proofs.Tested.{ready}
 use Rattle.fisca_commands.proofs.many_tests.run_tests.Goals as goal
 

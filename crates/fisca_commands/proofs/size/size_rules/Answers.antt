@@ -5,7 +5,7 @@ use Rattle.fisca_writer.specs.Run.{AppendsPart}
 use Rattle.fisca_writer.specs.Steps.Sink.{one_more}
 use Rattle.fisca_rule_files.specs.Refusal.{is_write}
 use Rattle.fisca_run.specs.Counted.{size_line}
-use Rattle.fisca_commands.proofs.Telling.{begin_unwritten}
+use Rattle.fisca_grid_run.proofs.Telling.{begin_unwritten}
 use Rattle.fisca_commands.proofs.size.size_rules.Goals as goal
 
 pub returns-in_err-rules-clause-answer : goal.returns-in_err-rules-clause-answer

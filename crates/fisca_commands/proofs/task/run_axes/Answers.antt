@@ -1,6 +1,6 @@
 use Rattle.std.proofs.Common.{[], false}
 use Rattle.fisca_rule_files.specs.Refusal.{of_file}
-use Rattle.fisca_commands.specs.Forms.{is_table}
+use Rattle.fisca_grid_run.specs.Forms.{is_table}
 use Rattle.fisca_commands.proofs.Endings.{counted}
 use Rattle.fisca_commands.proofs.task.run_axes.Goals as goal
 

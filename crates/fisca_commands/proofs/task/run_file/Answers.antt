@@ -4,11 +4,11 @@ use Rattle.fisca_writer.specs.declared.fault.RunEnd.{RunEnd}
 use Rattle.fisca_evaluator.specs.declared.counts.Counts.{Counts}
 use Rattle.fisca_rule_files.specs.Refusal.{is_write, paths_of}
 use Rattle.fisca_rule_files.specs.declared.refusal.Refusal.{Refusal}
-use Rattle.fisca_commands.specs.Ends.{end_of}
+use Rattle.fisca_grid_run.specs.Ends.{end_of}
 use Rattle.fisca_commands.proofs.Endings.{counted}
 use Rattle.fisca_commands.proofs.Ranged.{lacking_of}
-use Rattle.fisca_commands.specs.Forms.{is_table}
-use Rattle.fisca_commands.specs.Run.{IsRunAnswer}
+use Rattle.fisca_grid_run.specs.Forms.{is_table}
+use Rattle.fisca_grid_run.specs.Run.{IsRunAnswer}
 use Rattle.fisca_commands.proofs.task.run_file.Goals as goal
 
 written_alike : (answer : Result (RunEnd × Counts) Refusal) → is_write answer ≡ is_write (end_of answer)

@@ -6,7 +6,7 @@ use Rattle.fisca_rule_files.specs.Refusal.{is_write}
 use Rattle.fisca_yaml.specs.Node.{Node}
 use Rattle.fisca_yaml.specs.Views.{node}
 use Rattle.fisca_commands.specs.Test.{IsTreeTested}
-use Rattle.fisca_commands.proofs.Telling.{yaml_unwritten}
+use Rattle.fisca_grid_run.proofs.Telling.{yaml_unwritten}
 use Rattle.fisca_commands.proofs.TestsPassed.{tree_tested}
 use Rattle.fisca_commands.proofs.test.test_text.Goals as goal
 

@@ -22,7 +22,7 @@ returns-in-Ok c =
     let written : items_said c.args.declared.now place xs ≡ Ok (types, said) =
     subst (λ ls. items_said c.args.declared.now place (map item ls) ≡ Ok (types, said)) c.as_slice.ensures.value c.in_ok-types.ensures in
     let made : variable_of place line name types said xs ≡ Ok (both_written c.in-Ok.made) =
-    subst (λ n. variable_of place line n types said xs ≡ Ok (both_written c.in-Ok.made)) (c.borrowed-named.ensures ∙ c.as_bytes.ensures) c.in-Ok.ensures in
+    subst (λ n. variable_of place line n types said xs ≡ Ok (both_written c.in-Ok.made)) (c.borrowed-named.ensures ∙ c.as_str.ensures) c.in-Ok.ensures in
     variable_said c.args.declared.now place line name xs types said written ∙ ap (λ r. told_at place line r) made
 
 pub returns-in-Err : goal.returns-in-Err
@@ -37,7 +37,7 @@ returns-in-Err c = λ known.
     let written : items_said c.args.declared.now place xs ≡ Ok (types, said) =
     subst (λ ls. items_said c.args.declared.now place (map item ls) ≡ Ok (types, said)) c.as_slice.ensures.value c.in_ok-types.ensures in
     let refused : variable_of place line name types said xs ≡ Err c.in-Err.kind =
-    subst (λ n. variable_of place line n types said xs ≡ Err c.in-Err.kind) (c.borrowed-named.ensures ∙ c.as_bytes.ensures) (c.in-Err.ensures kind_known) in
+    subst (λ n. variable_of place line n types said xs ≡ Err c.in-Err.kind) (c.borrowed-named.ensures ∙ c.as_str.ensures) (c.in-Err.ensures kind_known) in
     variable_said c.args.declared.now place line name xs types said written
     ∙ ap (λ r. told_at place line r) refused
     ∙ ap (λ (fault : BuildFault). Err fault) (sym (c.fault_at.ensures.told kind_known))

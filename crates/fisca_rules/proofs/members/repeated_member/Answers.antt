@@ -16,10 +16,10 @@ loop-member-preserved c =
     let new = contains bytes_eq c.comes_again.new.names in
     let whole = repeated_member [] members in
     let cut = left members i c.member-item.result c.loop-member-test.true c.member-item.is in
-    let named = c.borrowed.ensures ∙ c.as_bytes-name.ensures in
+    let named = c.borrowed.ensures ∙ c.as_str-name.ensures in
     member_new has new whole c.member-item.result (drop (i + 1) members) c.eq.result c.in_ok-comes_again.field-0
     (subst (λ (ms : List Member). Reached has whole ms) cut c.loop-member.invariant)
-    (c.eq.ensures ∙ (λ j. bytes_eq (c.as_bytes-name.ensures j) (c.as_slice.ensures j)))
+    (c.eq.ensures ∙ (λ j. bytes_eq (c.as_bytes.ensures j) (c.as_slice.ensures j)))
     c.if-eq.false
     (c.in_ok-comes_again.ensures.told ∙ ap has named)
     c.if-branch.false

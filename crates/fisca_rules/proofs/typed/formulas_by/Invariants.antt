@@ -9,5 +9,6 @@ use Rattle.fisca_symbols.specs.Known.{tables as known}
 
 abbrev pub invariant-loop-line : goal.invariant-loop-line
 invariant-loop-line l =
-    all_behind (dated_of (known l.tables) l.declaration.module l.variable.entity l.value_type) (map dated l.made.items) (formulas (drop l.line-index l.line-items))
-    ≡ all_behind (dated_of (known l.tables) l.declaration.module l.variable.entity l.value_type) [] (map formula_view l.declaration.formulas)
+    (all_behind (dated_of (known l.tables) l.declaration.module l.variable.entity l.value_type) (map dated l.made.items) (formulas (drop l.line-index l.line-items))
+    ≡ all_behind (dated_of (known l.tables) l.declaration.module l.variable.entity l.value_type) [] (map formula_view l.declaration.formulas))
+    × (l.rows ≡ l.initial.rows)

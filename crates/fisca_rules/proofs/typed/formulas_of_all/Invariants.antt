@@ -11,6 +11,7 @@ use Rattle.fisca_declarations.specs.VariableForms.{written}
 -- what is made so far and what is left make the whole
 abbrev pub invariant-loop-variable : goal.invariant-loop-variable
 invariant-loop-variable l =
-    all_behind (formulas_of (known l.tables)) (map (λ gs. map dated gs.items.items) l.made.items)
+    (all_behind (formulas_of (known l.tables)) (map (λ gs. map dated gs.items.items) l.made.items)
     (zip (iter_rest (zip_first l.variable-iterator)) (map written (iter_rest (zip_second l.variable-iterator))))
-    ≡ all_behind (formulas_of (known l.tables)) [] (zip l.tables.variables (map written l.declarations))
+    ≡ all_behind (formulas_of (known l.tables)) [] (zip l.tables.variables (map written l.declarations)))
+    × (l.rows ≡ known l.tables)

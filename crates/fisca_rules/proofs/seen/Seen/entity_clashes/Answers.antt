@@ -13,7 +13,7 @@ use Rattle.fisca_rules.proofs.seen.Seen.entity_clashes.Goals as goal
 pub returns-then-branch : goal.returns-then-branch
 returns-then-branch c =
     let a : Assigned = assigned c.args.written.now in
-    let first = c.borrowed.ensures ∙ c.as_bytes-constant.ensures in
+    let first = c.borrowed.ensures ∙ c.as_str-constant.ensures in
     let others = c.in_ok-names.ensures.names in
     entity_named_again c.args.self.now _ a _ _ _ c.in_ok-entity_comes_again.ensures (λ i. first i ∷ others i) c.if-branch.true
 
@@ -28,14 +28,14 @@ returns c =
     let a : Assigned = assigned c.args.written.now in
     let old : Seen = c.args.self.now in
     let new : Seen = record { names = c.entity_comes_again.new.names; titles = c.some_is_variable.new.titles; variables = old.variables } in
-    let constant = c.as_bytes-constant.ensures in
+    let constant = c.as_str-constant.ensures in
     let first = c.borrowed.ensures ∙ constant in
     let others = c.in_ok-names.ensures.names in
     let behind = c.in_ok-names.ensures.roles in
     let roles = c.as_slice.ensures ∙ behind in
     let roles_2 = c.as_slice-2.ensures ∙ behind in
     IfOk-weaker c.some_is_variable.result
-    (NotesTitles (has_variable old) (has_title old) (has_title new) (all_titles_within c.as_bytes-constant.result.now c.as_slice-2.result.now)) (Notes old new (entity a))
+    (NotesTitles (has_variable old) (has_title old) (has_title new) (all_titles_within c.as_str-constant.result.now c.as_slice-2.result.now)) (Notes old new (entity a))
     (λ b n. entity_notes old new a b
     (subst (λ d. NotesNames (has_name old) (has_name new) (names_of (entity a)) d) c.if-branch.false
     (subst (λ (ts : List (List ℕ)). NotesNames (has_name old) (has_name new) ts c.in_ok-entity_comes_again.field-0) (λ i. first i ∷ others i) c.in_ok-entity_comes_again.ensures))

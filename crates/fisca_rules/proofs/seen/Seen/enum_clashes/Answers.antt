@@ -13,7 +13,7 @@ pub returns-then-branch : goal.returns-then-branch
 returns-then-branch c =
     let class = c.args.class.now in
     let old = c.args.self.now in
-    let named = c.borrowed.ensures ∙ c.as_bytes.ensures in
+    let named = c.borrowed.ensures ∙ c.as_str.ensures in
     choices_clash old _ class.line class.name class.members.items
     (sym c.if-branch.true ∙ c.in_ok-comes_again.ensures.told ∙ ap (has_name old) named)
 
@@ -23,7 +23,7 @@ returns c =
     let members = class.members.items in
     let old : Seen = c.args.self.now in
     let new : Seen = record { names = c.comes_again.new.names; titles = old.titles; variables = old.variables } in
-    let named = c.borrowed.ensures ∙ c.as_bytes.ensures in
+    let named = c.borrowed.ensures ∙ c.as_str.ensures in
     IfOk-weaker c.repeated_member.result (λ line. line ≡ repeated_member [] c.as_slice.result.now) (TellsOne old new (choices class.line class.name members))
     (λ o same. choices_tell old new class.line class.name members o
     (sym c.if-branch.false ∙ c.in_ok-comes_again.ensures.told ∙ ap (has_name old) named)

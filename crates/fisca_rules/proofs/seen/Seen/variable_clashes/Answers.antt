@@ -17,7 +17,7 @@ pub returns-then-branch : goal.returns-then-branch
 returns-then-branch c =
     let class = c.args.class.now in
     let old : Seen = c.args.self.now in
-    let named = c.borrowed.ensures ∙ c.as_bytes-name.ensures in
+    let named = c.borrowed.ensures ∙ c.as_str-name.ensures in
     clash_of_names old _ (variable class.line class.name (map item class.items.items))
     (sym c.if-branch.true ∙ c.in_ok-comes_again.ensures.told ∙ ap (has_name old) named ∙ sym (or_none (has_name old class.name)))
 
@@ -26,7 +26,7 @@ returns-in_default c =
     let class = c.args.class.now in
     let old : Seen = c.args.self.now in
     let new : Seen = record { names = c.comes_again.new.names; titles = old.titles; variables = old.variables } in
-    let named = c.borrowed.ensures ∙ c.as_bytes-name.ensures in
+    let named = c.borrowed.ensures ∙ c.as_str-name.ensures in
     variable_notes old new class.line class.name (map item class.items.items) None false
     (c.in_default.ensures ∙ ap (λ (xs : List ClassLine). entity_named (map item xs)) c.as_slice.ensures.value)
     (sym c.if-branch.false ∙ c.in_ok-comes_again.ensures.told ∙ ap (has_name old) named)
@@ -38,8 +38,8 @@ returns-then-contains c =
     let class = c.args.class.now in
     let old : Seen = c.args.self.now in
     let mid : Seen = record { names = c.comes_again.new.names; titles = old.titles; variables = old.variables } in
-    let named = c.borrowed.ensures ∙ c.as_bytes-name.ensures in
-    let named_2 = c.borrowed-2.ensures ∙ c.as_bytes-name.ensures in
+    let named = c.borrowed.ensures ∙ c.as_str-name.ensures in
+    let named_2 = c.borrowed-2.ensures ∙ c.as_str-name.ensures in
     variable_met_here old mid _ class.line class.name c.in-Some.constant (map item class.items.items)
     (c.in-Some.ensures ∙ ap (λ (xs : List ClassLine). entity_named (map item xs)) c.as_slice.ensures.value)
     (sym c.if-branch.false ∙ c.in_ok-comes_again.ensures.told ∙ ap (has_name old) named)
@@ -51,8 +51,8 @@ returns c =
     let class = c.args.class.now in
     let old : Seen = c.args.self.now in
     let new : Seen = record { names = c.comes_again.new.names; titles = old.titles; variables = c.note_within.new.names } in
-    let named = c.borrowed.ensures ∙ c.as_bytes-name.ensures in
-    let named_2 = c.borrowed-2.ensures ∙ c.as_bytes-name.ensures in
+    let named = c.borrowed.ensures ∙ c.as_str-name.ensures in
+    let named_2 = c.borrowed-2.ensures ∙ c.as_str-name.ensures in
     let here : Within = record { constant = c.in-Some.constant; name = class.name } in
     variable_notes old new class.line class.name (map item class.items.items) (Some c.in-Some.constant) false
     (c.in-Some.ensures ∙ ap (λ (xs : List ClassLine). entity_named (map item xs)) c.as_slice.ensures.value)

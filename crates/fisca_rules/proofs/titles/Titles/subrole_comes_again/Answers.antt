@@ -13,7 +13,7 @@ returns-then-branch c =
     let cut = left keys i c.key-item.result c.loop-key-test.true c.key-item.is in
     c.loop-key.invariant new true
     (subst (λ ks. Notes c.loop-key.self new (map subrole ks) true) (sym cut)
-    (notes_here c.loop-key.self new new _ _ _ _ c.in_ok-key_comes_again.ensures (ap subrole c.as_bytes.ensures) c.if-branch.true))
+    (notes_here c.loop-key.self new new _ _ _ _ c.in_ok-key_comes_again.ensures (ap subrole c.as_str.ensures) c.if-branch.true))
 
 pub loop-key-preserved : goal.loop-key-preserved
 loop-key-preserved c new b n =
@@ -22,4 +22,4 @@ loop-key-preserved c new b n =
     let cut = left keys i c.key-item.result c.loop-key-test.true c.key-item.is in
     c.loop-key.invariant new b
     (subst (λ ks. Notes c.loop-key.self new (map subrole ks) b) (sym cut)
-    (notes_next c.loop-key.self c.key_comes_again.new.self new _ _ _ b _ c.in_ok-key_comes_again.ensures (ap subrole c.as_bytes.ensures) c.if-branch.false n))
+    (notes_next c.loop-key.self c.key_comes_again.new.self new _ _ _ b _ c.in_ok-key_comes_again.ensures (ap subrole c.as_str.ensures) c.if-branch.false n))

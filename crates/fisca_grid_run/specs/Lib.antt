@@ -1,0 +1,10 @@
+pub mod Begun
+pub mod Ends
+pub mod Forms
+pub mod Headline
+pub mod Kept
+pub mod Remembered
+pub mod Run
+pub mod Runs
+pub mod Unanswered
+pub mod Yaml

@@ -1,0 +1,12 @@
+pub mod Compared
+pub mod Fitting
+pub mod Laws
+pub mod Level
+pub mod Lifted
+pub mod Moved
+pub mod Multiplied
+pub mod Operated
+pub mod Ordered
+pub mod Places
+pub mod Steps
+pub mod Terms
